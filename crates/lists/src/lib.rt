@@ -1,0 +1,1 @@
+// Laws on lists that every crate uses: definitions only, in specs/.

@@ -1,0 +1,230 @@
+-- A law for each case of each definition of `Tags`: callers cite these, and never unfold a definition.
+-- A law has the form of what a return asks, so that `search` applies it and finds the facts on the way by itself.
+-- Assumes nothing.
+use Prim.Native.Nat.{ℕ, zero, suc, _+_, _-_, _<_, _≤_, zero-le}
+use mathlib.Core.Path.{_≡_, refl, sym, ap, _∙_}
+use mathlib.Core.Bool.{Bool, true, false, not, cond, _&&_}
+use lib.Dec.{leb}
+use lib.IntN.{ℤ, pos, negsuc, negℤ, subℕ, _+ℤ_, _-ℤ_, +ℤ-assoc}
+use native.Mathlib.Nat.{le-of-lt}
+use native.Mathlib.Omega.{arith}
+use borrow.Author.Tests.{lt-ltb, le-ltb, le-leb, lt-leb, eq-eqb, ne-eqb, leb-true}
+use Rattle.lists.specs.Tests.{flag, flag-no, flag-yes, and-left, and-right}
+use Rattle.lists.specs.Walk.{Result, done, refused}
+use Rattle.refusals.specs.declared.Refusal.{Refusal}
+use Rattle.refusals.specs.declared.Refusal.the-variants.{ArgumentTag, MappedTag, StateRule}
+use Rattle.tags.specs.Tags.{Tag, Clock, Answer, Shifted, at, maxOffset, maxMicrostep, within, withinClock, sameTag, delayed, shifted, settled, settledTag, heldBack, heldBackTag, checked, toLocal, toGlobal, globalToLocal, localToGlobal}
+use Rattle.tags.specs.Views.{ofGlobal, ofLocal, ofFields, ofClock, answered, placeOf, placeAt, settledAt, heldBackAt, placedAt}
+use Rattle.tags.specs.declared.ScopeClock.{ScopeClock}
+use Rattle.tags.specs.declared.Fields.{Fields}
+use Rattle.tags.specs.declared.Settled.{Settled}
+use Rattle.tags.specs.declared.Settled.the-variants as S
+use Rattle.tags.specs.declared.Place.{Place}
+use Rattle.tags.specs.declared.Place.the-variants.{Below, At}
+
+-- ---- limits
+
+pub within-offset : (t : Tag) → within t ≡ true → t .offset ≤ maxOffset
+unfolding within
+within-offset t e = leb-true _ _ (and-left _ _ e)
+
+pub within-microstep : (t : Tag) → within t ≡ true → t .microstep ≤ maxMicrostep
+unfolding within
+within-microstep t e = leb-true _ _ (and-right (leb (t .offset) maxOffset) _ e)
+
+pub within-both : (t : Tag) → t .offset ≤ maxOffset → t .microstep ≤ maxMicrostep → within t ≡ true
+unfolding within
+within-both t h k = simp (le-leb _ _ h, le-leb _ _ k)
+
+pub within-not-offset : (t : Tag) → maxOffset < t .offset → within t ≡ false
+unfolding within
+within-not-offset t h = simp (lt-leb _ _ h)
+
+pub within-not-microstep : (t : Tag) → t .offset ≤ maxOffset → maxMicrostep < t .microstep → within t ≡ false
+unfolding within
+within-not-microstep t h k = simp (le-leb _ _ h, lt-leb _ _ k)
+
+pub clock-G : (c : Clock) → withinClock c ≡ true → within (c .G) ≡ true
+unfolding withinClock
+clock-G c e = and-left _ _ e
+
+pub clock-L : (c : Clock) → withinClock c ≡ true → within (c .L) ≡ true
+unfolding withinClock
+clock-L c e = and-left _ _ (and-right (within (c .G)) _ e)
+
+pub clock-S : (c : Clock) → withinClock c ≡ true → within (c .S) ≡ true
+unfolding withinClock
+clock-S c e = and-right (within (c .L)) _ (and-right (within (c .G)) _ e)
+
+pub own-L : (s : ScopeClock) {r : Bool} → r ≡ withinClock (ofClock s) → not r ≡ false → within (ofLocal (s .«activation_local»)) ≡ true
+own-L s p q = clock-L (ofClock s) (flag-yes p q)
+
+pub own-G : (s : ScopeClock) {r : Bool} → r ≡ withinClock (ofClock s) → not r ≡ false → within (ofGlobal (s .«activation_global»)) ≡ true
+own-G s p q = clock-G (ofClock s) (flag-yes p q)
+
+pub clock-all : (c : Clock) {r : Bool} → within (c .G) ≡ true → within (c .L) ≡ true → r ≡ within (c .S) → r ≡ withinClock c
+unfolding withinClock
+clock-all c g l s = simp (g, l) s
+
+pub clock-not-L : (c : Clock) → within (c .G) ≡ true → within (c .L) ≡ false → false ≡ withinClock c
+unfolding withinClock
+clock-not-L c g l = simp (g, l)
+
+pub clock-not-G : (c : Clock) → within (c .G) ≡ false → false ≡ withinClock c
+unfolding withinClock
+clock-not-G c g = simp g
+
+pub ruleset clocks = (clock-all, clock-not-L, clock-not-G, flag)
+
+pub level-yes : {b r : Bool} (a : Bool) → r ≡ b → r ≡ true → a ≡ (b && a)
+level-yes a p q = rw (flag p q)
+
+pub level-no : {b r : Bool} (a : Bool) → r ≡ b → r ≡ false → false ≡ (b && a)
+level-no a p q = rw (flag p q)
+
+pub ruleset levels = (level-yes, level-no)
+
+-- ---- the delay
+
+pub delayed-six : (t : Tag) → within t ≡ false → refused ArgumentTag ≡ delayed t
+unfolding delayed
+delayed-six t w = simp w
+
+pub delayed-more : (t : Tag) {a : Answer} → within t ≡ true → t .microstep < maxMicrostep → a ≡ done (at (t .offset) (t .microstep + 1)) → a ≡ delayed t
+unfolding delayed
+delayed-more t w h e = simp (w, lt-ltb _ _ h) e
+
+pub delayed-over : (t : Tag) → within t ≡ true → maxMicrostep ≤ t .microstep → refused MappedTag ≡ delayed t
+unfolding delayed
+delayed-over t w h = simp (w, le-ltb _ _ h)
+
+pub ruleset delays = (delayed-six, delayed-more, delayed-over, flag)
+
+-- ---- an answer taken over from one scale's fields to the other type
+
+module _ {s : Settled} {a : Answer} where
+  pub answered-tag : {t : Fields} → s ≡ S.Tag t → answered s ≡ a → done (ofFields t) ≡ a
+  answered-tag e h = sym (ap answered e) ∙ h
+
+  pub answered-refused : {n : Refusal} → s ≡ S.Refused n → answered s ≡ a → refused n ≡ a
+  answered-refused e h = sym (ap answered e) ∙ h
+
+pub ruleset answers = (answered-tag, answered-refused, refl)
+
+-- ---- a place
+
+pub settled-tag : (p : Place) {o m : ℕ} → p ≡ At o m → o ≤ maxOffset → m ≤ maxMicrostep → done (at o m) ≡ settledAt p
+settled-tag p e h k = rw e (simp (within-both _ h k))
+
+pub settled-below : (p : Place) → p ≡ Below → refused MappedTag ≡ settledAt p
+settled-below p e = rw e
+
+pub settled-offset : (p : Place) {o m : ℕ} → p ≡ At o m → maxOffset < o → refused MappedTag ≡ settledAt p
+settled-offset p {o} {m} e h = rw e (simp (within-not-offset (at o m) h))
+
+pub settled-microstep : (p : Place) {o m : ℕ} → p ≡ At o m → o ≤ maxOffset → maxMicrostep < m → refused MappedTag ≡ settledAt p
+settled-microstep p {o} {m} e h k = rw e (simp (within-not-microstep (at o m) h k))
+
+pub ruleset settles = (settled-tag, settled-below, settled-offset, settled-microstep)
+
+-- a + (x - b), with its sign
+minus : (n b : ℕ) → pos n -ℤ pos b ≡ subℕ n b
+minus n zero = simp (le-ltb n 0 zero-le) (ap pos (omega arith))
+minus n (suc b) = refl
+
+moved : (a x b : ℕ) → pos a +ℤ (pos x -ℤ pos b) ≡ subℕ (a + x) b
+moved a x b = sym (+ℤ-assoc (pos a) (pos x) (negℤ (pos b))) ∙ minus (a + x) b
+
+module _ (to from x : Tag) where
+  pub shifted-below : to .offset + x .offset < from .offset → Below ≡ placeOf (shifted to from x)
+  unfolding shifted
+  shifted-below h = simp (moved, lt-ltb _ _ h)
+
+  pub shifted-step :
+      {k : Place} → from .offset ≤ to .offset + x .offset → x .offset ≡ from .offset → from .microstep ≤ x .microstep →
+      k ≡ At (to .offset + x .offset - from .offset) (to .microstep + (x .microstep - from .microstep)) → k ≡ placeOf (shifted to from x)
+  unfolding shifted
+  shifted-step h e m = simp (moved, le-ltb _ _ h, eq-eqb _ _ e, le-leb _ _ m) λ k. k
+
+  pub shifted-apart :
+      {k : Place} → from .offset ≤ to .offset + x .offset → (x .offset ≡ from .offset → ⊥) →
+      k ≡ At (to .offset + x .offset - from .offset) (x .microstep) → k ≡ placeOf (shifted to from x)
+  unfolding shifted
+  shifted-apart h e = simp (moved, le-ltb _ _ h, ne-eqb _ _ e) λ k. k
+
+  pub shifted-own :
+      {k : Place} → from .offset ≤ to .offset + x .offset → x .offset ≡ from .offset → x .microstep < from .microstep →
+      k ≡ At (to .offset + x .offset - from .offset) (x .microstep) → k ≡ placeOf (shifted to from x)
+  unfolding shifted
+  shifted-own h e m = simp (moved, le-ltb _ _ h, eq-eqb _ _ e, lt-leb _ _ m) λ k. k
+
+pub ruleset shifts = (shifted-below, shifted-step, shifted-apart, shifted-own, le-of-lt)
+
+module _ (G : Tag) (allowed : Bool) (p : Place) {a : Answer} where
+  pub placed-below : p ≡ Below → a ≡ delayed G → a ≡ placedAt G allowed p
+  placed-below e h = rw e h
+
+  pub placed-held : {o m : ℕ} → p ≡ At o m → heldBackAt G allowed o m ≡ true → a ≡ delayed G → a ≡ placedAt G allowed p
+  placed-held e t h = rw e (simp t h)
+
+  pub placed-late : {o m : ℕ} → p ≡ At o m → heldBackAt G allowed o m ≡ false → a ≡ settledAt (At o m) → a ≡ placedAt G allowed p
+  placed-late e t h = rw e (simp t h)
+
+pub ruleset places = (placed-below, placed-held, placed-late, flag)
+
+-- what the code keeps of a place is all that matters
+settled-place : (o : ℤ) (m : ℕ) → settledAt (placeAt o m) ≡ settledTag o m
+settled-place (pos o) m = refl
+settled-place (negsuc o) m = refl
+
+placed-place : (G : Tag) (allowed : Bool) (o : ℤ) (m : ℕ) → placedAt G allowed (placeAt o m) ≡ cond (heldBackTag G allowed o m) (delayed G) (settledTag o m)
+placed-place G allowed (pos o) m = refl
+placed-place G allowed (negsuc o) m = refl
+
+-- ---- the maps
+
+module _ (c : Clock) (g : Tag) where
+  pub local-11 : withinClock c ≡ false → refused StateRule ≡ globalToLocal c g
+  unfolding globalToLocal checked
+  local-11 w = simp w
+
+  pub local-6 : withinClock c ≡ true → within g ≡ false → refused ArgumentTag ≡ globalToLocal c g
+  unfolding globalToLocal checked
+  local-6 w t = simp (w, t)
+
+  pub local-level : withinClock c ≡ true → within g ≡ true → sameTag (c .G) (c .L) ≡ true → done g ≡ globalToLocal c g
+  unfolding globalToLocal checked toLocal
+  local-level w t s = simp (w, t, s)
+
+  pub local-shifted :
+      {p : Place} {b a : Answer} → withinClock c ≡ true → within g ≡ true → sameTag (c .G) (c .L) ≡ false →
+      p ≡ placeOf (shifted (c .L) (c .G) g) → b ≡ settledAt p → a ≡ b → a ≡ globalToLocal c g
+  unfolding globalToLocal checked toLocal
+  local-shifted w t s e h k =
+      let u = shifted (c .L) (c .G) g in
+      simp (w, t, s) (k ∙ h ∙ ap settledAt e ∙ settled-place (u .offset) (u .microstep))
+
+pub ruleset locals = (local-11, local-6, local-level, local-shifted, flag, flag-no, flag-yes)
+
+module _ (c : Clock) (x : Tag) where
+  pub global-11 : withinClock c ≡ false → refused StateRule ≡ localToGlobal c x
+  unfolding localToGlobal checked
+  global-11 w = simp w
+
+  pub global-6 : withinClock c ≡ true → within x ≡ false → refused ArgumentTag ≡ localToGlobal c x
+  unfolding localToGlobal checked
+  global-6 w t = simp (w, t)
+
+  pub global-identity : withinClock c ≡ true → within x ≡ true → (sameTag (c .G) (c .L) && c .allowed) ≡ true → done x ≡ localToGlobal c x
+  unfolding localToGlobal checked toGlobal
+  global-identity w t s = simp (w, t, s)
+
+  pub global-shifted :
+      {p : Place} {b a : Answer} → withinClock c ≡ true → within x ≡ true → (sameTag (c .G) (c .L) && c .allowed) ≡ false →
+      p ≡ placeOf (shifted (c .G) (c .L) x) → b ≡ placedAt (c .G) (c .allowed) p → a ≡ b → a ≡ localToGlobal c x
+  unfolding localToGlobal checked toGlobal
+  global-shifted w t s e h k =
+      let u = shifted (c .G) (c .L) x in
+      simp (w, t, s) (k ∙ h ∙ ap (placedAt (c .G) (c .allowed)) e ∙ placed-place (c .G) (c .allowed) (u .offset) (u .microstep))
+
+pub ruleset globals = (global-11, global-6, global-identity, global-shifted, flag, flag-no, flag-yes)

@@ -1,0 +1,34 @@
+-- `tags::settle` meets its contract. Assumes nothing.
+use Rattle.tags.proofs.Laws.{settles}
+use borrow.Author.Needs.{needs}
+use Rattle.tags.proofs.settle.Statement.{statement}
+use Rattle.tags.proofs.settle.Tie as tie
+
+enum-told : tie.Need-enum-told
+enum-told c = search needs
+
+enum-known-p : tie.Need-enum-known-p
+enum-known-p c = search needs
+
+cast-if2 : tie.Need-cast-if2
+cast-if2 c = search needs
+
+cast-t9 : tie.Need-cast-t9
+cast-t9 c = search needs
+
+returns : tie.Need-returns
+returns c = search settles
+
+returns-2 : tie.Need-returns-2
+returns-2 c = search settles
+
+returns-3 : tie.Need-returns-3
+returns-3 c = search settles
+
+returns-4 : tie.Need-returns-4
+returns-4 c = search settles
+
+pub settle-spec : {M : Type 1} → statement M
+settle-spec =
+    tie.close
+    (tie.spec enum-told enum-known-p cast-if2 cast-t9 returns returns-2 returns-3 returns-4)

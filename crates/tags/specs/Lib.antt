@@ -1,0 +1,3 @@
+pub mod Tags
+pub mod Views
+pub mod Examples

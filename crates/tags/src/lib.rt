@@ -1,0 +1,353 @@
+// Tags on the two scales, and the scope clock that maps between them: document 01, "Tags".
+// Carried over from boomerang_runtime's time.rs (`Tag`) and sched/modal.rs (`ScopeClockState`, both maps).
+ghost use mathlib.Core.Path.{_≡_};
+ghost use mathlib.Core.Bool.{true, _&&_};
+ghost use Rattle.tags.specs.Tags.{within, sameTag, earlier, delayed, shifted, withinClock, globalToLocal, localToGlobal, freshClock};
+ghost use Rattle.tags.specs.Views.{ofGlobal, ofLocal, ofFields, ofClock, answered, delayedGlobal, delayedLocal, mappedGlobal, mappedLocal, placeOf, settledAt, heldBackAt, placedAt};
+use refusals::Refusal;
+
+// The largest offset, 2^62 - 1 nanoseconds.
+const LAST_OFFSET: u64 = 4611686018427387903;
+
+const LAST_MICROSTEP: u32 = 4294967295;
+
+// A global tag: offset in nanoseconds, microstep.
+pub struct GlobalTag(pub u64, pub u32);
+
+// A local tag: the same fields on a scope's own scale. The scales stay apart.
+pub struct LocalTag(pub u64, pub u32);
+
+// What the delay by zero answers.
+pub enum DelayedGlobal {
+    Tag(GlobalTag),
+    Refused(Refusal),
+}
+
+pub enum DelayedLocal {
+    Tag(LocalTag),
+    Refused(Refusal),
+}
+
+// What a map answers: a tag of the other scale, or a refusal.
+pub enum MappedGlobal {
+    Tag(GlobalTag),
+    Refused(Refusal),
+}
+
+pub enum MappedLocal {
+    Tag(LocalTag),
+    Refused(Refusal),
+}
+
+// A scope's clock: activation global G, activation local L, allowed, suspended local S.
+pub struct ScopeClock {
+    pub activation_global: GlobalTag,
+    pub activation_local: LocalTag,
+    pub allowed: bool,
+    pub suspended_local: LocalTag,
+}
+
+// ---- what the two scales share, on the fields alone
+
+// The fields of a tag of either scale.
+struct Fields(u64, u32);
+
+// A place on a scale before its limits are looked at: below zero, or an offset and a microstep.
+enum Place {
+    Below,
+    At(u64, u64),
+}
+
+// The fields of a tag within the limits, or a refusal.
+enum Settled {
+    Tag(Fields),
+    Refused(Refusal),
+}
+
+fn is_within(t: Fields) -> bool
+    ensures { λ r. ⌜ r ≡ within (ofFields t) ⌝ }
+{
+    t.0 <= LAST_OFFSET
+}
+
+fn is_same(t: Fields, u: Fields) -> bool
+    ensures { λ r. ⌜ r ≡ sameTag (ofFields t) (ofFields u) ⌝ }
+{
+    t.0 == u.0 && t.1 == u.1
+}
+
+fn is_earlier(t: Fields, u: Fields) -> bool
+    ensures { λ r. ⌜ r ≡ earlier (ofFields t) (ofFields u) ⌝ }
+{
+    if t.0 < u.0 {
+        return true;
+    }
+    if u.0 < t.0 {
+        return false;
+    }
+    t.1 < u.1
+}
+
+// One microstep more, or 7; 6 of what is no tag.
+fn delay(t: Fields) -> Settled
+    ensures { λ r. ⌜ answered r ≡ delayed (ofFields t) ⌝ }
+{
+    if is_within(t) {
+        if t.1 < LAST_MICROSTEP {
+            Settled::Tag(Fields(t.0, t.1 + 1))
+        } else {
+            Settled::Refused(Refusal::MappedTag)
+        }
+    } else {
+        Settled::Refused(Refusal::ArgumentTag)
+    }
+}
+
+// to + (x - from), with its sign.
+fn shift(to: Fields, from: Fields, x: Fields) -> Place
+    requires { ⌜ (within (ofFields to) ≡ true) × (within (ofFields x) ≡ true) ⌝ }
+    ensures { λ r. ⌜ r ≡ placeOf (shifted (ofFields to) (ofFields from) (ofFields x)) ⌝ }
+{
+    let sum = to.0 + x.0;
+    if sum < from.0 {
+        return Place::Below;
+    }
+    let offset = sum - from.0;
+    let own = x.1 as u64;
+    if x.0 == from.0 {
+        if from.1 <= x.1 {
+            return Place::At(offset, (to.1 as u64) + ((x.1 - from.1) as u64));
+        }
+    }
+    Place::At(offset, own)
+}
+
+// A place as a tag, or 7.
+fn settle(p: Place) -> Settled
+    ensures { λ r. ⌜ answered r ≡ settledAt p ⌝ }
+{
+    match p {
+        Place::Below => Settled::Refused(Refusal::MappedTag),
+        Place::At(offset, microstep) => {
+            if offset <= LAST_OFFSET {
+                if microstep <= LAST_MICROSTEP as u64 {
+                    return Settled::Tag(Fields(offset, microstep as u32));
+                }
+            }
+            Settled::Refused(Refusal::MappedTag)
+        }
+    }
+}
+
+// A place is earlier than G, or is G where that is not allowed.
+fn is_held_back(g: Fields, allowed: bool, offset: u64, microstep: u64) -> bool
+    ensures { λ r. ⌜ r ≡ heldBackAt (ofFields g) allowed offset microstep ⌝ }
+{
+    let step = g.1 as u64;
+    if offset < g.0 {
+        return true;
+    }
+    if g.0 < offset {
+        return false;
+    }
+    if microstep < step {
+        return true;
+    }
+    if step < microstep {
+        return false;
+    }
+    !allowed
+}
+
+// A place that is held back becomes G delayed by zero.
+fn hold_back(g: Fields, allowed: bool, p: Place) -> Settled
+    ensures { λ r. ⌜ answered r ≡ placedAt (ofFields g) allowed p ⌝ }
+{
+    match p {
+        Place::Below => delay(g),
+        Place::At(offset, microstep) => {
+            if is_held_back(g, allowed, offset, microstep) {
+                delay(g)
+            } else {
+                settle(p)
+            }
+        }
+    }
+}
+
+// ---- the two scales
+
+impl GlobalTag {
+    pub const ZERO: GlobalTag = GlobalTag(0, 0);
+
+    pub const MAX_OFFSET: u64 = LAST_OFFSET;
+
+    pub const MAX_MICROSTEP: u32 = LAST_MICROSTEP;
+
+    // The tag lies within the limits.
+    pub fn within(self) -> bool
+        ensures { λ r. ⌜ r ≡ within (ofGlobal self) ⌝ }
+    {
+        is_within(Fields(self.0, self.1))
+    }
+
+    pub fn same(self, other: GlobalTag) -> bool
+        ensures { λ r. ⌜ r ≡ sameTag (ofGlobal self) (ofGlobal other) ⌝ }
+    {
+        is_same(Fields(self.0, self.1), Fields(other.0, other.1))
+    }
+
+    // Offset first.
+    pub fn earlier(self, other: GlobalTag) -> bool
+        ensures { λ r. ⌜ r ≡ earlier (ofGlobal self) (ofGlobal other) ⌝ }
+    {
+        is_earlier(Fields(self.0, self.1), Fields(other.0, other.1))
+    }
+
+    // The tag delayed by zero: one microstep more, or 7; 6 of what is no tag.
+    pub fn delay(self) -> DelayedGlobal
+        ensures { λ r. ⌜ delayedGlobal r ≡ delayed (ofGlobal self) ⌝ }
+    {
+        match delay(Fields(self.0, self.1)) {
+            Settled::Tag(t) => DelayedGlobal::Tag(GlobalTag(t.0, t.1)),
+            Settled::Refused(n) => DelayedGlobal::Refused(n),
+        }
+    }
+}
+
+impl LocalTag {
+    pub const ZERO: LocalTag = LocalTag(0, 0);
+
+    pub const MAX_OFFSET: u64 = LAST_OFFSET;
+
+    pub const MAX_MICROSTEP: u32 = LAST_MICROSTEP;
+
+    // The tag lies within the limits.
+    pub fn within(self) -> bool
+        ensures { λ r. ⌜ r ≡ within (ofLocal self) ⌝ }
+    {
+        is_within(Fields(self.0, self.1))
+    }
+
+    pub fn same(self, other: LocalTag) -> bool
+        ensures { λ r. ⌜ r ≡ sameTag (ofLocal self) (ofLocal other) ⌝ }
+    {
+        is_same(Fields(self.0, self.1), Fields(other.0, other.1))
+    }
+
+    // Offset first.
+    pub fn earlier(self, other: LocalTag) -> bool
+        ensures { λ r. ⌜ r ≡ earlier (ofLocal self) (ofLocal other) ⌝ }
+    {
+        is_earlier(Fields(self.0, self.1), Fields(other.0, other.1))
+    }
+
+    // The tag delayed by zero: one microstep more, or 7; 6 of what is no tag.
+    pub fn delay(self) -> DelayedLocal
+        ensures { λ r. ⌜ delayedLocal r ≡ delayed (ofLocal self) ⌝ }
+    {
+        match delay(Fields(self.0, self.1)) {
+            Settled::Tag(t) => DelayedLocal::Tag(LocalTag(t.0, t.1)),
+            Settled::Refused(n) => DelayedLocal::Refused(n),
+        }
+    }
+}
+
+fn as_global(s: Settled) -> MappedGlobal
+    ensures { λ r. ⌜ mappedGlobal r ≡ answered s ⌝ }
+{
+    match s {
+        Settled::Tag(t) => MappedGlobal::Tag(GlobalTag(t.0, t.1)),
+        Settled::Refused(n) => MappedGlobal::Refused(n),
+    }
+}
+
+fn as_local(s: Settled) -> MappedLocal
+    ensures { λ r. ⌜ mappedLocal r ≡ answered s ⌝ }
+{
+    match s {
+        Settled::Tag(t) => MappedLocal::Tag(LocalTag(t.0, t.1)),
+        Settled::Refused(n) => MappedLocal::Refused(n),
+    }
+}
+
+impl ScopeClock {
+    // All tags zero, allowed if the scope starts active.
+    pub fn fresh(active: bool) -> Self
+        ensures { λ r. ⌜ ofClock r ≡ freshClock active ⌝ }
+    {
+        ScopeClock {
+            activation_global: GlobalTag::ZERO,
+            activation_local: LocalTag::ZERO,
+            allowed: active,
+            suspended_local: LocalTag::ZERO,
+        }
+    }
+
+    // The clock's tags lie within the limits.
+    pub fn within(self) -> bool
+        ensures { λ r. ⌜ r ≡ withinClock (ofClock self) ⌝ }
+    {
+        if self.activation_global.within() {
+            if self.activation_local.within() {
+                self.suspended_local.within()
+            } else {
+                false
+            }
+        } else {
+            false
+        }
+    }
+
+    // G = L.
+    fn is_level(self) -> bool
+        ensures { λ r. ⌜ r ≡ sameTag (ofGlobal (self .«activation_global»)) (ofLocal (self .«activation_local»)) ⌝ }
+    {
+        let g = self.activation_global;
+        let l = self.activation_local;
+        is_same(Fields(g.0, g.1), Fields(l.0, l.1))
+    }
+
+    // G = L and allowed.
+    fn is_identity(self) -> bool
+        ensures { λ r. ⌜ r ≡ (sameTag (ofGlobal (self .«activation_global»)) (ofLocal (self .«activation_local»)) && self .allowed) ⌝ }
+    {
+        if self.is_level() { self.allowed } else { false }
+    }
+
+    pub fn global_to_local(self, g: GlobalTag) -> MappedLocal
+        ensures { λ r. ⌜ mappedLocal r ≡ globalToLocal (ofClock self) (ofGlobal g) ⌝ }
+    {
+        if !self.within() {
+            return MappedLocal::Refused(Refusal::StateRule);
+        }
+        if !g.within() {
+            return MappedLocal::Refused(Refusal::ArgumentTag);
+        }
+        if self.is_level() {
+            return MappedLocal::Tag(LocalTag(g.0, g.1));
+        }
+        let from = self.activation_global;
+        let to = self.activation_local;
+        let p = shift(Fields(to.0, to.1), Fields(from.0, from.1), Fields(g.0, g.1));
+        as_local(settle(p))
+    }
+
+    pub fn local_to_global(self, x: LocalTag) -> MappedGlobal
+        ensures { λ r. ⌜ mappedGlobal r ≡ localToGlobal (ofClock self) (ofLocal x) ⌝ }
+    {
+        if !self.within() {
+            return MappedGlobal::Refused(Refusal::StateRule);
+        }
+        if !x.within() {
+            return MappedGlobal::Refused(Refusal::ArgumentTag);
+        }
+        if self.is_identity() {
+            return MappedGlobal::Tag(GlobalTag(x.0, x.1));
+        }
+        let to = self.activation_global;
+        let from = self.activation_local;
+        let p = shift(Fields(to.0, to.1), Fields(from.0, from.1), Fields(x.0, x.1));
+        as_global(hold_back(Fields(to.0, to.1), self.allowed, p))
+    }
+}

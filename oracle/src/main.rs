@@ -1,0 +1,195 @@
+//! The oracle: the published Rust, unchanged over stand-ins, and a plain reading of 01, to hold gate days against.
+
+mod answers;
+mod compare;
+mod deep;
+mod image;
+mod judge;
+mod make;
+mod plain;
+mod published;
+mod records;
+mod rng;
+mod sched;
+mod schedule;
+mod scripts;
+mod selftest;
+mod storage;
+mod sweep;
+#[cfg(test)]
+mod tests;
+mod timing;
+
+// The published files name these at the crate's root.
+use published::*;
+
+use std::io::{self, BufWriter, Write};
+use std::path::Path;
+use std::process::ExitCode;
+
+use compare::Outcome;
+use scripts::Written;
+
+const USAGE: &str = "\
+oracle compare DAY ANSWERS          the answers against the published Rust and what the bytes alone decide
+oracle judge DAY ANSWERS            whether each refusal was due and each accepted call within the limits
+oracle answer DAY                   the lines that 01 demands
+oracle deep DAY [ANSWERS]           the Rust's state after every record
+oracle deep-plain DAY               the same from the plain machine
+oracle make SEED KIND               a made day
+oracle map SEED COUNT SCRIPT ANSWERS            clock maps with the Rust's answers
+oracle store SEED COUNT SCRIPT ANSWERS          store calls
+oracle store exhaustive DEPTH SCRIPT ANSWERS    all short scripts of store calls
+oracle walk SEED COUNT SCRIPT ANSWERS           level walks
+oracle time DAY REPEAT [ANSWERS]    the day in the Rust alone, nanoseconds a record
+oracle selftest DIR                 recorded days, and wrong answers that must be caught
+oracle sweep FROM TO [KIND]         made days on both sides, seeds FROM to TO - 1
+
+Exit status: 0 all agrees, 1 a difference, 2 the arguments or a file are at fault.";
+
+/// Why a program ended without agreement.
+enum Failure {
+    /// A difference was found.
+    Difference(String),
+    /// Arguments or files are at fault.
+    Fault(String),
+}
+
+use Failure::{Difference, Fault};
+
+impl From<io::Error> for Failure {
+    fn from(error: io::Error) -> Self {
+        Fault(error.to_string())
+    }
+}
+
+fn main() -> ExitCode {
+    let arguments: Vec<String> = std::env::args_os()
+        .skip(1)
+        .map(|argument| argument.to_string_lossy().into_owned())
+        .collect();
+    let words: Vec<&str> = arguments.iter().map(String::as_str).collect();
+    match run(&words) {
+        Ok(()) => ExitCode::SUCCESS,
+        Err(Difference(words)) => {
+            // Nothing is left to be done if standard output is closed.
+            let _ = writeln!(io::stdout(), "{words}");
+            ExitCode::from(1)
+        }
+        Err(Fault(words)) => {
+            let _ = writeln!(io::stderr(), "oracle: {words}");
+            ExitCode::from(2)
+        }
+    }
+}
+
+fn run(words: &[&str]) -> Result<(), Failure> {
+    let mut out = BufWriter::new(io::stdout().lock());
+    match *words {
+        ["compare", day, answers] => {
+            let outcome = compare::compare(&read(day)?, &read(answers)?);
+            report(&mut out, day, outcome)?;
+        }
+        ["judge", day, answers] => {
+            let outcome = judge::judge(&read(day)?, &read(answers)?);
+            report(&mut out, day, outcome)?;
+        }
+        ["answer", day] => out.write_all(plain::answer(&read(day)?).as_bytes())?,
+        ["deep", day] => deep::print_rust(&read(day)?, None, &mut out)?,
+        ["deep", day, answers] => {
+            deep::print_rust(&read(day)?, Some(&read(answers)?), &mut out)?;
+        }
+        ["deep-plain", day] => deep::print_plain(&read(day)?, &mut out)?,
+        ["make", seed, kind] => {
+            let day = make::make(number(seed)?, kind).ok_or_else(|| {
+                Fault(format!(
+                    "no kind \"{kind}\"; there are {}",
+                    make::KINDS.join(", ")
+                ))
+            })?;
+            out.write_all(&day)?;
+        }
+        ["map", seed, count, script, answers] => {
+            let written =
+                scripts::map::write(number(seed)?, number(count)? as usize).map_err(Difference)?;
+            save(written, script, answers)?;
+        }
+        ["store", "exhaustive", depth, script, answers] => {
+            let depth = u32::try_from(number(depth)?).unwrap_or(u32::MAX);
+            let written = scripts::store::write_exhaustive(depth).map_err(Difference)?;
+            save(written, script, answers)?;
+        }
+        ["store", seed, count, script, answers] => {
+            let written = scripts::store::write(number(seed)?, number(count)? as usize)
+                .map_err(Difference)?;
+            save(written, script, answers)?;
+        }
+        ["walk", seed, count, script, answers] => {
+            let written =
+                scripts::walk::write(number(seed)?, number(count)? as usize).map_err(Difference)?;
+            save(written, script, answers)?;
+        }
+        ["time", day, repeat] => {
+            let words = timing::time(&read(day)?, number(repeat)? as usize, None).map_err(Fault)?;
+            writeln!(out, "{day}: {words}")?;
+        }
+        ["time", day, repeat, answers] => {
+            let answers = read(answers)?;
+            let words = timing::time(&read(day)?, number(repeat)? as usize, Some(&answers))
+                .map_err(Fault)?;
+            writeln!(out, "{day}: {words}")?;
+        }
+        ["selftest", folder] => {
+            let words = selftest::selftest(Path::new(folder)).map_err(Difference)?;
+            writeln!(out, "{words}")?;
+        }
+        ["sweep", from, to] => {
+            let words = sweep::sweep(number(from)?, number(to)?, None).map_err(Difference)?;
+            writeln!(out, "{words}")?;
+        }
+        ["sweep", from, to, kind] => {
+            let words = sweep::sweep(number(from)?, number(to)?, Some(kind)).map_err(Difference)?;
+            writeln!(out, "{words}")?;
+        }
+        ["help"] => writeln!(out, "{USAGE}")?,
+        _ => return Err(Fault(format!("what is asked for?\n{USAGE}"))),
+    }
+    out.flush()?;
+    Ok(())
+}
+
+fn read(path: &str) -> Result<Vec<u8>, Failure> {
+    std::fs::read(path).map_err(|error| Fault(format!("cannot read {path}: {error}")))
+}
+
+fn number(word: &str) -> Result<u64, Failure> {
+    word.parse()
+        .map_err(|_| Fault(format!("\"{word}\" is no number")))
+}
+
+/// Says how a comparison ended.
+fn report(
+    out: &mut impl Write,
+    day: &str,
+    outcome: Result<Outcome, String>,
+) -> Result<(), Failure> {
+    match outcome.map_err(|words| Difference(format!("{day}: {words}")))? {
+        Outcome::Agree { records } => writeln!(out, "{day}: agrees, {records} records")?,
+        Outcome::LeftDomain { record, why } => writeln!(
+            out,
+            "{day}: agrees up to record {record}, which leaves the domain: {why}"
+        )?,
+        Outcome::Differ(words) => return Err(Difference(format!("{day}: {words}"))),
+    }
+    Ok(())
+}
+
+/// Writes a script and its answers, and says on standard error what they hold.
+fn save(written: Written, script: &str, answers: &str) -> Result<(), Failure> {
+    for (path, bytes) in [(script, &written.script), (answers, &written.answers)] {
+        std::fs::write(path, bytes)
+            .map_err(|error| Fault(format!("cannot write {path}: {error}")))?;
+    }
+    let _ = writeln!(io::stderr(), "{}", written.summary);
+    Ok(())
+}

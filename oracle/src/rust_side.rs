@@ -1,0 +1,235 @@
+//! Drives the published manager: one call a record, and reads its state.
+
+use super::modal::{clock_map, ClockView, EventManager};
+use super::{ModeTransition, Schedule};
+use crate::answers::Ready;
+use crate::image::{RawTag, Table, MAX_MICROSTEP};
+use crate::records::Op;
+use crate::schedule::{rust_tag, ActionKey, ModeKey, ReactionKey, ReactorKey, TableSchedule};
+use crate::storage::Stores;
+use crate::{Level, Tag, TransitionKind};
+
+/// A call with its reactions' levels looked up and its tag in the published type.
+#[derive(Debug, Clone)]
+pub enum Call {
+    Plain(Tag, Vec<(Level, ReactionKey)>, bool),
+    Network(Tag, Vec<(Level, ReactionKey)>),
+    Control(Tag),
+    Action(ActionKey, Tag, Vec<(Level, ReactionKey)>, bool),
+    Transition(ReactorKey, ModeKey, TransitionKind, Tag),
+    Pop,
+}
+
+pub struct RustSide {
+    schedule: TableSchedule,
+    manager: EventManager<TableSchedule>,
+    stores: Stores,
+}
+
+impl RustSide {
+    /// A fresh manager. `watching` looks for value moves that leave 01's domain.
+    pub fn new(table: &Table, watching: bool) -> Self {
+        let schedule = TableSchedule::new(table);
+        let manager = EventManager::new(schedule.limits(), &schedule, false);
+        Self {
+            manager,
+            stores: Stores::new(schedule.action_capacity(), watching),
+            schedule,
+        }
+    }
+
+    /// Makes a call out of a record that the bytes don't refuse; `None` for a malformed one.
+    pub fn call(&self, op: &Op) -> Option<Call> {
+        let leveled = |reactions: &[u16]| {
+            reactions
+                .iter()
+                .map(|&reaction| self.schedule.leveled(reaction))
+                .collect()
+        };
+        Some(match op {
+            Op::Plain {
+                tag,
+                terminal,
+                reactions,
+            } => Call::Plain(rust_tag(*tag), leveled(reactions), *terminal),
+            Op::Network { tag, reactions } => Call::Network(rust_tag(*tag), leveled(reactions)),
+            Op::Control { tag } => Call::Control(rust_tag(*tag)),
+            Op::Action {
+                action,
+                tag,
+                terminal,
+                reactions,
+            } => Call::Action(
+                ActionKey(*action),
+                rust_tag(*tag),
+                leveled(reactions),
+                *terminal,
+            ),
+            Op::Transition {
+                reactor,
+                mode,
+                reset,
+                tag,
+            } => Call::Transition(
+                ReactorKey(*reactor),
+                ModeKey(*mode),
+                if *reset {
+                    TransitionKind::Reset
+                } else {
+                    TransitionKind::History
+                },
+                rust_tag(*tag),
+            ),
+            Op::Pop => Call::Pop,
+            Op::Malformed | Op::Broken => return None,
+        })
+    }
+
+    /// Carries out a call that is no pop.
+    #[inline]
+    pub fn apply(&mut self, call: &Call) {
+        match call {
+            Call::Plain(tag, reactions, terminal) => {
+                self.manager
+                    .push_event(*tag, reactions.iter().copied(), *terminal)
+            }
+            Call::Network(tag, reactions) => self
+                .manager
+                .push_network_event(*tag, reactions.iter().copied()),
+            Call::Control(tag) => self.manager.push_control_event(*tag),
+            Call::Action(action, tag, reactions, terminal) => self.manager.push_action_event(
+                *action,
+                *tag,
+                reactions.iter().copied(),
+                *terminal,
+                &self.schedule,
+            ),
+            Call::Transition(reactor, target, transition, tag) => {
+                self.stores.begin_transition();
+                let request = ModeTransition {
+                    target: *target,
+                    transition: *transition,
+                };
+                self.manager.apply_transition(
+                    *reactor,
+                    &request,
+                    &self.schedule,
+                    &mut self.stores,
+                    *tag,
+                );
+            }
+            Call::Pop => {}
+        }
+    }
+
+    /// Pops into `ready`, which keeps its vectors, and gives the sets back as the scheduler would.
+    #[inline]
+    pub fn pop_into(&mut self, ready: &mut Ready) -> bool {
+        let Some(mut event) = self.manager.pop_next_event() else {
+            return false;
+        };
+        ready.offset = event.tag.offset().whole_nanoseconds();
+        ready.microstep = event.tag.microstep() as u64;
+        ready.terminal = event.terminal;
+        ready.work = event.has_nonterminal_work;
+        ready.network = event.network_input;
+        let reactions = &mut ready.reactions;
+        reactions.clear();
+        event.reactions.view().for_each_level(|level, keys, _| {
+            reactions.extend(keys.map(|key| (level.0, usize::from(key.0))));
+        });
+        ready.actions.clear();
+        ready
+            .actions
+            .extend(event.action_values.iter().map(|key| usize::from(key.0)));
+        self.manager.return_reaction_set(event.reactions);
+        self.manager.return_action_values(event.action_values);
+        true
+    }
+
+    /// Pops; each action once, ascending (the Rust gives them in the order of its heap and may repeat one).
+    pub fn pop(&mut self) -> Option<Ready> {
+        let mut ready = Ready::at(RawTag::ZERO);
+        if !self.pop_into(&mut ready) {
+            return None;
+        }
+        ready.actions.sort_unstable();
+        ready.actions.dedup();
+        Some(ready)
+    }
+
+    /// Why the transition just applied left 01's domain, if it did.
+    pub fn left_domain(&self) -> Option<String> {
+        self.stores.clash()
+    }
+
+    pub fn stores(&self) -> &Stores {
+        &self.stores
+    }
+
+    pub fn peek(&mut self) -> Option<Tag> {
+        self.manager.peek_tag()
+    }
+
+    pub fn control_only(&mut self) -> bool {
+        self.manager.peek_is_control_only()
+    }
+
+    pub fn work(&self) -> usize {
+        self.manager.work_count()
+    }
+
+    pub fn root_head(&self) -> Option<Tag> {
+        self.manager.root_head()
+    }
+
+    /// Clock, active, ever active and head of each scope.
+    pub fn scopes(&self) -> impl Iterator<Item = ScopeView> + '_ {
+        self.schedule.scopes().map(move |scope| ScopeView {
+            clock: self.manager.clock_view(scope),
+            active: self.manager.scope_active(scope),
+            ever: self.manager.scope_ever_active(scope),
+            head: self.manager.scope_head(scope),
+        })
+    }
+}
+
+/// What can be seen of one scope.
+pub struct ScopeView {
+    pub clock: ClockView,
+    pub active: bool,
+    pub ever: bool,
+    pub head: Option<Tag>,
+}
+
+/// Whether a record is outside 01's domain of comparison before it is applied.
+pub fn outside_domain(op: &Op) -> Option<String> {
+    match op {
+        Op::Transition { tag, .. } if tag.microstep == MAX_MICROSTEP => {
+            Some("a transition at the microstep limit".to_string())
+        }
+        _ => None,
+    }
+}
+
+/// A scope clock's map in the published Rust, tags given within 01's limits: G, L, allowed, S, the argument.
+pub fn map(
+    to_local: bool,
+    global: RawTag,
+    local: RawTag,
+    allowed: bool,
+    suspended: RawTag,
+    tag: RawTag,
+) -> (i128, u64) {
+    let clock = ClockView {
+        global: rust_tag(global),
+        local: rust_tag(local),
+        allowed,
+        suspended: rust_tag(suspended),
+    };
+    let mapped = clock_map(to_local, clock, rust_tag(tag));
+    (
+        mapped.offset().whole_nanoseconds(),
+        mapped.microstep() as u64,
+    )
+}

@@ -1,0 +1,224 @@
+//! `oracle map SEED COUNT SCRIPT ANSWERS`: clock maps.
+//!
+//! A case has 50 bytes: way 1 (0 local to global, 1 global to local), G offset 8 and microstep 4, L likewise,
+//! allowed 1 (0 or 1), S likewise, the argument tag likewise. An answer has 13: number 1 (0 a tag, else the refusal
+//! 11, 6 or 7, looked for in this order), offset 8, microstep 4, both 0 if refused.
+//! The first eleven cases are m1 to m11 of 01. Answers within the limits come from the published clock, held
+//! against the limits of the result; the plain machine's clock is asked too, and the program fails if they differ.
+
+use super::{Bytes, Written};
+use crate::image::{RawTag, MAX_MICROSTEP, MAX_OFFSET};
+use crate::plain::Clock;
+use crate::rng::Rng;
+use crate::sched::rust_side;
+
+#[derive(Debug, Clone, Copy)]
+struct Case {
+    to_local: bool,
+    global: RawTag,
+    local: RawTag,
+    allowed: bool,
+    suspended: RawTag,
+    tag: RawTag,
+}
+
+/// The cases m1 to m11: way, G, L, argument. None is allowed.
+fn paper() -> Vec<Case> {
+    type Pair = (u64, u32);
+    let cases: [(bool, Pair, Pair, Pair); 11] = [
+        (false, (100, 2), (40, 1), (40, 1)),
+        (false, (100, 2), (40, 1), (40, 3)),
+        (false, (100, 2), (40, 1), (40, 0)),
+        (false, (100, 2), (40, 1), (39, 9)),
+        (true, (100, 2), (40, 1), (100, 1)),
+        (true, (100, 2), (40, 1), (115, 0)),
+        (true, (100, 2), (40, 1), (59, 0)),
+        (false, (100, 2), (40, 9), (40, 7)),
+        (false, (100, 2), (40, 9), (40, 9)),
+        (false, (7, 0), (7, 0), (7, 0)),
+        (false, (100, 4_294_967_295), (0, 0), (0, 0)),
+    ];
+    let tag = |(offset, microstep)| RawTag::new(offset, microstep);
+    cases
+        .iter()
+        .map(|&(to_local, global, local, argument)| Case {
+            to_local,
+            global: tag(global),
+            local: tag(local),
+            allowed: false,
+            suspended: RawTag::ZERO,
+            tag: tag(argument),
+        })
+        .collect()
+}
+
+/// An offset within the limits: small, beside one that was drawn before, at the limit, or of any length.
+fn offset(rng: &mut Rng, near: &[RawTag]) -> u64 {
+    let drawn = match rng.below(10) {
+        0..=2 => rng.below(4),
+        3..=5 if !near.is_empty() => {
+            let base = rng.pick(near).offset;
+            (base + rng.below(4)).saturating_sub(rng.below(4))
+        }
+        6 => MAX_OFFSET - rng.below(3),
+        7 => MAX_OFFSET / 2 + rng.below(5),
+        _ => rng.next() >> (2 + rng.below(61)),
+    };
+    drawn.min(MAX_OFFSET)
+}
+
+fn microstep(rng: &mut Rng, near: &[RawTag]) -> u32 {
+    match rng.below(10) {
+        0..=3 => rng.below(4) as u32,
+        4..=6 if !near.is_empty() => {
+            let base = rng.pick(near).microstep;
+            base.saturating_add(rng.below(3) as u32)
+                .saturating_sub(rng.below(3) as u32)
+        }
+        7 => MAX_MICROSTEP - rng.below(3) as u32,
+        8 => MAX_MICROSTEP / 2 + rng.below(3) as u32,
+        _ => (rng.next() as u32) >> rng.below(31),
+    }
+}
+
+fn tag(rng: &mut Rng, near: &[RawTag]) -> RawTag {
+    RawTag::new(offset(rng, near), microstep(rng, near))
+}
+
+fn case(rng: &mut Rng) -> Case {
+    let global = tag(rng, &[]);
+    let local = if rng.chance(15) {
+        global
+    } else {
+        tag(rng, &[global])
+    };
+    let near = [global, local];
+    let mut case = Case {
+        to_local: rng.chance(50),
+        global,
+        local,
+        allowed: rng.chance(40),
+        suspended: tag(rng, &near),
+        tag: tag(rng, &near),
+    };
+    if rng.chance(25) {
+        // The argument on its own base, where the microsteps are carried over.
+        let base = if case.to_local { global } else { local };
+        case.tag = RawTag::new(base.offset, microstep(rng, &near));
+    }
+    if rng.chance(8) {
+        let beyond = rng.pick(&[1 << 62, (1 << 62) + 1, 1 << 63, u64::MAX]);
+        match rng.below(5) {
+            0 => case.global.offset = beyond,
+            1 => case.local.offset = beyond,
+            2 => case.suspended.offset = beyond,
+            _ => case.tag.offset = beyond,
+        }
+    }
+    case
+}
+
+fn answer(case: &Case) -> (u8, u64, u32) {
+    let clock_within = [case.global, case.local, case.suspended]
+        .iter()
+        .all(|tag| tag.within_limits());
+    if !clock_within {
+        return (11, 0, 0);
+    }
+    if !case.tag.within_limits() {
+        return (6, 0, 0);
+    }
+    let (offset, microstep) = rust_side::map(
+        case.to_local,
+        case.global,
+        case.local,
+        case.allowed,
+        case.suspended,
+        case.tag,
+    );
+    match (u64::try_from(offset), u32::try_from(microstep)) {
+        (Ok(offset), Ok(microstep)) if offset <= MAX_OFFSET => (0, offset, microstep),
+        _ => (7, 0, 0),
+    }
+}
+
+/// The plain machine's answer to a case whose tags are within the limits.
+fn plain_answer(case: &Case) -> (u8, u64, u32) {
+    let clock = Clock {
+        global: case.global,
+        local: case.local,
+        allowed: case.allowed,
+        suspended: case.suspended,
+    };
+    let mapped = if case.to_local {
+        clock.to_local(case.tag)
+    } else {
+        clock.to_global(case.tag)
+    };
+    match mapped {
+        Ok(tag) => (0, tag.offset, tag.microstep),
+        Err(number) => (number, 0, 0),
+    }
+}
+
+pub fn write(seed: u64, count: usize) -> Result<Written, String> {
+    let mut rng = Rng::new(seed);
+    let paper = paper();
+    let (mut script, mut answers) = (Bytes::default(), Bytes::default());
+    let (mut inside, mut overrun) = (0, 0);
+    for index in 0..count {
+        let case = match paper.get(index) {
+            Some(case) => *case,
+            None => case(&mut rng),
+        };
+        script.byte(u8::from(case.to_local));
+        script.tag(case.global);
+        script.tag(case.local);
+        script.byte(u8::from(case.allowed));
+        script.tag(case.suspended);
+        script.tag(case.tag);
+        let (number, offset, microstep) = answer(&case);
+        let is_inside = number == 0 || number == 7;
+        if is_inside && plain_answer(&case) != (number, offset, microstep) {
+            return Err(format!(
+                "case {}: {case:?}: the Rust says {:?}, 01 {:?}",
+                index + 1,
+                (number, offset, microstep),
+                plain_answer(&case)
+            ));
+        }
+        inside += usize::from(is_inside);
+        overrun += usize::from(number == 7);
+        answers.byte(number);
+        answers.tag(RawTag::new(offset, microstep));
+    }
+    Ok(Written {
+        script: script.0,
+        answers: answers.0,
+        summary: format!("{count} cases, {inside} inside the domain, {overrun} of them refused 7"),
+    })
+}
+
+#[cfg(test)]
+mod tests {
+    use super::*;
+
+    #[test]
+    fn the_paper_s_cases_have_the_paper_s_answers() {
+        let expected = [
+            (0, 100, 3),
+            (0, 100, 4),
+            (0, 100, 3),
+            (0, 100, 3),
+            (0, 40, 1),
+            (0, 55, 0),
+            (7, 0, 0),
+            (0, 100, 7),
+            (0, 100, 3),
+            (0, 7, 1),
+            (7, 0, 0),
+        ];
+        let answers: Vec<_> = paper().iter().map(answer).collect();
+        assert_eq!(answers, expected);
+    }
+}
