@@ -28,7 +28,7 @@ use crate::answers::{joined, lines};
 use crate::image::{self, RawTag, Table};
 use crate::plain::{self, Plain};
 use crate::records::{split, Op, Record};
-use crate::sched::rust_side::{outside_domain, RustSide};
+use crate::sched::rust_side::{outside_domain, Call, RustSide};
 use crate::Tag;
 
 /// A tag of either side, wide enough for both.
@@ -297,16 +297,18 @@ fn apply(rust: &mut RustSide, op: &Op) -> Option<String> {
     if let Some(why) = outside_domain(op) {
         return Some(why);
     }
+    apply_anyhow(rust, op);
+    rust.left_domain()
+}
+
+/// Applies one record to the Rust, inside 01's domain or not.
+fn apply_anyhow(rust: &mut RustSide, op: &Op) {
     match rust.call(op) {
-        Some(crate::sched::rust_side::Call::Pop) => {
+        Some(Call::Pop) => {
             rust.pop();
-            None
         }
-        Some(call) => {
-            rust.apply(&call);
-            rust.left_domain()
-        }
-        None => None,
+        Some(call) => rust.apply(&call),
+        None => {}
     }
 }
 
@@ -350,7 +352,8 @@ pub fn print_plain(day: &[u8], out: &mut impl Write) -> io::Result<()> {
 }
 
 /// Runs a day on both sides and compares the states after every record, to the end or to where the domain is left.
-/// The error says record and field.
+/// Also holds refusal 7 against the Rust: an accepted call leaves no tag beyond the limits there, and a call refused
+/// with 7 would. The error says record and field.
 pub fn agree(day: &[u8]) -> Result<(), String> {
     let Ok((table, records)) = image::open(day) else {
         return Ok(());
@@ -358,6 +361,11 @@ pub fn agree(day: &[u8]) -> Result<(), String> {
     let mut plain = Plain::new(&table);
     let mut rust = RustSide::new(&table, true);
     let check = |at: usize, rust: &mut RustSide, plain: &Plain<'_>| {
+        if let Some(tag) = rust.beyond_limits() {
+            return Err(format!(
+                "record {at} was accepted, but the Rust now has the tag {tag}"
+            ));
+        }
         let rust = Snapshot::of_rust(rust, &table);
         let plain = Snapshot::of_plain(plain, &table);
         match plain.first_difference(&rust) {
@@ -370,12 +378,30 @@ pub fn agree(day: &[u8]) -> Result<(), String> {
         }
     };
     check(0, &mut rust, &plain)?;
+    let mut accepted = Vec::new();
     for (index, record) in split(records).iter().enumerate() {
-        let refused = matches!(plain.step(&record.op), plain::Outcome::Refused(_));
-        if !refused && apply(&mut rust, &record.op).is_some() {
-            return Ok(());
+        let at = index + 1;
+        match plain.step(&record.op) {
+            plain::Outcome::Refused(plain::OVERRUN) => {
+                let mut trial = RustSide::new(&table, false);
+                for op in accepted.iter().chain([&record.op]) {
+                    apply_anyhow(&mut trial, op);
+                }
+                if trial.beyond_limits().is_none() {
+                    return Err(format!(
+                        "record {at} was refused 7, but the Rust's tags stay within the limits"
+                    ));
+                }
+            }
+            plain::Outcome::Refused(_) => {}
+            plain::Outcome::Ok | plain::Outcome::Popped(_) => {
+                if apply(&mut rust, &record.op).is_some() {
+                    return Ok(());
+                }
+                accepted.push(record.op.clone());
+            }
         }
-        check(index + 1, &mut rust, &plain)?;
+        check(at, &mut rust, &plain)?;
     }
     Ok(())
 }

@@ -101,13 +101,7 @@ fn run(words: &[&str]) -> Result<(), Failure> {
         }
         ["deep-plain", day] => deep::print_plain(&read(day)?, &mut out)?,
         ["make", seed, kind] => {
-            let day = make::make(number(seed)?, kind).ok_or_else(|| {
-                Fault(format!(
-                    "no kind \"{kind}\"; there are {}",
-                    make::KINDS.join(", ")
-                ))
-            })?;
-            out.write_all(&day)?;
+            out.write_all(&made(number(seed)?, kind)?)?;
         }
         ["map", seed, count, script, answers] => {
             let written =
@@ -116,6 +110,12 @@ fn run(words: &[&str]) -> Result<(), Failure> {
         }
         ["store", "exhaustive", depth, script, answers] => {
             let depth = u32::try_from(number(depth)?).unwrap_or(u32::MAX);
+            if !scripts::store::DEPTHS.contains(&depth) {
+                return Err(Fault(format!(
+                    "the depth is one of {:?}",
+                    scripts::store::DEPTHS
+                )));
+            }
             let written = scripts::store::write_exhaustive(depth).map_err(Difference)?;
             save(written, script, answers)?;
         }
@@ -140,6 +140,9 @@ fn run(words: &[&str]) -> Result<(), Failure> {
             writeln!(out, "{day}: {words}")?;
         }
         ["selftest", folder] => {
+            if !Path::new(folder).is_dir() {
+                return Err(Fault(format!("{folder} is no folder")));
+            }
             let words = selftest::selftest(Path::new(folder)).map_err(Difference)?;
             writeln!(out, "{words}")?;
         }
@@ -148,7 +151,9 @@ fn run(words: &[&str]) -> Result<(), Failure> {
             writeln!(out, "{words}")?;
         }
         ["sweep", from, to, kind] => {
-            let words = sweep::sweep(number(from)?, number(to)?, Some(kind)).map_err(Difference)?;
+            let from = number(from)?;
+            made(from, kind)?;
+            let words = sweep::sweep(from, number(to)?, Some(kind)).map_err(Difference)?;
             writeln!(out, "{words}")?;
         }
         ["help"] => writeln!(out, "{USAGE}")?,
@@ -165,6 +170,14 @@ fn read(path: &str) -> Result<Vec<u8>, Failure> {
 fn number(word: &str) -> Result<u64, Failure> {
     word.parse()
         .map_err(|_| Fault(format!("\"{word}\" is no number")))
+}
+
+/// A made day, if there is such a kind.
+fn made(seed: u64, kind: &str) -> Result<Vec<u8>, Failure> {
+    make::make(seed, kind).ok_or_else(|| {
+        let kinds = [make::KINDS, make::LONG_KINDS].concat().join(", ");
+        Fault(format!("no kind \"{kind}\"; there are {kinds}"))
+    })
 }
 
 /// Says how a comparison ended.

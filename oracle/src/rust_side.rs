@@ -3,7 +3,7 @@
 use super::modal::{clock_map, ClockView, EventManager};
 use super::{ModeTransition, Schedule};
 use crate::answers::Ready;
-use crate::image::{RawTag, Table, MAX_MICROSTEP};
+use crate::image::{RawTag, Table, MAX_MICROSTEP, MAX_OFFSET};
 use crate::records::Op;
 use crate::schedule::{rust_tag, ActionKey, ModeKey, ReactionKey, ReactorKey, TableSchedule};
 use crate::storage::Stores;
@@ -177,6 +177,15 @@ impl RustSide {
 
     pub fn work(&self) -> usize {
         self.manager.work_count()
+    }
+
+    /// A tag of the state that lies beyond 01's limits, if there is one. The Rust knows no limits, so a call that
+    /// 01 refuses with 7 leaves one behind, and an accepted one never does.
+    pub fn beyond_limits(&self) -> Option<Tag> {
+        self.manager.all_tags().into_iter().find(|tag| {
+            !(0..=i128::from(MAX_OFFSET)).contains(&tag.offset().whole_nanoseconds())
+                || tag.microstep() > MAX_MICROSTEP as usize
+        })
     }
 
     pub fn root_head(&self) -> Option<Tag> {

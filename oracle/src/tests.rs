@@ -171,3 +171,14 @@ fn a_value_at_a_great_microstep_is_given_up_and_pops_go_on() {
     let states = String::from_utf8(states).unwrap();
     assert!(states.lines().nth(1).unwrap().contains(" values 0:? "));
 }
+
+#[test]
+fn a_push_is_refused_for_its_image_only_in_an_active_scope() {
+    // G is (100, 2^32 - 2) and L zero, so the local tag (0, 2^32 - 3) has an image far beyond the limit.
+    let day = day(&format!(
+        "{T2} action 2 1; transition 0 1 history 100 4294967294; act 0 100 4294967293 0 -;
+         transition 0 0 history 100 4294967294; act 0 100 4294967293 0 -; pop"
+    ));
+    let expected = ["table ok", "ok", "refused 7", "ok", "ok", "nothing"];
+    assert_eq!(answers(&day), expected);
+}

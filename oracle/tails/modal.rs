@@ -33,6 +33,31 @@ impl<S: Schedule> EventManager<S> {
     pub(crate) fn work_count(&self) -> usize {
         self.nonterminal_work_count
     }
+
+    /// Every tag of the state: events' tags and stored tags, global images in active scopes, clocks.
+    pub(crate) fn all_tags(&self) -> Vec<Tag> {
+        let mut tags = Vec::new();
+        for (tag, stored) in self.root.tags() {
+            tags.push(tag);
+            tags.extend(stored);
+        }
+        for &scope in &self.scopes {
+            let clock = &self.scope_clocks[scope];
+            tags.extend([
+                clock.activation_global,
+                clock.activation_local,
+                clock.suspended_local,
+            ]);
+            for (tag, stored) in self.scope_queues[scope].tags() {
+                tags.push(tag);
+                tags.extend(stored);
+                if self.scope_active[scope] {
+                    tags.push(clock.local_to_global(tag));
+                }
+            }
+        }
+        tags
+    }
 }
 
 /// Maps one tag by a clock: global to local if `to_local`, else local to global.

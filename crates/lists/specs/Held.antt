@@ -7,7 +7,7 @@ use native.Mathlib.Omega.{arith}
 use native.Mathlib.Nat.{add-mul, mul-le-mul-right}
 use lib.ListN.{length, getD, set, replicate, replicate-append-replicate}
 use lib.Seq.{set-out}
-use Rattle.lists.specs.Rows.{tab, tab-all, flat, flat-length, flat-set, rowAt, putRow, viewOf, view-length, view-get, view-past, view-put, sets-out}
+use Rattle.lists.specs.Rows.{tab, tab-all, flat, flat-length, flat-set, rowAt, putRow, viewOf, view-length, view-get, view-past, view-put, sets-out, stores, stored}
 
 module _ {A : Type 0} (decode : List ℕ → A) (encode : A → List ℕ) (w n : ℕ) (long : (a : A) → length (encode a) ≡ w) where
   -- the things that an array of words holds
@@ -70,6 +70,14 @@ module _ {A : Type 0} (decode : List ℕ → A) (encode : A → List ℕ) (w n :
   -- past the end: nothing put
   pub held-past : (ws : List ℕ) (k : ℕ) (a : A) → Whole ws → n ≤ k → Held ws (set (thingsOf ws) k a)
   held-past ws k a h b = record { whole = h; things = sym (set-past ws k b a) }
+
+  -- one thing put word by word, as straight-line code stores it
+  pub held-stores :
+      (ws : List ℕ) (k : ℕ) (a : A) (row : List ℕ) {out : List ℕ} → Whole ws → decode (encode a) ≡ a → k < n → row ≡ encode a →
+      out ≡ stores ws (k * w) 0 row → Held out (set (thingsOf ws) k a)
+  held-stores ws k a row h p b e o =
+      let q : _ ≡ putRow w ws k (encode a) = o ∙ (stored ws (k * w) row ∙ ap (putRow w ws k) e) in
+      rw q (held-put ws k a h p b)
 
   -- to things and back: the same words, whatever way they came
   pub rows-back : (ws out : List ℕ) → Whole ws → Held out (thingsOf ws) → out ≡ ws

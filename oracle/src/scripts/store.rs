@@ -22,6 +22,8 @@
 //! differ: it drops a bucket that a take or a move empties, and knows no limit of microsteps. Nothing else may
 //! differ; if it does, the program says so and fails. Microsteps that are pushed stay small: the Rust pads.
 
+use std::ops::RangeInclusive;
+
 use super::{Bytes, Written};
 use crate::action::store::ActionStore;
 use crate::image::{RawTag, MAX_MICROSTEP, MAX_OFFSET};
@@ -353,14 +355,11 @@ fn alphabet() -> Vec<(usize, Call)> {
     alphabet
 }
 
-/// Most calls of an exhaustive script.
-const DEEPEST: u32 = 5;
+/// How many calls an exhaustive script may have.
+pub const DEPTHS: RangeInclusive<u32> = 1..=5;
 
 /// All scripts of `depth` calls of the alphabet.
 pub fn write_exhaustive(depth: u32) -> Result<Written, String> {
-    if !(1..=DEEPEST).contains(&depth) {
-        return Err(format!("the depth goes from 1 to {DEEPEST}"));
-    }
     let alphabet = alphabet();
     let mut writer = Writer::default();
     for number in 0..alphabet.len().pow(depth) {
