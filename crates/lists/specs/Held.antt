@@ -7,7 +7,7 @@ use native.Mathlib.Omega.{arith}
 use native.Mathlib.Nat.{add-mul, mul-le-mul-right}
 use lib.ListN.{length, getD, set, replicate, replicate-append-replicate}
 use lib.Seq.{set-out}
-use Rattle.lists.specs.Rows.{tab, tab-all, flat, flat-length, flat-set, rowAt, putRow, viewOf, view-length, view-get, view-past, view-put, sets-out, stores, stored}
+use Rattle.lists.specs.Rows.{tab, tab-all, flat, flat-length, flat-set, flat-row, rowAt, putRow, viewOf, view-length, view-get, view-past, view-put, sets-out, stores, stored}
 
 module _ {A : Type 0} (decode : List ℕ → A) (encode : A → List ℕ) (w n : ℕ) (long : (a : A) → length (encode a) ≡ w) where
   -- the things that an array of words holds
@@ -78,6 +78,20 @@ module _ {A : Type 0} (decode : List ℕ → A) (encode : A → List ℕ) (w n :
   held-stores ws k a row h p b e o =
       let q : _ ≡ putRow w ws k (encode a) = o ∙ (stored ws (k * w) row ∙ ap (putRow w ws k) e) in
       rw q (held-put ws k a h p b)
+
+  -- a row is the words of its thing
+  whole-row : (ws : List ℕ) (k : ℕ) (d : A) → Whole ws → k < n → rowAt w ws k ≡ encode (getD (thingsOf ws) k d)
+  whole-row ws k d h b = ap (λ x. rowAt w x k) (h .words) ∙ flat-row encode w long (thingsOf ws) k d (rw things-length b)
+
+  whole-back : (ws : List ℕ) (k : ℕ) (d : A) → Whole ws → k < n → decode (encode (getD (thingsOf ws) k d)) ≡ getD (thingsOf ws) k d
+  whole-back ws k d h b = ap decode (sym (whole-row ws k d h b)) ∙ sym (thing-get ws k d b)
+
+  -- one thing copied over another, word by word
+  pub held-copy :
+      (ws : List ℕ) (from to : ℕ) (d : A) {out : List ℕ} → Whole ws → from < n → to < n →
+      out ≡ stores ws (to * w) 0 (rowAt w ws from) → Held out (set (thingsOf ws) to (getD (thingsOf ws) from d))
+  held-copy ws from to d h f t o =
+      held-stores ws to (getD (thingsOf ws) from d) (rowAt w ws from) h (whole-back ws from d h f) t (whole-row ws from d h f) o
 
   -- to things and back: the same words, whatever way they came
   pub rows-back : (ws out : List ℕ) → Whole ws → Held out (thingsOf ws) → out ≡ ws

@@ -6,8 +6,8 @@ use Prim.Native.Nat.{ℕ, zero, suc, _+_, _*_, _-_, _≤_, _<_}
 use native.Mathlib.Omega.{arith}
 use native.Mathlib.Nat.{mul-le-mul-right, add-mul}
 use native.Mathlib.Numerals.{add-one}
-use lib.ListN.{length, take, drop, getD, set, replicate, length-set, length-map, length-append, List·getD-eq-default, length-replicate, getD-replicate, List·getD-map}
-use lib.Seq.{getD-set-same, getD-set-other, ext-getD, set-out, sets, length-sets, sets-eq, drop-append-seam, take-suc-set}
+use lib.ListN.{length, take, drop, getD, set, replicate, length-set, length-map, length-append, List·getD-eq-default, length-replicate, getD-replicate, List·getD-map, List·getD-append}
+use lib.Seq.{getD-append-add, getD-set-same, getD-set-other, ext-getD, set-out, sets, length-sets, sets-eq, drop-append-seam, take-suc-set}
 use Rattle.lists.specs.Tests.{same?, apart}
 
 module _ {A : Type 0} where
@@ -193,6 +193,23 @@ module _ {A : Type 0} (g : A → List ℕ) (w : ℕ) (long : (a : A) → length 
   flat-set (x ∷ l) (suc k) a h =
       let e : suc k * w ≡ length (g x) + k * w = omega (arith, add-mul 1 k w, long x) in
       rw (e, sets-right (g x) (flat l) (k * w) (g a)) (ap (g x ++_) (flat-set l k a (omega arith)))
+
+  -- the words of one of them
+  flat-get : (l : List A) (k j : ℕ) (d : A) → k < length l → j < w → getD (flat l) (k * w + j) 0 ≡ getD (g (getD l k d)) j 0
+  unfolding flat
+  flat-get [] k j d h b = absurd (omega arith)
+  flat-get (x ∷ l) zero j d h b = let e : 0 * w + j ≡ j = omega arith in rw e (List·getD-append (g x) (flat l) 0 j (omega (arith, long x)))
+  flat-get (x ∷ l) (suc k) j d h b =
+      let e : suc k * w + j ≡ length (g x) + (k * w + j) = omega (arith, add-mul 1 k w, long x) in
+      rw e (getD-append-add (g x) (flat l) (k * w + j) 0 ∙ flat-get l k j d (omega arith) b)
+
+  pub flat-row : (l : List A) (k : ℕ) (d : A) → k < length l → rowAt w (flat l) k ≡ g (getD l k d)
+  flat-row l k d h =
+      ext-getD 0 (rowAt w (flat l) k) (g (getD l k d)) (tab-length _ 0 w ∙ sym (long (getD l k d)))
+      λ j b. one j (subst⁻¹ (λ (m : ℕ). j < m) (sym (tab-length (λ i. getD (flat l) (k * w + i) 0) 0 w)) b)
+    where
+      one : (j : ℕ) → j < w → getD (rowAt w (flat l) k) j 0 ≡ getD (g (getD l k d)) j 0
+      one j b = tab-at (λ i. getD (flat l) (k * w + i) 0) w j 0 b ∙ flat-get l k j d h b
 
 -- append, move, blank: what callers cite
 module _ {A : Type 0} (f : List ℕ → A) (w : ℕ) (ws : List ℕ) (n : ℕ) (h : n * w ≤ length ws) where

@@ -4,23 +4,22 @@
 use Prim.Native.Nat.{ℕ, zero, suc, _+_, _-_, _<_, _≤_, zero-le}
 use mathlib.Core.Path.{_≡_, refl, sym, ap, _∙_}
 use mathlib.Core.Bool.{Bool, true, false, not, cond, _&&_}
-use lib.Dec.{leb}
+use lib.Dec.{leb, ltb}
 use lib.IntN.{ℤ, pos, negsuc, negℤ, subℕ, _+ℤ_, _-ℤ_, +ℤ-assoc}
 use native.Mathlib.Nat.{le-of-lt}
 use native.Mathlib.Omega.{arith}
-use borrow.Author.Tests.{lt-ltb, le-ltb, le-leb, lt-leb, eq-eqb, ne-eqb, leb-true}
-use Rattle.lists.specs.Tests.{flag, flag-no, flag-yes, and-left, and-right}
+use borrow.Author.Tests.{lt-ltb, le-ltb, le-leb, lt-leb, eq-eqb, ne-eqb, leb-true, ltb-false}
+use Rattle.lists.specs.Tests.{gt-ltb, gt-eqb, flag, flag-no, flag-yes, and-left, and-right}
 use Rattle.lists.specs.Walk.{Result, done, refused}
 use Rattle.refusals.specs.declared.Refusal.{Refusal}
 use Rattle.refusals.specs.declared.Refusal.the-variants.{ArgumentTag, MappedTag, StateRule}
-use Rattle.tags.specs.Tags.{Tag, Clock, Answer, Shifted, at, maxOffset, maxMicrostep, within, withinClock, sameTag, delayed, shifted, settled, settledTag, heldBack, heldBackTag, checked, toLocal, toGlobal, globalToLocal, localToGlobal}
-use Rattle.tags.specs.Views.{ofGlobal, ofLocal, ofFields, ofClock, answered, placeOf, placeAt, settledAt, heldBackAt, placedAt}
-use Rattle.tags.specs.declared.ScopeClock.{ScopeClock}
+use Rattle.tags.specs.Tags.{Tag, Clock, Answer, Shifted, at, maxOffset, maxMicrostep, within, withinClock, sameTag, earlier, delayed, shifted, settled, settledTag, heldBack, heldBackTag, checked, toLocal, toGlobal, globalToLocal, localToGlobal}
+use Rattle.tags.specs.Views.{ofFields, answered, wide, placeOf, placeAt, settledAt, heldBackAt, placedAt}
 use Rattle.tags.specs.declared.Fields.{Fields}
 use Rattle.tags.specs.declared.Settled.{Settled}
 use Rattle.tags.specs.declared.Settled.the-variants as S
 use Rattle.tags.specs.declared.Place.{Place}
-use Rattle.tags.specs.declared.Place.the-variants.{Below, At}
+use Rattle.tags.specs.declared.Place.the-variants.{Below, Beyond, At}
 
 -- ---- limits
 
@@ -55,12 +54,6 @@ clock-L c e = and-left _ _ (and-right (within (c .G)) _ e)
 pub clock-S : (c : Clock) → withinClock c ≡ true → within (c .S) ≡ true
 unfolding withinClock
 clock-S c e = and-right (within (c .L)) _ (and-right (within (c .G)) _ e)
-
-pub own-L : (s : ScopeClock) {r : Bool} → r ≡ withinClock (ofClock s) → not r ≡ false → within (ofLocal (s .«activation_local»)) ≡ true
-own-L s p q = clock-L (ofClock s) (flag-yes p q)
-
-pub own-G : (s : ScopeClock) {r : Bool} → r ≡ withinClock (ofClock s) → not r ≡ false → within (ofGlobal (s .«activation_global»)) ≡ true
-own-G s p q = clock-G (ofClock s) (flag-yes p q)
 
 pub clock-all : (c : Clock) {r : Bool} → within (c .G) ≡ true → within (c .L) ≡ true → r ≡ within (c .S) → r ≡ withinClock c
 unfolding withinClock
@@ -119,13 +112,16 @@ settled-tag p e h k = rw e (simp (within-both _ h k))
 pub settled-below : (p : Place) → p ≡ Below → refused MappedTag ≡ settledAt p
 settled-below p e = rw e
 
+pub settled-beyond : (p : Place) → p ≡ Beyond → refused MappedTag ≡ settledAt p
+settled-beyond p e = rw e
+
 pub settled-offset : (p : Place) {o m : ℕ} → p ≡ At o m → maxOffset < o → refused MappedTag ≡ settledAt p
 settled-offset p {o} {m} e h = rw e (simp (within-not-offset (at o m) h))
 
 pub settled-microstep : (p : Place) {o m : ℕ} → p ≡ At o m → o ≤ maxOffset → maxMicrostep < m → refused MappedTag ≡ settledAt p
 settled-microstep p {o} {m} e h k = rw e (simp (within-not-microstep (at o m) h k))
 
-pub ruleset settles = (settled-tag, settled-below, settled-offset, settled-microstep)
+pub ruleset settles = (settled-tag, settled-below, settled-beyond, settled-offset, settled-microstep)
 
 -- a + (x - b), with its sign
 minus : (n b : ℕ) → pos n -ℤ pos b ≡ subℕ n b
@@ -136,33 +132,63 @@ moved : (a x b : ℕ) → pos a +ℤ (pos x -ℤ pos b) ≡ subℕ (a + x) b
 moved a x b = sym (+ℤ-assoc (pos a) (pos x) (negℤ (pos b))) ∙ minus (a + x) b
 
 module _ (to from x : Tag) where
-  pub shifted-below : to .offset + x .offset < from .offset → Below ≡ placeOf (shifted to from x)
+  pub step-shifted :
+      {m : ℕ} → x .offset ≡ from .offset → from .microstep ≤ x .microstep → m ≡ to .microstep + (x .microstep - from .microstep) → m ≡ shifted to from x .microstep
   unfolding shifted
-  shifted-below h = simp (moved, lt-ltb _ _ h)
+  step-shifted e h = simp (eq-eqb _ _ e, le-leb _ _ h) λ k. k
 
-  pub shifted-step :
-      {k : Place} → from .offset ≤ to .offset + x .offset → x .offset ≡ from .offset → from .microstep ≤ x .microstep →
-      k ≡ At (to .offset + x .offset - from .offset) (to .microstep + (x .microstep - from .microstep)) → k ≡ placeOf (shifted to from x)
+  pub step-apart : {m : ℕ} → (x .offset ≡ from .offset → ⊥) → m ≡ x .microstep → m ≡ shifted to from x .microstep
   unfolding shifted
-  shifted-step h e m = simp (moved, le-ltb _ _ h, eq-eqb _ _ e, le-leb _ _ m) λ k. k
+  step-apart e = simp (ne-eqb _ _ e) λ k. k
 
-  pub shifted-apart :
-      {k : Place} → from .offset ≤ to .offset + x .offset → (x .offset ≡ from .offset → ⊥) →
-      k ≡ At (to .offset + x .offset - from .offset) (x .microstep) → k ≡ placeOf (shifted to from x)
+  pub step-own : {m : ℕ} → x .offset ≡ from .offset → x .microstep < from .microstep → m ≡ x .microstep → m ≡ shifted to from x .microstep
   unfolding shifted
-  shifted-apart h e = simp (moved, le-ltb _ _ h, ne-eqb _ _ e) λ k. k
+  step-own e h = simp (eq-eqb _ _ e, lt-leb _ _ h) λ k. k
 
-  pub shifted-own :
-      {k : Place} → from .offset ≤ to .offset + x .offset → x .offset ≡ from .offset → x .microstep < from .microstep →
-      k ≡ At (to .offset + x .offset - from .offset) (x .microstep) → k ≡ placeOf (shifted to from x)
-  unfolding shifted
-  shifted-own h e m = simp (moved, le-ltb _ _ h, eq-eqb _ _ e, lt-leb _ _ m) λ k. k
+  -- in the code's four cases: L is at or before G's offset, or behind it
+  module _ (h : from .offset ≤ to .offset) where
+    pub shifted-beyond : 18446744073709551615 - (to .offset - from .offset) < x .offset → Beyond ≡ placeOf (shifted to from x)
+    unfolding shifted
+    shifted-beyond b =
+        let l : from .offset ≤ to .offset + x .offset = omega arith in
+        let g : wide ≤ to .offset + x .offset - from .offset = omega arith in
+        simp (moved, le-ltb _ _ l, le-ltb _ _ g)
 
-pub ruleset shifts = (shifted-below, shifted-step, shifted-apart, shifted-own, le-of-lt)
+    pub shifted-ahead :
+        {k : Place} {m : ℕ} → to .offset < wide → x .offset ≤ 18446744073709551615 - (to .offset - from .offset) → m ≡ shifted to from x .microstep →
+        k ≡ At (to .offset - from .offset + x .offset) m → k ≡ placeOf (shifted to from x)
+    unfolding shifted
+    shifted-ahead w b e r =
+        let l : from .offset ≤ to .offset + x .offset = omega arith in
+        let g : to .offset + x .offset - from .offset < wide = omega arith in
+        let q : to .offset - from .offset + x .offset ≡ to .offset + x .offset - from .offset = omega arith in
+        r ∙ rw (q, e) (simp (moved, le-ltb _ _ l, lt-ltb _ _ g))
+
+  module _ (h : to .offset < from .offset) where
+    pub shifted-below : x .offset < from .offset - to .offset → Below ≡ placeOf (shifted to from x)
+    unfolding shifted
+    shifted-below b = let l : to .offset + x .offset < from .offset = omega arith in simp (moved, lt-ltb _ _ l)
+
+    pub shifted-behind :
+        {k : Place} {m : ℕ} → x .offset < wide → from .offset - to .offset ≤ x .offset → m ≡ shifted to from x .microstep →
+        k ≡ At (x .offset - (from .offset - to .offset)) m → k ≡ placeOf (shifted to from x)
+    unfolding shifted
+    shifted-behind w b e r =
+        let l : from .offset ≤ to .offset + x .offset = omega arith in
+        let g : to .offset + x .offset - from .offset < wide = omega arith in
+        let q : x .offset - (from .offset - to .offset) ≡ to .offset + x .offset - from .offset = omega arith in
+        r ∙ rw (q, e) (simp (moved, le-ltb _ _ l, lt-ltb _ _ g))
+
+pub ruleset shifts = (shifted-beyond, shifted-ahead, shifted-below, shifted-behind)
+
+pub ruleset steps = (step-shifted, step-apart, step-own)
 
 module _ (G : Tag) (allowed : Bool) (p : Place) {a : Answer} where
   pub placed-below : p ≡ Below → a ≡ delayed G → a ≡ placedAt G allowed p
   placed-below e h = rw e h
+
+  pub placed-beyond : p ≡ Beyond → a ≡ refused MappedTag → a ≡ placedAt G allowed p
+  placed-beyond e h = rw e h
 
   pub placed-held : {o m : ℕ} → p ≡ At o m → heldBackAt G allowed o m ≡ true → a ≡ delayed G → a ≡ placedAt G allowed p
   placed-held e t h = rw e (simp t h)
@@ -170,20 +196,50 @@ module _ (G : Tag) (allowed : Bool) (p : Place) {a : Answer} where
   pub placed-late : {o m : ℕ} → p ≡ At o m → heldBackAt G allowed o m ≡ false → a ≡ settledAt (At o m) → a ≡ placedAt G allowed p
   placed-late e t h = rw e (simp t h)
 
-pub ruleset places = (placed-below, placed-held, placed-late, flag)
+pub ruleset places = (placed-below, placed-beyond, placed-held, placed-late, flag)
 
 -- what the code keeps of a place is all that matters
+past-limit : (o m : ℕ) → wide ≤ o → within (at o m) ≡ false
+past-limit o m h = within-not-offset (at o m) (omega arith)
+
+settled-pos : (o m : ℕ) (b : Bool) → ltb o wide ≡ b → settledAt (cond b (At o m) Beyond) ≡ settledTag (pos o) m
+settled-pos o m true e = refl
+settled-pos o m false e = simp (past-limit o m (ltb-false _ _ e))
+
 settled-place : (o : ℤ) (m : ℕ) → settledAt (placeAt o m) ≡ settledTag o m
-settled-place (pos o) m = refl
+settled-place (pos o) m = settled-pos o m (ltb o wide) refl
 settled-place (negsuc o) m = refl
 
-placed-place : (G : Tag) (allowed : Bool) (o : ℤ) (m : ℕ) → placedAt G allowed (placeAt o m) ≡ cond (heldBackTag G allowed o m) (delayed G) (settledTag o m)
-placed-place G allowed (pos o) m = refl
-placed-place G allowed (negsuc o) m = refl
+late-place : (G : Tag) (allowed : Bool) (o m : ℕ) → G .offset < wide → wide ≤ o → heldBackTag G allowed (pos o) m ≡ false
+unfolding earlier sameTag
+late-place G allowed o m g h =
+    let l : G .offset < o = omega arith in
+    simp (gt-ltb _ _ l, gt-eqb _ _ l)
+
+placed-pos : (G : Tag) (allowed : Bool) (o m : ℕ) (b : Bool) → G .offset < wide → ltb o wide ≡ b →
+    placedAt G allowed (cond b (At o m) Beyond) ≡ cond (heldBackTag G allowed (pos o) m) (delayed G) (settledTag (pos o) m)
+placed-pos G allowed o m true g e = refl
+placed-pos G allowed o m false g e = let h = ltb-false _ _ e in simp (late-place G allowed o m g h, past-limit o m h)
+
+placed-place : (G : Tag) (allowed : Bool) (o : ℤ) (m : ℕ) → G .offset < wide →
+    placedAt G allowed (placeAt o m) ≡ cond (heldBackTag G allowed o m) (delayed G) (settledTag o m)
+placed-place G allowed (pos o) m g = placed-pos G allowed o m (ltb o wide) g refl
+placed-place G allowed (negsuc o) m g = refl
 
 -- ---- the maps
 
 module _ (c : Clock) (g : Tag) where
+  pub local-level : sameTag (c .G) (c .L) ≡ true → done g ≡ toLocal c g
+  unfolding toLocal
+  local-level s = simp s
+
+  pub local-shifted :
+      {p : Place} {b a : Answer} → sameTag (c .G) (c .L) ≡ false → p ≡ placeOf (shifted (c .L) (c .G) g) → b ≡ settledAt p → a ≡ b → a ≡ toLocal c g
+  unfolding toLocal
+  local-shifted s e h k =
+      let u = shifted (c .L) (c .G) g in
+      simp s (k ∙ h ∙ ap settledAt e ∙ settled-place (u .offset) (u .microstep))
+
   pub local-11 : withinClock c ≡ false → refused StateRule ≡ globalToLocal c g
   unfolding globalToLocal checked
   local-11 w = simp w
@@ -192,21 +248,25 @@ module _ (c : Clock) (g : Tag) where
   unfolding globalToLocal checked
   local-6 w t = simp (w, t)
 
-  pub local-level : withinClock c ≡ true → within g ≡ true → sameTag (c .G) (c .L) ≡ true → done g ≡ globalToLocal c g
-  unfolding globalToLocal checked toLocal
-  local-level w t s = simp (w, t, s)
+  pub local-checked : {a : Answer} → withinClock c ≡ true → within g ≡ true → a ≡ toLocal c g → a ≡ globalToLocal c g
+  unfolding globalToLocal checked
+  local-checked w t h = simp (w, t) h
 
-  pub local-shifted :
-      {p : Place} {b a : Answer} → withinClock c ≡ true → within g ≡ true → sameTag (c .G) (c .L) ≡ false →
-      p ≡ placeOf (shifted (c .L) (c .G) g) → b ≡ settledAt p → a ≡ b → a ≡ globalToLocal c g
-  unfolding globalToLocal checked toLocal
-  local-shifted w t s e h k =
-      let u = shifted (c .L) (c .G) g in
-      simp (w, t, s) (k ∙ h ∙ ap settledAt e ∙ settled-place (u .offset) (u .microstep))
-
-pub ruleset locals = (local-11, local-6, local-level, local-shifted, flag, flag-no, flag-yes)
+pub ruleset locals = (local-level, local-shifted, local-11, local-6, local-checked, flag, flag-no, flag-yes)
 
 module _ (c : Clock) (x : Tag) where
+  pub global-identity : (sameTag (c .G) (c .L) && c .allowed) ≡ true → done x ≡ toGlobal c x
+  unfolding toGlobal
+  global-identity s = simp s
+
+  pub global-shifted :
+      {p : Place} {b a : Answer} → c .G .offset < wide → (sameTag (c .G) (c .L) && c .allowed) ≡ false → p ≡ placeOf (shifted (c .G) (c .L) x) →
+      b ≡ placedAt (c .G) (c .allowed) p → a ≡ b → a ≡ toGlobal c x
+  unfolding toGlobal
+  global-shifted g s e h k =
+      let u = shifted (c .G) (c .L) x in
+      simp s (k ∙ h ∙ ap (placedAt (c .G) (c .allowed)) e ∙ placed-place (c .G) (c .allowed) (u .offset) (u .microstep) g)
+
   pub global-11 : withinClock c ≡ false → refused StateRule ≡ localToGlobal c x
   unfolding localToGlobal checked
   global-11 w = simp w
@@ -215,16 +275,8 @@ module _ (c : Clock) (x : Tag) where
   unfolding localToGlobal checked
   global-6 w t = simp (w, t)
 
-  pub global-identity : withinClock c ≡ true → within x ≡ true → (sameTag (c .G) (c .L) && c .allowed) ≡ true → done x ≡ localToGlobal c x
-  unfolding localToGlobal checked toGlobal
-  global-identity w t s = simp (w, t, s)
+  pub global-checked : {a : Answer} → withinClock c ≡ true → within x ≡ true → a ≡ toGlobal c x → a ≡ localToGlobal c x
+  unfolding localToGlobal checked
+  global-checked w t h = simp (w, t) h
 
-  pub global-shifted :
-      {p : Place} {b a : Answer} → withinClock c ≡ true → within x ≡ true → (sameTag (c .G) (c .L) && c .allowed) ≡ false →
-      p ≡ placeOf (shifted (c .G) (c .L) x) → b ≡ placedAt (c .G) (c .allowed) p → a ≡ b → a ≡ localToGlobal c x
-  unfolding localToGlobal checked toGlobal
-  global-shifted w t s e h k =
-      let u = shifted (c .G) (c .L) x in
-      simp (w, t, s) (k ∙ h ∙ ap (placedAt (c .G) (c .allowed)) e ∙ placed-place (c .G) (c .allowed) (u .offset) (u .microstep))
-
-pub ruleset globals = (global-11, global-6, global-identity, global-shifted, flag, flag-no, flag-yes)
+pub ruleset globals = (global-identity, global-shifted, global-11, global-6, global-checked, flag, flag-no, flag-yes)

@@ -1,6 +1,7 @@
 -- The code's values as document 01's: one line for each type, and what the code's steps between mean. Assumes nothing.
 use Prim.Native.Nat.{ℕ}
 use mathlib.Core.Bool.{Bool, true, false, cond}
+use lib.Dec.{ltb}
 use lib.IntN.{ℤ, pos, negsuc}
 use Rattle.lists.specs.Walk.{Result, done, refused}
 use Rattle.refusals.specs.declared.Refusal.the-variants.{MappedTag}
@@ -19,7 +20,7 @@ use Rattle.tags.specs.declared.MappedLocal.the-variants as ML
 use Rattle.tags.specs.declared.Settled.{Settled}
 use Rattle.tags.specs.declared.Settled.the-variants as S
 use Rattle.tags.specs.declared.Place.{Place}
-use Rattle.tags.specs.declared.Place.the-variants.{Below, At}
+use Rattle.tags.specs.declared.Place.the-variants.{Below, Beyond, At}
 use Rattle.tags.specs.Tags.{Tag, Clock, Answer, Shifted, at, delayed, settledTag, heldBackTag}
 
 abbrev pub ofGlobal : GlobalTag → Tag
@@ -62,10 +63,13 @@ abbrev pub answered : Settled → Answer
 answered (S.Tag t) = done (ofFields t)
 answered (S.Refused n) = refused n
 
--- ---- places: below zero all are alike
+-- ---- places: below zero all are alike, and so are all that 64 bits don't hold
+
+abbrev pub wide : ℕ
+wide = 18446744073709551616
 
 abbrev pub placeAt : ℤ → ℕ → Place
-placeAt (pos o) m = At o m
+placeAt (pos o) m = cond (ltb o wide) (At o m) Beyond
 placeAt (negsuc o) m = Below
 
 abbrev pub placeOf : Shifted → Place
@@ -74,6 +78,7 @@ placeOf p = placeAt (p .offset) (p .microstep)
 -- the final tag of a place, whether it is held back, and what it becomes
 abbrev pub settledAt : Place → Answer
 settledAt (At o m) = settledTag (pos o) m
+settledAt Beyond = refused MappedTag
 settledAt Below = refused MappedTag
 
 abbrev pub heldBackAt : Tag → Bool → ℕ → ℕ → Bool
@@ -81,4 +86,5 @@ heldBackAt G allowed o m = heldBackTag G allowed (pos o) m
 
 abbrev pub placedAt : Tag → Bool → Place → Answer
 placedAt G allowed (At o m) = cond (heldBackAt G allowed o m) (delayed G) (settledAt (At o m))
+placedAt G allowed Beyond = refused MappedTag
 placedAt G allowed Below = delayed G

@@ -2,7 +2,7 @@
 // Carried over from boomerang_runtime's time.rs (`Tag`) and sched/modal.rs (`ScopeClockState`, both maps).
 ghost use mathlib.Core.Path.{_≡_};
 ghost use mathlib.Core.Bool.{true, _&&_};
-ghost use Rattle.tags.specs.Tags.{within, sameTag, earlier, delayed, shifted, withinClock, globalToLocal, localToGlobal, freshClock};
+ghost use Rattle.tags.specs.Tags.{within, sameTag, earlier, delayed, shifted, withinClock, toLocal, toGlobal, globalToLocal, localToGlobal, freshClock};
 ghost use Rattle.tags.specs.Views.{ofGlobal, ofLocal, ofFields, ofClock, answered, delayedGlobal, delayedLocal, mappedGlobal, mappedLocal, placeOf, settledAt, heldBackAt, placedAt};
 use refusals::Refusal;
 
@@ -52,9 +52,10 @@ pub struct ScopeClock {
 // The fields of a tag of either scale.
 struct Fields(u64, u32);
 
-// A place on a scale before its limits are looked at: below zero, or an offset and a microstep.
+// A place on a scale before its limits are looked at: below zero, beyond 64 bits, or an offset and a microstep.
 enum Place {
     Below,
+    Beyond,
     At(u64, u64),
 }
 
@@ -103,23 +104,36 @@ fn delay(t: Fields) -> Settled
     }
 }
 
-// to + (x - from), with its sign.
-fn shift(to: Fields, from: Fields, x: Fields) -> Place
-    requires { ⌜ (within (ofFields to) ≡ true) × (within (ofFields x) ≡ true) ⌝ }
-    ensures { λ r. ⌜ r ≡ placeOf (shifted (ofFields to) (ofFields from) (ofFields x)) ⌝ }
+// to + (x - from) of the microstep, where x has from's offset and at least its microstep; else x's own.
+fn shifted_step(to: Fields, from: Fields, x: Fields) -> u64
+    ensures { λ r. ⌜ r ≡ shifted (ofFields to) (ofFields from) (ofFields x) .microstep ⌝ }
 {
-    let sum = to.0 + x.0;
-    if sum < from.0 {
-        return Place::Below;
-    }
-    let offset = sum - from.0;
     let own = x.1 as u64;
     if x.0 == from.0 {
         if from.1 <= x.1 {
-            return Place::At(offset, (to.1 as u64) + ((x.1 - from.1) as u64));
+            return (to.1 as u64) + ((x.1 - from.1) as u64);
         }
     }
-    Place::At(offset, own)
+    own
+}
+
+// to + (x - from), with its sign.
+fn shift(to: Fields, from: Fields, x: Fields) -> Place
+    ensures { λ r. ⌜ r ≡ placeOf (shifted (ofFields to) (ofFields from) (ofFields x)) ⌝ }
+{
+    let step = shifted_step(to, from, x);
+    if from.0 <= to.0 {
+        let ahead = to.0 - from.0;
+        if 18446744073709551615 - ahead < x.0 {
+            return Place::Beyond;
+        }
+        return Place::At(ahead + x.0, step);
+    }
+    let behind = from.0 - to.0;
+    if x.0 < behind {
+        return Place::Below;
+    }
+    Place::At(x.0 - behind, step)
 }
 
 // A place as a tag, or 7.
@@ -128,6 +142,7 @@ fn settle(p: Place) -> Settled
 {
     match p {
         Place::Below => Settled::Refused(Refusal::MappedTag),
+        Place::Beyond => Settled::Refused(Refusal::MappedTag),
         Place::At(offset, microstep) => {
             if offset <= LAST_OFFSET {
                 if microstep <= LAST_MICROSTEP as u64 {
@@ -165,6 +180,7 @@ fn hold_back(g: Fields, allowed: bool, p: Place) -> Settled
 {
     match p {
         Place::Below => delay(g),
+        Place::Beyond => Settled::Refused(Refusal::MappedTag),
         Place::At(offset, microstep) => {
             if is_held_back(g, allowed, offset, microstep) {
                 delay(g)
@@ -315,6 +331,32 @@ impl ScopeClock {
         if self.is_level() { self.allowed } else { false }
     }
 
+    // Global g to local, of a clock and a tag that are not looked at.
+    pub fn to_local(self, g: GlobalTag) -> MappedLocal
+        ensures { λ r. ⌜ mappedLocal r ≡ toLocal (ofClock self) (ofGlobal g) ⌝ }
+    {
+        if self.is_level() {
+            return MappedLocal::Tag(LocalTag(g.0, g.1));
+        }
+        let from = self.activation_global;
+        let to = self.activation_local;
+        let p = shift(Fields(to.0, to.1), Fields(from.0, from.1), Fields(g.0, g.1));
+        as_local(settle(p))
+    }
+
+    // Local x to global, of a clock and a tag that are not looked at.
+    pub fn to_global(self, x: LocalTag) -> MappedGlobal
+        ensures { λ r. ⌜ mappedGlobal r ≡ toGlobal (ofClock self) (ofLocal x) ⌝ }
+    {
+        if self.is_identity() {
+            return MappedGlobal::Tag(GlobalTag(x.0, x.1));
+        }
+        let to = self.activation_global;
+        let from = self.activation_local;
+        let p = shift(Fields(to.0, to.1), Fields(from.0, from.1), Fields(x.0, x.1));
+        as_global(hold_back(Fields(to.0, to.1), self.allowed, p))
+    }
+
     pub fn global_to_local(self, g: GlobalTag) -> MappedLocal
         ensures { λ r. ⌜ mappedLocal r ≡ globalToLocal (ofClock self) (ofGlobal g) ⌝ }
     {
@@ -324,13 +366,7 @@ impl ScopeClock {
         if !g.within() {
             return MappedLocal::Refused(Refusal::ArgumentTag);
         }
-        if self.is_level() {
-            return MappedLocal::Tag(LocalTag(g.0, g.1));
-        }
-        let from = self.activation_global;
-        let to = self.activation_local;
-        let p = shift(Fields(to.0, to.1), Fields(from.0, from.1), Fields(g.0, g.1));
-        as_local(settle(p))
+        self.to_local(g)
     }
 
     pub fn local_to_global(self, x: LocalTag) -> MappedGlobal
@@ -342,12 +378,6 @@ impl ScopeClock {
         if !x.within() {
             return MappedGlobal::Refused(Refusal::ArgumentTag);
         }
-        if self.is_identity() {
-            return MappedGlobal::Tag(GlobalTag(x.0, x.1));
-        }
-        let to = self.activation_global;
-        let from = self.activation_local;
-        let p = shift(Fields(to.0, to.1), Fields(from.0, from.1), Fields(x.0, x.1));
-        as_global(hold_back(Fields(to.0, to.1), self.allowed, p))
+        self.to_global(x)
     }
 }

@@ -7,14 +7,17 @@ use Rattle.tags.proofs.settle.Tie as tie
 enum-told : tie.Need-enum-told
 enum-told c = search needs
 
+enum-told-2 : tie.Need-enum-told-2
+enum-told-2 c = search needs
+
 enum-known-p : tie.Need-enum-known-p
 enum-known-p c = search needs
 
 cast-if2 : tie.Need-cast-if2
 cast-if2 c = search needs
 
-cast-t9 : tie.Need-cast-t9
-cast-t9 c = search needs
+cast-t10 : tie.Need-cast-t10
+cast-t10 c = search needs
 
 returns : tie.Need-returns
 returns c = search settles
@@ -28,7 +31,20 @@ returns-3 c = search settles
 returns-4 : tie.Need-returns-4
 returns-4 c = search settles
 
+returns-5 : tie.Need-returns-5
+returns-5 c = search settles
+
 pub settle-spec : {M : Type 1} → statement M
 settle-spec =
     tie.close
-    (tie.spec enum-told enum-known-p cast-if2 cast-t9 returns returns-2 returns-3 returns-4)
+    (tie.spec
+    enum-told
+    enum-told-2
+    enum-known-p
+    cast-if2
+    cast-t10
+    returns
+    returns-2
+    returns-3
+    returns-4
+    returns-5)
