@@ -5,3 +5,4 @@ pub mod Walk
 pub mod Lay
 pub mod Rows
 pub mod Held
+pub mod Ranges

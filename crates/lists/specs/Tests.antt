@@ -2,7 +2,7 @@
 use Prim.Native.Nat.{ℕ, _<_, _≤_}
 use mathlib.Core.Path.{_≡_, refl, sym, _∙_}
 use mathlib.Core.Bool.{Bool, true, false, not, _&&_, _||_}
-use mathlib.Core.Logic.{_⊎_, inl, inr}
+use mathlib.Core.Logic.{_⊎_, inl, inr, ⊎-elim}
 use lib.Dec.{T, ltb, leb, eqb}
 use native.Mathlib.Nat.{le-of-lt}
 use native.Mathlib.Omega.{arith}
@@ -86,3 +86,29 @@ apart j k e = go (ltb j k) refl
     go : (b : Bool) → ltb j k ≡ b → (j < k) ⊎ (k < j)
     go true h = inl (ltb-true j k h)
     go false h = inr (let g = ltb-false j k h in omega arith)
+
+pub which : (b : Bool) → (b ≡ true) ⊎ (b ≡ false)
+which true = inl refl
+which false = inr refl
+
+pub below? : (a b : ℕ) → (a < b) ⊎ (b ≤ a)
+below? a b = ⊎-elim (λ e. inl (ltb-true a b e)) (λ e. inr (ltb-false a b e)) (which (ltb a b))
+
+pub yes-no : {b : Bool} → b ≡ true → b ≡ false → ⊥
+yes-no p q = let z : _≡_ {A = ℕ} 0 1 = cc in omega arith
+
+pub and-no : (b : Bool) → (b && false) ≡ false
+and-no true = refl
+and-no false = refl
+
+pub and-yes : (b : Bool) → (b && true) ≡ b
+and-yes true = refl
+and-yes false = refl
+
+pub or-no : (b : Bool) → (b || false) ≡ b
+or-no true = refl
+or-no false = refl
+
+pub or-yes : (b : Bool) → (b || true) ≡ true
+or-yes true = refl
+or-yes false = refl

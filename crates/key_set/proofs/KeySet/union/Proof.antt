@@ -1,0 +1,72 @@
+-- `key_set::KeySet::union` meets its contract: each word passed holds the keys of both. Assumes nothing.
+use mathlib.Core.Path.{_≡_, sym, _∙_}
+use Prim.Native.Nat.{_-_}
+use native.Mathlib.Omega.{arith}
+use lib.ListN.{length}
+use borrow.Author.Needs.{needs}
+use Rattle.key_set.specs.Sets.{wordCount}
+use Rattle.key_set.proofs.Laws.{Merged, merged-none, merged-more, merged-all}
+use Rattle.key_set.proofs.KeySet.union.Statement.{statement}
+use Rattle.key_set.proofs.KeySet.union.Tie as tie
+
+abbrev Inv-loop : tie.InvT-loop
+Inv-loop other next₀ i₀ next i = Merged (next₀ .words) (other .words) (next .words) i
+
+abbrev μ-loop : tie.MeasureT-loop
+μ-loop other next₀ i₀ next i = wordCount - i
+
+loop-holds : tie.Need-loop-holds Inv-loop μ-loop
+loop-holds c = merged-none _ _
+
+mul-a : tie.Need-mul-a Inv-loop μ-loop
+mul-a c = search needs
+
+element-copy-out-a : tie.Need-element-copy-out-a Inv-loop μ-loop
+element-copy-out-a c = search needs
+
+mul-b : tie.Need-mul-b Inv-loop μ-loop
+mul-b c = search needs
+
+element-copy-out-b : tie.Need-element-copy-out-b Inv-loop μ-loop
+element-copy-out-b c = search needs
+
+mul-next : tie.Need-mul-next Inv-loop μ-loop
+mul-next c = search needs
+
+element-write-next : tie.Need-element-write-next Inv-loop μ-loop
+element-write-next c = search needs
+
+add-i : tie.Need-add-i Inv-loop μ-loop
+add-i c = search needs
+
+loop-less : tie.Need-loop-less Inv-loop μ-loop
+loop-less c = omega arith
+
+loop-again : tie.Need-loop-again Inv-loop μ-loop
+loop-again c =
+    let l : length (c .before .before .before .before .args .self .words) ≡ wordCount = search needs in
+    merged-more _ _ _ _ (c .before .before .before .loop .inv) (omega arith)
+
+returns : tie.Need-returns Inv-loop μ-loop
+returns c =
+    let l : length (c .before .before .args .self .words) ≡ wordCount = search needs in
+    let m : length (c .before .before .args .t2 .words) ≡ wordCount = search needs in
+    merged-all _ _ _ _ (l ∙ sym m) (omega arith) (c .before .loop .inv)
+
+pub union-spec : {M : Type 1} → statement M
+union-spec =
+    tie.close
+    (tie.spec
+    Inv-loop
+    μ-loop
+    loop-holds
+    mul-a
+    element-copy-out-a
+    mul-b
+    element-copy-out-b
+    mul-next
+    element-write-next
+    add-i
+    loop-less
+    loop-again
+    returns)
