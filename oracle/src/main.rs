@@ -41,6 +41,7 @@ oracle map SEED COUNT SCRIPT ANSWERS            clock maps with the Rust's answe
 oracle store SEED COUNT SCRIPT ANSWERS          store calls
 oracle store exhaustive DEPTH SCRIPT ANSWERS    all short scripts of store calls
 oracle walk SEED COUNT SCRIPT ANSWERS           level walks
+oracle table SEED COUNT SCRIPT ANSWERS          images with 01's answers
 oracle time DAY REPEAT [ANSWERS]    the day in the Rust alone, nanoseconds a record
 oracle selftest DIR                 recorded days, and wrong answers that must be caught
 oracle sweep FROM TO [KIND]         made days on both sides, seeds FROM to TO - 1
@@ -121,6 +122,11 @@ fn run(words: &[&str]) -> Result<(), Failure> {
         }
         ["store", seed, count, script, answers] => {
             let written = scripts::store::write(number(seed)?, number(count)? as usize)
+                .map_err(Difference)?;
+            save(written, script, answers)?;
+        }
+        ["table", seed, count, script, answers] => {
+            let written = scripts::table::write(number(seed)?, number(count)? as usize)
                 .map_err(Difference)?;
             save(written, script, answers)?;
         }

@@ -6,3 +6,4 @@ pub mod Lay
 pub mod Rows
 pub mod Held
 pub mod Ranges
+pub mod Steps

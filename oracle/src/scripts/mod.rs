@@ -1,8 +1,9 @@
-//! Scripts of single functions with the Rust's answers, for the harness: clock maps, stores and level walks.
+//! Scripts of single functions with the Rust's answers, for the harness: clock maps, stores, level walks and images.
 //! Each module says its format at its top. All numbers are big-endian.
 
 pub mod map;
 pub mod store;
+pub mod table;
 pub mod walk;
 
 use crate::image::RawTag;

@@ -1,0 +1,56 @@
+-- Laws of the image's bytes, kinds and rows, in the form that the code meets them. Assumes nothing.
+use mathlib.Core.Path.{_≡_, sym}
+use mathlib.Core.Bool.{Bool}
+use Prim.Native.Nat.{ℕ, _+_, _-_, _*_, _^_, _≤_, _<_}
+use native.Mathlib.Numerals.{add-one}
+use native.Mathlib.Nat.{mul-le-mul, le-of-lt, pow-le-pow-right}
+use native.Mathlib.Omega.{arith}
+use lib.Dec.{leb, leb→le, lit<}
+use lib.ListN.{length, getD, List·getD-eq-default}
+use Rattle.lists.specs.Lists.{every, entry-at}
+use Rattle.rows.specs.Bytes.{Image, be, be-room}
+use Rattle.rows.specs.Kinds.{kind, kinds, widest, kindOf, count, place}
+use Rattle.rows.specs.Rows.{rowPlace, field}
+use Rattle.rows.specs.declared.Kind.{Kind}
+
+-- past the end stand zeros
+module _ (s : Image) (at k : ℕ) where
+  pub past : length s ≤ at → 0 ≡ getD s (at + k) 0
+  past h = sym (List·getD-eq-default s 0 (omega arith))
+
+  pub past-end : length s - at ≤ k → 0 ≡ getD s (at + k) 0
+  past-end h = sym (List·getD-eq-default s 0 (omega arith))
+
+-- eight bytes fit
+pub be-fits : (k w n b : ℕ) → n < 256 ^ k → b < 256 → k < w → w ≤ 8 → n * 256 + b < 2 ^ 64
+be-fits k w n b h l m e = let top : k + 1 ≤ 8 = omega arith in omega (arith, be-room k n b h l, pow-le-pow-right {n = 256} (lit< tt) top)
+
+thin : Kind → Bool
+thin q = leb (q .width) widest
+
+pub width-le : (k : ℕ) → kindOf k .width ≤ widest
+unfolding kinds kindOf thin every
+width-le k = leb→le (kindOf k .width) widest (entry-at thin kinds (kind 0 0 0) tt tt k)
+
+-- no kind past the nine has rows
+pub kind-past : (k : ℕ) → length kinds ≤ k → kind 0 0 0 ≡ kindOf k
+unfolding kindOf
+kind-past k h = sym (List·getD-eq-default kinds (kind 0 0 0) h)
+
+-- the rows of one kind, of which a count of two bytes says how many
+pub rows-le : (n w : ℕ) → n < 2 ^ 16 → w ≤ widest → n * w ≤ 2 ^ 16 * widest
+rows-le n w hn hw = omega (arith, mul-le-mul (le-of-lt hn) hw)
+
+-- one kind further
+pub place-next : (s : Image) (j at n : ℕ) (q : Kind) → at ≡ place s j → n ≡ count s j → q ≡ kindOf j → at + n * q .width ≡ place s (j + 1)
+unfolding place
+place-next s j at n q a b c = rw add-one (simp (a, b, c))
+
+pub row-sum : (s : Image) (k i at : ℕ) (q : Kind) → at ≡ place s k → q ≡ kindOf k → at + i * q .width ≡ rowPlace s k i
+unfolding rowPlace
+row-sum s k i at q a b = simp (a, b)
+
+-- a field read at its row's place
+pub field-at : (w : ℕ) (s : Image) (k i off : ℕ) {at r : ℕ} → at ≡ rowPlace s k i + off → r ≡ be w s at → r ≡ field w s k i off
+unfolding field
+field-at w s k i off e h = rw (← e) h

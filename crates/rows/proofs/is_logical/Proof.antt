@@ -1,0 +1,16 @@
+-- `rows::is_logical` meets its contract. Assumes nothing.
+use Rattle.lists.specs.Steps.{chains}
+use Rattle.rows.specs.Rows.{isLogical}
+use borrow.Author.Needs.{needs}
+use Rattle.rows.proofs.is_logical.Statement.{statement}
+use Rattle.rows.proofs.is_logical.Tie as tie
+
+logical-requires : tie.Need-logical-requires
+logical-requires c κs = search needs
+
+returns : tie.Need-returns
+unfolding isLogical
+returns c = search chains
+
+pub is-logical-spec : {M : Type 1} → statement M
+is-logical-spec = tie.close (tie.spec logical-requires returns)

@@ -1,0 +1,71 @@
+-- `rows::place` meets its contract: with each kind the place is one kind further. Assumes nothing.
+use Prim.Native.Nat.{_+_, _*_, _-_, _^_, _≤_}
+use mathlib.Core.Path.{_≡_, refl, ap, _∙_}
+use native.Mathlib.Nat.{le-antisymm}
+use native.Mathlib.Omega.{arith}
+use borrow.Author.Needs.{needs}
+use Rattle.rows.specs.Kinds.{headBytes, widest, place}
+use Rattle.rows.proofs.Laws.{rows-le, place-next}
+use Rattle.rows.proofs.place.Statement.{statement}
+use Rattle.rows.proofs.place.Tie as tie
+
+abbrev Inv-loop : tie.InvT-loop
+Inv-loop image k at₀ j₀ at j = (j ≤ k) × (at ≡ place image j) × (at ≤ headBytes + j * (2 ^ 16 * widest))
+
+abbrev μ-loop : tie.MeasureT-loop
+μ-loop image k at₀ j₀ at j = k - j
+
+loop-holds : tie.Need-loop-holds Inv-loop μ-loop
+unfolding place
+loop-holds c = (search needs, refl, search needs)
+
+kind-at-requires : tie.Need-kind-at-requires Inv-loop μ-loop
+kind-at-requires c κs = search needs
+
+count-requires : tie.Need-count-requires Inv-loop μ-loop
+count-requires c κs = search needs
+
+cast-rows : tie.Need-cast-rows Inv-loop μ-loop
+cast-rows c = search needs
+
+mul-at : tie.Need-mul-at Inv-loop μ-loop
+mul-at c =
+    omega (arith, rows-le (c .before .count .result) (c .before .before .kind-at .result .width) (omega arith) (c .before .before .kind-at .ensures .1))
+
+add-at : tie.Need-add-at Inv-loop μ-loop
+add-at c =
+    omega (arith, rows-le (c .before .count .result) (c .before .before .kind-at .result .width) (omega arith) (c .before .before .kind-at .ensures .1))
+
+add-j : tie.Need-add-j Inv-loop μ-loop
+add-j c = search needs
+
+loop-less : tie.Need-loop-less Inv-loop μ-loop
+loop-less c = search needs
+
+loop-again : tie.Need-loop-again Inv-loop μ-loop
+loop-again c =
+    let kind = c .before .before .kind-at in (
+      search needs,
+      place-next _ _ _ _ _ (c .before .before .before .before .loop .inv .1) (c .before .count .ensures) (kind .ensures .0),
+      omega (arith, rows-le (c .before .count .result) (kind .result .width) (omega arith) (kind .ensures .1)),
+    )
+
+returns : tie.Need-returns Inv-loop μ-loop
+returns c = (c .before .loop .inv .1 ∙ ap (place _) (le-antisymm (c .before .loop .inv .0) (c .loop-test .left)), omega arith)
+
+pub place-spec : {M : Type 1} → statement M
+place-spec =
+    tie.close
+    (tie.spec
+    Inv-loop
+    μ-loop
+    loop-holds
+    kind-at-requires
+    count-requires
+    cast-rows
+    mul-at
+    add-at
+    add-j
+    loop-less
+    loop-again
+    returns)

@@ -1,0 +1,5 @@
+pub mod Bytes
+pub mod Kinds
+pub mod Rows
+pub mod Lineage
+pub mod Examples

@@ -1,0 +1,15 @@
+-- `schedule::startups` meets its contract. Assumes nothing.
+use Rattle.schedule.specs.Schedule.{startupsOf}
+use borrow.Author.Needs.{needs}
+use Rattle.schedule.proofs.startups.Statement.{statement}
+use Rattle.schedule.proofs.startups.Tie as tie
+
+reactions-of-requires : tie.Need-reactions-of-requires
+reactions-of-requires c κs = search needs
+
+returns : tie.Need-returns
+unfolding startupsOf
+returns c = c .reactions-of .ensures
+
+pub startups-spec : {M : Type 1} → statement M
+startups-spec = tie.close (tie.spec reactions-of-requires returns)

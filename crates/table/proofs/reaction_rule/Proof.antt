@@ -1,0 +1,16 @@
+-- `table::reaction_rule` meets its contract. Assumes nothing.
+use Rattle.lists.specs.Steps.{chains}
+use Rattle.table.specs.Rules.{reactionRule}
+use borrow.Author.Needs.{needs}
+use Rattle.table.proofs.reaction_rule.Statement.{statement}
+use Rattle.table.proofs.reaction_rule.Tie as tie
+
+level-requires : tie.Need-level-requires
+level-requires c κs = search needs
+
+returns : tie.Need-returns
+unfolding reactionRule
+returns c = search chains
+
+pub reaction-rule-spec : {M : Type 1} → statement M
+reaction-rule-spec = tie.close (tie.spec level-requires returns)

@@ -1,0 +1,24 @@
+-- `table::wrong_length` meets its contract. Assumes nothing.
+use Rattle.table.proofs.Laws.{lengths}
+use borrow.Author.Needs.{needs}
+use Rattle.table.proofs.wrong_length.Statement.{statement}
+use Rattle.table.proofs.wrong_length.Tie as tie
+
+returns : tie.Need-returns
+returns c = search lengths
+
+four-bytes-requires : tie.Need-four-bytes-requires
+four-bytes-requires c κs = search needs
+
+cast-result : tie.Need-cast-result
+cast-result c = search needs
+
+add-result : tie.Need-add-result
+add-result c = search needs
+
+returns-2 : tie.Need-returns-2
+returns-2 c = search lengths
+
+pub wrong-length-spec : {M : Type 1} → statement M
+wrong-length-spec =
+    tie.close (tie.spec returns four-bytes-requires cast-result add-result returns-2)

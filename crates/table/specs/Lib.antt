@@ -1,0 +1,3 @@
+pub mod Rules
+pub mod Check
+pub mod Table
