@@ -40,6 +40,7 @@ oracle make SEED KIND               a made day
 oracle map SEED COUNT SCRIPT ANSWERS            clock maps with the Rust's answers
 oracle store SEED COUNT SCRIPT ANSWERS          store calls
 oracle store exhaustive DEPTH SCRIPT ANSWERS    all short scripts of store calls
+oracle store-compare SCRIPT ANSWERS OURS        another program's answers to store calls
 oracle walk SEED COUNT SCRIPT ANSWERS           level walks
 oracle table SEED COUNT SCRIPT ANSWERS          images with 01's answers
 oracle time DAY REPEAT [ANSWERS]    the day in the Rust alone, nanoseconds a record
@@ -124,6 +125,12 @@ fn run(words: &[&str]) -> Result<(), Failure> {
             let written = scripts::store::write(number(seed)?, number(count)? as usize)
                 .map_err(Difference)?;
             save(written, script, answers)?;
+        }
+        ["store-compare", script, answers, ours] => {
+            let words =
+                scripts::store_compare::compare(&read(script)?, &read(answers)?, &read(ours)?)
+                    .map_err(Difference)?;
+            writeln!(out, "{words}")?;
         }
         ["table", seed, count, script, answers] => {
             let written = scripts::table::write(number(seed)?, number(count)? as usize)

@@ -7,3 +7,8 @@ pub mod Rows
 pub mod Held
 pub mod Ranges
 pub mod Steps
+pub mod Loops
+pub mod Marks
+pub mod Changes
+pub mod Every
+pub mod Each

@@ -1,7 +1,7 @@
 -- Document 01, "The table image", from "Checks:" on: the check of an image, in its order, and each refusal's number and place.
 -- Assumes nothing.
 use Prim.Native.Nat.{ℕ, _+_}
-use mathlib.Core.Bool.{Bool, cond, not, _&&_, _||_}
+use mathlib.Core.Bool.{Bool, true, false, cond, not, _&&_, _||_}
 use lib.Dec.{ltb, leb, eqb}
 use lib.ListN.{length}
 use Rattle.lists.specs.Scan.{scan}
@@ -71,3 +71,11 @@ check s =
     (cond (ltb (badCount s) kindCount) (Refused (Count (countPlace (badCount s))))
     (cond (not (eqb (place s kindCount) (length s))) (Refused Unfilled)
     (checkRows s)))))
+
+-- "the table passes the rules above"
+abbrev pub accepts : Checked → Bool
+accepts Accepted = true
+accepts (Refused n) = false
+
+unfoldable pub isTable : Image → Bool
+isTable s = accepts (check s)

@@ -3,7 +3,7 @@ ghost use mathlib.Core.Path.{_≡_};
 ghost use Prim.Native.Nat.{_+_, _<_};
 ghost use lib.ListN.{getD};
 ghost use Rattle.table.specs.Rules.{key, keyFields, keyCount, keyExists, keysExist, parentRule, agrees, scopeRule, initialRule, reactorRule, modeRule, reactionRule, actionRule, timerRule, ownRule, rowRule};
-ghost use Rattle.table.specs.Check.{numberOf, placeOf, wrongLength, countFits, badCount, badRow, checkRows, check as checkOf};
+ghost use Rattle.table.specs.Check.{numberOf, placeOf, wrongLength, countFits, badCount, badRow, checkRows, isTable, check as checkOf};
 use tags::LocalTag;
 
 const VERSION: u8 = 1;
@@ -405,4 +405,14 @@ pub fn check(image: &[u8]) -> Checked
         return Checked::Refused(ImageRefusal::Unfilled);
     }
     check_rows(image)
+}
+
+// The image is accepted.
+pub fn accepted(image: &[u8]) -> bool
+    ensures { λ r. ⌜ r ≡ isTable (now (image .entry)) ⌝ }
+{
+    match check(image) {
+        Checked::Accepted => true,
+        Checked::Refused(_) => false,
+    }
 }

@@ -3,6 +3,7 @@
 
 pub mod map;
 pub mod store;
+pub mod store_compare;
 pub mod table;
 pub mod walk;
 

@@ -1,0 +1,94 @@
+-- A law for each case of a head, and the loop over the scopes. Assumes nothing.
+use mathlib.Core.Bool.{Bool, true, false, cond}
+use mathlib.Core.Path.{_≡_, refl, sym, ap, _∙_}
+use mathlib.Core.List.{List, [], _∷_, map}
+use Prim.Native.Nat.{ℕ, zero, suc, _+_, _-_, _<_, _≤_}
+use native.Mathlib.Omega.{arith}
+use native.Mathlib.Numerals.{add-one}
+use lib.ListN.{getD}
+use Rattle.lists.specs.Tests.{flag}
+use Rattle.lists.specs.Walk.{Result, done, refused}
+use Rattle.lists.specs.Lists.{foldl, from}
+use Rattle.refusals.specs.declared.Refusal.{Refusal}
+use Rattle.tags.specs.Tags.{Tag, Clock, at, earlier, toGlobal}
+use Rattle.tags.specs.Views.{ofGlobal, mappedGlobal}
+use Rattle.tags.specs.declared.GlobalTag.{GlobalTag}
+use Rattle.tags.specs.declared.MappedGlobal.{MappedGlobal}
+use Rattle.tags.specs.declared.MappedGlobal.the-variants as MG
+use Rattle.machine.specs.Heads as H
+use Rattle.machine.specs.Heads.{Least, noTag, least, sooner, rootOf, mapped}
+use Rattle.scopes.specs.Scopes.{Scope, blank}
+use Rattle.queue.specs.Queue.{ofStamp, ofEarliest}
+use Rattle.queue.specs.declared.Stamp.{Stamp}
+use Rattle.queue.specs.declared.Earliest.{Earliest}
+use Rattle.queue.specs.declared.Earliest.the-variants as E
+use Rattle.heads.specs.Found.{headOf, mappedHead, scopeHeadOf, headIn, leastHead}
+use Rattle.heads.specs.declared.HeadAt.{HeadAt}
+use Rattle.heads.specs.declared.Head.{Head}
+use Rattle.heads.specs.declared.Head.the-variants as C
+
+module _ (k : Clock) (i : ℕ) (t : Tag) {m : MappedGlobal} where
+  pub mapped-tag : {g : GlobalTag} → m ≡ MG.Tag g → mappedGlobal m ≡ toGlobal k t → H.head i t (ofGlobal g) ≡ mappedHead k i (least t)
+  mapped-tag e h = ap (mapped i t) (sym (ap mappedGlobal e) ∙ h)
+
+  pub mapped-none : {n : Refusal} → m ≡ MG.Refused n → mappedGlobal m ≡ toGlobal k t → H.empty ≡ mappedHead k i (least t)
+  mapped-none e h = ap (mapped i t) (sym (ap mappedGlobal e) ∙ h)
+
+pub ruleset maps = (mapped-tag, mapped-none)
+
+module _ (s : Scope) (i : ℕ) (e : Earliest) {r : H.Head} where
+  pub scope-nothing : s .active ≡ true → e ≡ E.Nothing → r ≡ H.empty → r ≡ scopeHeadOf s i (ofEarliest e)
+  unfolding scopeHeadOf
+  scope-nothing a h p = p ∙ rw (a, h)
+
+  pub scope-at : {t : Stamp} → s .active ≡ true → e ≡ E.At t → r ≡ mappedHead (s .clock) i (least (ofStamp t)) → r ≡ scopeHeadOf s i (ofEarliest e)
+  unfolding scopeHeadOf
+  scope-at a h p = p ∙ rw (a, h)
+
+  pub scope-off : s .active ≡ false → r ≡ H.empty → r ≡ scopeHeadOf s i (ofEarliest e)
+  unfolding scopeHeadOf
+  scope-off a p = p ∙ rw a
+
+pub ruleset scopeHeads = (scope-nothing, scope-at, scope-off, refl)
+
+module _ (a b : Head) {r : H.Head} where
+  pub sooner-first : {x : HeadAt} → a ≡ C.At x → b ≡ C.Empty → r ≡ headOf (C.At x) → r ≡ sooner (headOf a) (headOf b)
+  sooner-first p q e = e ∙ rw (p, q)
+
+  pub sooner-second :
+      {x y : HeadAt} → a ≡ C.At x → b ≡ C.At y → earlier (ofGlobal (y .tag)) (ofGlobal (x .tag)) ≡ true → r ≡ headOf (C.At y) → r ≡ sooner (headOf a) (headOf b)
+  sooner-second p q t e = e ∙ rw (p, q) (simp t)
+
+  pub sooner-kept :
+      {x y : HeadAt} → a ≡ C.At x → b ≡ C.At y → earlier (ofGlobal (y .tag)) (ofGlobal (x .tag)) ≡ false → r ≡ headOf (C.At x) → r ≡ sooner (headOf a) (headOf b)
+  sooner-kept p q t e = e ∙ rw (p, q) (simp t)
+
+pub sooner-none : (a b : Head) → a ≡ C.Empty → headOf b ≡ sooner (headOf a) (headOf b)
+sooner-none a b p = rw p
+
+pub ruleset sooners = (sooner-first, sooner-none, sooner-second, sooner-kept, flag, refl)
+
+module _ (l : Least) (e : Earliest) (h : ofEarliest e ≡ l) where
+  pub root-nothing : e ≡ E.Nothing → H.empty ≡ rootOf l
+  root-nothing p = ap rootOf (sym (ap ofEarliest p) ∙ h)
+
+  pub root-at : {t : Stamp} → e ≡ E.At t → {r : H.Head} → r ≡ rootOf (least (ofStamp t)) → r ≡ rootOf l
+  root-at p q = q ∙ ap rootOf (sym (ap ofEarliest p) ∙ h)
+
+-- ---- the loop: what is left to look at
+
+module _ (ss : List Scope) (ls : List Least) (n : ℕ) where
+  abbrev pub from-here : ℕ → H.Head → H.Head
+  from-here i b = foldl sooner b (map (headIn ss ls) (from i (n - i)))
+
+  pub loop-start : leastHead ss ls n ≡ from-here 0 H.empty
+  unfolding leastHead
+  loop-start = let e : n - 0 ≡ n = omega arith in rw e
+
+  pub loop-next : (i : ℕ) (b a : H.Head) → i < n → a ≡ sooner b (headIn ss ls i) → leastHead ss ls n ≡ from-here i b → leastHead ss ls n ≡ from-here (i + 1) a
+  unfolding foldl from
+  loop-next i b a h e p = let s : n - i ≡ suc (n - (i + 1)) = omega arith in p ∙ rw (s, e, add-one)
+
+  pub loop-end : (i : ℕ) (b : H.Head) → n ≤ i → leastHead ss ls n ≡ from-here i b → b ≡ leastHead ss ls n
+  unfolding foldl from
+  loop-end i b h p = let s : n - i ≡ 0 = omega arith in sym (p ∙ rw s)

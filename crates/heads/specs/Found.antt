@@ -1,0 +1,35 @@
+-- The code's heads as the plain machine's, and the least scope head from scopes and least tags alone. Assumes nothing.
+use mathlib.Core.Bool.{Bool, true, false, cond}
+use mathlib.Core.List.{List, map}
+use Prim.Native.Nat.{ℕ}
+use lib.ListN.{getD}
+use Rattle.lists.specs.Lists.{foldl, from}
+use Rattle.tags.specs.Tags.{Clock, toGlobal}
+use Rattle.tags.specs.Views.{ofGlobal}
+use Rattle.machine.specs.Heads as H
+use Rattle.machine.specs.Heads.{Least, noTag, least, sooner, mapped}
+use Rattle.scopes.specs.Scopes.{Scope, blank}
+use Rattle.queue.specs.Queue.{ofStamp}
+use Rattle.heads.specs.declared.HeadAt.{HeadAt}
+use Rattle.heads.specs.declared.Head.{Head}
+use Rattle.heads.specs.declared.Head.the-variants as C
+
+abbrev pub headOf : Head → H.Head
+headOf C.Empty = H.empty
+headOf (C.At h) = H.head (h .queue) (ofStamp (h .stamp)) (ofGlobal (h .tag))
+
+-- a scope's head by its clock and its least tag
+abbrev pub mappedHead : Clock → ℕ → Least → H.Head
+mappedHead k i noTag = H.empty
+mappedHead k i (least t) = mapped i t (toGlobal k t)
+
+unfoldable pub scopeHeadOf : Scope → ℕ → Least → H.Head
+scopeHeadOf s i l = cond (s .active) (mappedHead (s .clock) i l) H.empty
+
+-- scope i's head
+unfoldable pub headIn : List Scope → List Least → ℕ → H.Head
+headIn ss ls i = scopeHeadOf (getD ss i blank) i (getD ls i noTag)
+
+-- the least of the first n scopes' heads
+unfoldable pub leastHead : List Scope → List Least → ℕ → H.Head
+leastHead ss ls n = foldl sooner H.empty (map (headIn ss ls) (from 0 n))

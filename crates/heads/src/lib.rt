@@ -1,0 +1,115 @@
+// Heads, and the least of them: document 01, "Head: root, its least tag; active scope, its least local tag, mapped."
+ghost use mathlib.Core.Path.{_≡_};
+ghost use lib.ListN.{getD};
+ghost use Rattle.machine.specs.Heads.{noTag, least, rootOf, sooner as soonerOf};
+ghost use Rattle.scopes.specs.Scopes.{mostScopes, scopesOf, scopeOf};
+ghost use Rattle.queue.specs.Queue.{ofStamp, ofEarliest, leastsOf};
+ghost use Rattle.heads.specs.Found.{headOf, mappedHead, scopeHeadOf, headIn, leastHead};
+use queue::Earliest;
+use queue::Stamp;
+use scopes::Scope;
+use tags::GlobalTag;
+use tags::LocalTag;
+use tags::MappedGlobal;
+
+// A queue, its least tag on its own scale, and what that is on the global scale.
+pub struct HeadAt {
+    pub queue: u16,
+    pub stamp: Stamp,
+    pub tag: GlobalTag,
+}
+
+pub enum Head {
+    Empty,
+    At(HeadAt),
+}
+
+// A scope's least tag, mapped; empty where the image overruns.
+fn mapped_head(s: Scope, i: u16, t: Stamp) -> Head
+    ensures { λ r. ⌜ headOf r ≡ mappedHead (scopeOf s .clock) i (least (ofStamp t)) ⌝ }
+{
+    let clock = s.clock;
+    match clock.to_global(LocalTag(t.0, t.1)) {
+        MappedGlobal::Tag(g) => Head::At(HeadAt {
+            queue: i,
+            stamp: t,
+            tag: g,
+        }),
+        MappedGlobal::Refused(_) => Head::Empty,
+    }
+}
+
+// The head of a scope; one that is not active has none.
+fn scope_head_of(s: Scope, i: u16, found: Earliest) -> Head
+    ensures { λ r. ⌜ headOf r ≡ scopeHeadOf (scopeOf s) i (ofEarliest found) ⌝ }
+{
+    if s.active {
+        match found {
+            Earliest::Nothing => Head::Empty,
+            Earliest::At(t) => mapped_head(s, i, t),
+        }
+    } else {
+        Head::Empty
+    }
+}
+
+// The second where it is earlier, else the first.
+fn sooner(a: Head, b: Head) -> Head
+    ensures { λ r. ⌜ headOf r ≡ soonerOf (headOf a) (headOf b) ⌝ }
+{
+    match a {
+        Head::Empty => b,
+        Head::At(x) => match b {
+            Head::Empty => a,
+            Head::At(y) => { if y.tag.earlier(x.tag) { b } else { a } }
+        },
+    }
+}
+
+// Scope i's head.
+fn head_in(heads: &[u64; queue::HEADS], scopes: &[u64; scopes::ROOM], i: u16) -> Head
+    ensures { λ r. ⌜ headOf r ≡ headIn (scopesOf (now (scopes .entry))) (leastsOf (now (heads .entry))) i ⌝ }
+{
+    let k = i as usize;
+    let s = scopes::scope_at(scopes, k);
+    let found = queue::least_at(heads, k);
+    scope_head_of(s, i, found)
+}
+
+// The least head of the first n scopes, of the lowest-numbered such scope.
+pub fn scope_head(heads: &[u64; queue::HEADS], scopes: &[u64; scopes::ROOM], n: u16) -> Head
+    ensures { λ r. ⌜ headOf r ≡ leastHead (scopesOf (now (scopes .entry))) (leastsOf (now (heads .entry))) n ⌝ }
+{
+    let mut best = Head::Empty;
+    let mut i: u16 = 0;
+    while i < n {
+        let h = head_in(heads, scopes, i);
+        best = sooner(best, h);
+        i += 1;
+    }
+    best
+}
+
+// The root's head.
+pub fn root_head(heads: &[u64; queue::HEADS]) -> Head
+    ensures { λ r. ⌜ headOf r ≡ rootOf (getD (leastsOf (now (heads .entry))) mostScopes noTag) ⌝ }
+{
+    let found = queue::least_at(heads, scopes::MOST_SCOPES);
+    match found {
+        Earliest::Nothing => Head::Empty,
+        Earliest::At(t) => Head::At(HeadAt {
+            queue: slots::NONE,
+            stamp: t,
+            tag: GlobalTag(t.0, t.1),
+        }),
+    }
+}
+
+// The least head over root and active scopes.
+pub fn peek(heads: &[u64; queue::HEADS], scopes: &[u64; scopes::ROOM], n: u16) -> Head
+    ensures { λ r. ⌜ headOf r ≡ soonerOf (rootOf (getD (leastsOf (now (heads .entry))) mostScopes noTag)) (leastHead (scopesOf (now (scopes .entry))) (leastsOf (now (heads .entry))) n) ⌝ }
+{
+    let root = root_head(heads);
+    let local = scope_head(heads, scopes, n);
+    sooner(root, local)
+}

@@ -1,0 +1,11 @@
+pub mod Stored
+pub mod Limits
+pub mod Sound
+pub mod Events
+pub mod Turns
+pub mod Prepared
+pub mod Steps
+pub mod Calls
+pub mod Kept
+pub mod Never
+pub mod Ends

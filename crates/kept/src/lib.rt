@@ -1,0 +1,1 @@
+// Document 01, "State rules": every accepted call keeps them. Theorems only, in specs/.

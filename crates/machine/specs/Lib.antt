@@ -1,0 +1,5 @@
+pub mod Table
+pub mod State
+pub mod Heads
+pub mod Transition
+pub mod Machine

@@ -1,0 +1,219 @@
+-- Document 01, "A transition (reactor, target, kind, current tag c), in order": its five steps. Assumes nothing.
+use Prim.Native.Nat.{ℕ, zero, suc}
+use mathlib.Core.Bool.{Bool, true, false, cond, not, _&&_, _||_}
+use mathlib.Core.List.{List, [], _∷_, map}
+use lib.Dec.{eqb}
+use lib.ListN.{getD, set}
+use Rattle.lists.specs.Lists.{keep, any, every, from, foldl, sortBy}
+use Rattle.lists.specs.Walk.{Result, done, refused, _>>=_, walk}
+use Rattle.refusals.specs.declared.Refusal.{Refusal}
+use Rattle.refusals.specs.declared.Refusal.the-variants as R
+use Rattle.rows.specs.Bytes.{Image}
+use Rattle.rows.specs.Kinds as K
+use Rattle.rows.specs.Kinds.{count}
+use Rattle.rows.specs.Rows.{none, rootScope, initialMode, modeScope, actionScope, isLogical, startupScope, startupAction, resetScope, timerAction}
+use Rattle.rows.specs.Lineage.{inSubtree, under}
+use Rattle.table.specs.Rules.{timerTag}
+use Rattle.tags.specs.Tags.{Tag, Clock, Answer, zeroTag, earlier, delayed, toLocal, toGlobal}
+use Rattle.store.specs.Store as S
+use Rattle.store.specs.Store.{Store}
+use Rattle.schedule.specs.Schedule.{isActive, triggersOf, startupsOf, resetsOf}
+use Rattle.machine.specs.Table.{scopes, reactors, actions, hasParent}
+use Rattle.machine.specs.State.{Event, State, root, clockAt, activeAt, everAt, withModes, withClocks, withClock, withStore, noted, accepted, without, restamped, inQueue, rootEvent}
+
+abbrev pub Step : Type 0
+Step = Result Refusal State
+
+-- what a transition goes by: the tag c, the scopes of the reset subtree (none for a history transition), and those that are active from now on
+pub record Plan : Type 0 where
+  pub c : Tag
+  pub inside : List Bool
+  pub now : List Bool
+
+abbrev pub isInside : Plan → ℕ → Bool
+isInside p i = getD (p .inside) i false
+
+abbrev pub isNow : Plan → ℕ → Bool
+isNow p i = getD (p .now) i false
+
+-- "the target scope's subtree, itself included"
+abbrev pub insideOf : Image → Bool → ℕ → List Bool
+insideOf img reset target = map (λ i. reset && inSubtree img target i) (from 0 (scopes img))
+
+-- ---- 1. "Reset: over the target scope's subtree, itself included, drop all local events and set L and S to zero; clear the values
+-- and buckets of its logical actions; put each reactor whose root scope is strictly under the target scope to its initial mode."
+
+unfoldable pub dropped : List Bool → Event → Bool
+dropped ins e = getD ins (e .queue) false
+
+abbrev pub zeroed : Clock → Clock
+zeroed k = record { G = k .G; L = zeroTag; allowed = k .allowed; S = zeroTag }
+
+unfoldable pub resetClocks : List Bool → List Clock → List Clock
+resetClocks (true ∷ bs) (k ∷ ks) = zeroed k ∷ resetClocks bs ks
+resetClocks (false ∷ bs) (k ∷ ks) = k ∷ resetClocks bs ks
+resetClocks [] ks = ks
+resetClocks (b ∷ bs) [] = []
+
+unfoldable pub resetStore : Image → List Bool → Store → Store
+resetStore img ins st =
+    foldl (λ st a. cond (getD ins (actionScope img a) false && isLogical img a) (S.cleared st a) st) st (from 0 (actions img))
+
+unfoldable pub resetModes : Image → ℕ → List ℕ → List ℕ
+resetModes img target modes = map (λ r. cond (under img target (rootScope img r)) (initialMode img r) (getD modes r none)) (from 0 (reactors img))
+
+unfoldable pub step1 : Image → ℕ → List Bool → State → State
+step1 img target ins s =
+    let t = without (dropped ins) s in
+    withStore (withModes (withClocks t (resetClocks ins (s .clocks))) (resetModes img target (s .modes))) (resetStore img ins (s .store))
+
+-- ---- 2. "Set the reactor's mode."
+
+-- steps 1 and 2; a history transition resets nothing
+unfoldable pub prepared : Image → ℕ → ℕ → Bool → State → State
+prepared img r m reset s =
+    let t = cond reset (step1 img (modeScope img m) (insideOf img reset (modeScope img m)) s) s in
+    withModes t (set (t .modes) r m)
+
+-- ---- 3. "Scopes ascending."
+
+-- "Going inactive: S is c mapped to local."
+abbrev pub suspended : Clock → Tag → Clock
+suspended k t = record { G = k .G; L = k .L; allowed = k .allowed; S = t }
+
+unfoldable pub left : Tag → State → ℕ → Step
+left c s i = toLocal (clockAt s i) c >>= λ t. done (withClock s i (suspended (clockAt s i) t))
+
+-- "Going active: G = c, allowed no, L = S (zero in a reset subtree)": step 1 has made S zero there
+abbrev pub activated : Tag → Clock → Clock
+activated c k = record { G = c; L = k .S; allowed = false; S = k .S }
+
+abbrev pub isTag : Answer → Bool
+isTag (done t) = true
+isTag (refused n) = false
+
+abbrev pub tagOr : Tag → Answer → Tag
+tagOr t (done u) = u
+tagOr t (refused n) = t
+
+-- "map its events"
+unfoldable pub maps : ℕ → Clock → Event → Bool
+maps i k e = not (inQueue i e) || isTag (toGlobal k (e .tag))
+
+-- "set their stored tags": the new stored tag of an event, where scope i goes active by the clock k
+unfoldable pub stamp : ℕ → Clock → Event → Tag
+stamp i k e = cond (inQueue i e) (tagOr (e .stored) (toGlobal k (e .tag))) (e .stored)
+
+-- "then move their values, later old tag first, ties by acceptance"
+unfoldable pub movers : ℕ → List Event → List Event
+movers i es = sortBy (λ a b. earlier (a .stored) (b .stored)) (keep (λ e. inQueue i e && not (eqb (e .action) none)) es)
+
+unfoldable pub moveValue : ℕ → Clock → State → Event → Step
+moveValue i k s e = S.moved (s .store) (e .action) (e .stored) (stamp i k e) >>= λ st. done (withStore s st)
+
+unfoldable pub entered : ℕ → Clock → State → Step
+entered i k s =
+    cond (every (maps i k) (s .waiting)) (walk (moveValue i k) (restamped (stamp i k) (withClock s i k)) (movers i (s .waiting)))
+    (refused R.MappedTag)
+
+-- "Staying active in a reset subtree: G = c, L and S zero, allowed no."
+abbrev pub restarted : Tag → Clock
+restarted c = record { G = c; L = zeroTag; allowed = false; S = zeroTag }
+
+-- one scope's turn: was it active, is it now
+unfoldable pub changed : Plan → State → ℕ → Step
+changed p s i =
+    cond (activeAt s i)
+    (cond (isNow p i) (done (cond (isInside p i) (withClock s i (restarted (p .c))) s)) (left (p .c) s i))
+    (cond (isNow p i) (entered i (activated (p .c) (clockAt s i)) s) (done s))
+
+unfoldable pub turned : Plan → State → ℕ → Step
+turned p s i = changed p s i >>= λ t. done (noted t i (isNow p i))
+
+-- ---- 4. "If any scope active for the first time has startup rows: a 0 value per row at c delayed by zero; then one plain ordinary event
+-- there, with its rows' reactions, for each first-time scope, those without rows included (empty set). Scopes active when fresh count as done."
+
+unfoldable pub held : ℕ → Tag → State → Step
+held a t s = S.pushed (s .store) a t 0 >>= λ st. done (withStore s st)
+
+-- a plain ordinary event of the root
+abbrev pub plainEvent : Tag → List ℕ → Event
+plainEvent t set = rootEvent t set false false false
+
+-- scopes active for the first time
+unfoldable pub firsts : Image → Plan → State → List ℕ
+firsts img p s = keep (λ i. isNow p i && not (everAt s i)) (from 0 (scopes img))
+
+unfoldable pub startupRows : Image → List ℕ → List ℕ
+startupRows img first = keep (λ j. any (eqb (startupScope img j)) first) (from 0 (count img K.startup))
+
+unfoldable pub startups : Image → Tag → List ℕ → List ℕ → State → Step
+startups img there first rows s =
+    walk (λ t j. held (startupAction img j) there t) s rows >>= λ t.
+    walk (λ u i. accepted u (plainEvent there (startupsOf img i))) t first
+
+abbrev pub ifSome : List ℕ → Step → Step → Step
+ifSome [] a b = a
+ifSome (j ∷ js) a b = b
+
+unfoldable pub step4 : Image → Tag → List ℕ → State → Step
+step4 img c first s =
+    let rows = startupRows img first in
+    ifSome rows (done s) (delayed c >>= λ there. startups img there first rows s)
+
+-- ---- 5. "Reset: for each timer row whose action's scope is in the subtree, a 0 value at its global image and an ordinary event in that scope
+-- at its local tag, stored tag that image, with the action's triggers. Then, if the subtree has reset rows, one plain ordinary event with their
+-- reactions at c delayed by zero."
+
+abbrev pub timerScope : Image → ℕ → ℕ
+timerScope img j = actionScope img (timerAction img j)
+
+-- the Rust asks whether the scope runs on global time, and then goes by the root; carried over as it stands
+unfoldable pub timerImage : Image → State → ℕ → Answer
+timerImage img s j = cond (hasParent img (timerScope img j)) (toGlobal (clockAt s (timerScope img j)) (timerTag img j)) (done (timerTag img j))
+
+unfoldable pub timerEvent : Image → ℕ → Tag → Event
+timerEvent img j g =
+    record {
+      queue = cond (hasParent img (timerScope img j)) (timerScope img j) root;
+      tag = timerTag img j;
+      reactions = triggersOf img (timerAction img j);
+      terminal = false;
+      control = false;
+      network = false;
+      action = timerAction img j;
+      stored = g;
+    }
+
+-- "a tag before its value, a value before its event"
+unfoldable pub timer : Image → State → ℕ → Step
+timer img s j = timerImage img s j >>= λ g. held (timerAction img j) g s >>= λ t. accepted t (timerEvent img j g)
+
+unfoldable pub timerRows : Image → List Bool → List ℕ
+timerRows img ins = keep (λ j. getD ins (timerScope img j) false) (from 0 (count img K.timer))
+
+unfoldable pub resetRows : Image → List Bool → List ℕ
+resetRows img ins = keep (λ j. getD ins (resetScope img j) false) (from 0 (count img K.reset))
+
+unfoldable pub resetEvent : Image → Tag → ℕ → List ℕ → State → Step
+resetEvent img c target rows s = ifSome rows (done s) (delayed c >>= λ there. accepted s (plainEvent there (resetsOf img target)))
+
+unfoldable pub step5 : Image → Tag → ℕ → List Bool → State → Step
+step5 img c target ins s = walk (timer img) s (timerRows img ins) >>= λ t. resetEvent img c target (resetRows img ins) t
+
+-- ---- the whole
+
+unfoldable pub planOf : Image → Tag → List Bool → State → Plan
+planOf img c ins s = record { c = c; inside = ins; now = map (isActive img (s .modes)) (from 0 (scopes img)) }
+
+-- steps 3 to 5
+unfoldable pub turnsOn : Image → ℕ → Plan → State → Step
+turnsOn img target p s =
+    walk (turned p) s (from 0 (scopes img)) >>= λ t.
+    step4 img (p .c) (firsts img p s) t >>= λ u.
+    step5 img (p .c) target (p .inside) u
+
+unfoldable pub transition : Image → ℕ → ℕ → Bool → Tag → State → Step
+transition img r m reset c s =
+    let t = prepared img r m reset s in
+    turnsOn img (modeScope img m) (planOf img c (insideOf img reset (modeScope img m)) t) t

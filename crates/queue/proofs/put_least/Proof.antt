@@ -1,0 +1,63 @@
+-- `queue::put_least` meets its contract: its stores are those of the row. Assumes nothing.
+use mathlib.Core.Path.{refl}
+use Rattle.queue.proofs.HeadLaws.{put-none, put-there}
+use borrow.Author.Needs.{needs}
+use Rattle.queue.proofs.put_least.Statement.{statement}
+use Rattle.queue.proofs.put_least.Tie as tie
+
+returns : tie.Need-returns
+returns c = put-none (c .before .args .heads .now) (c .before .args .k) (c .before .args .t) (c .before .pre) (c .if1 .taken)
+
+mul-b : tie.Need-mul-b
+mul-b c = search needs
+
+add-heads : tie.Need-add-heads
+add-heads c = search needs
+
+mul-heads : tie.Need-mul-heads
+mul-heads c = search needs
+
+element-write-heads : tie.Need-element-write-heads
+element-write-heads c = search needs
+
+add-heads-2 : tie.Need-add-heads-2
+add-heads-2 c = search needs
+
+mul-heads-2 : tie.Need-mul-heads-2
+mul-heads-2 c = search needs
+
+element-write-heads-2 : tie.Need-element-write-heads-2
+element-write-heads-2 c = search needs
+
+cast-heads : tie.Need-cast-heads
+cast-heads c = search needs
+
+add-heads-3 : tie.Need-add-heads-3
+add-heads-3 c = search needs
+
+mul-heads-3 : tie.Need-mul-heads-3
+mul-heads-3 c = search needs
+
+element-write-heads-3 : tie.Need-element-write-heads-3
+element-write-heads-3 c = search needs
+
+returns-2 : tie.Need-returns-2
+returns-2 c = let a = c .before .before in put-there (a .args .heads .now) (a .args .k) (a .args .t) (a .pre) (search needs) (search needs) refl
+
+pub put-least-spec : {M : Type 1} → statement M
+put-least-spec =
+    tie.close
+    (tie.spec
+    returns
+    mul-b
+    add-heads
+    mul-heads
+    element-write-heads
+    add-heads-2
+    mul-heads-2
+    element-write-heads-2
+    cast-heads
+    add-heads-3
+    mul-heads-3
+    element-write-heads-3
+    returns-2)

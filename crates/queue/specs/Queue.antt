@@ -1,0 +1,83 @@
+-- What the working functions on waiting events mean, over the plain machine's definitions. Assumes nothing.
+use mathlib.Core.Bool.{Bool, true, false, cond, not, _&&_, _||_}
+use mathlib.Core.Path.{_≡_, refl}
+use mathlib.Core.List.{List, [], _∷_, _++_, map}
+use Prim.Native.Nat.{ℕ, _+_, _%_}
+use lib.ListN.{length, take, getD, replicate}
+use lib.Dec.{leb, ltb, eqb}
+use Rattle.lists.specs.Held as H
+use Rattle.lists.specs.Lists.{lose, keep, count}
+use Rattle.lists.specs.Rows.{tab}
+use Rattle.refusals.specs.declared.Refusal.the-variants as R
+use Rattle.tags.specs.Tags.{Tag, at}
+use Rattle.machine.specs.State.{Event, root, mostWaiting, inQueue, atHead, ordinary}
+use Rattle.machine.specs.Heads.{Least, noTag, least, lesser, leastOf}
+use Rattle.scopes.specs.Scopes.{mostScopes}
+use Rattle.key_set.specs.Sets.{has}
+use Rattle.queue.specs.declared.Stamp.{Stamp}
+use Rattle.queue.specs.declared.Which.{Which}
+use Rattle.queue.specs.declared.Earliest.{Earliest}
+use Rattle.queue.specs.declared.Earliest.the-variants as E
+use Rattle.queue.specs.declared.Accepted.{Accepted}
+use Rattle.queue.specs.declared.Accepted.the-variants as A
+
+-- ---- accepting
+
+abbrev pub acceptedAt : ℕ → Accepted
+acceptedAt n = cond (leb mostWaiting n) (A.Refused R.Waiting) (A.Count (n + 1))
+
+-- ---- the least tag of every queue, in one array: the scopes' by their numbers, then the root's
+
+abbrev pub queues : ℕ
+queues = mostScopes + 1
+
+abbrev pub ofStamp : Stamp → Tag
+ofStamp t = at (t .0) (t .1)
+
+abbrev pub ofEarliest : Earliest → Least
+ofEarliest E.Nothing = noTag
+ofEarliest (E.At t) = least (ofStamp t)
+
+-- which entry is a queue's: past the end for what is no queue
+abbrev pub entryOf : ℕ → ℕ
+entryOf q = cond (eqb q root) mostScopes (cond (ltb q mostScopes) q queues)
+
+-- and whose an entry is
+abbrev pub queueOf : ℕ → ℕ
+queueOf k = cond (eqb k mostScopes) root k
+
+abbrev pub leastWords : ℕ
+leastWords = 3
+
+unfoldable pub encode : Least → List ℕ
+encode noTag = replicate leastWords 0
+encode (least t) = 1 ∷ t .offset ∷ t .microstep ∷ []
+
+unfoldable pub decode : List ℕ → Least
+decode r = cond (eqb (getD r 0 0) 1) (least (at (getD r 1 0) (getD r 2 0 % 4294967296))) noTag
+
+pub encode-long : (l : Least) → length (encode l) ≡ leastWords
+unfolding encode
+encode-long noTag = refl
+encode-long (least t) = refl
+
+abbrev pub leastsOf : List ℕ → List Least
+leastsOf ws = H.thingsOf decode encode leastWords queues encode-long ws
+
+abbrev pub Whole : List ℕ → Type 0
+Whole ws = H.Whole decode encode leastWords queues encode-long ws
+
+abbrev pub Held : List ℕ → List Least → Type 0
+Held ws l = H.Held decode encode leastWords queues encode-long ws l
+
+-- every queue's least tag
+abbrev pub headsOf : List Event → List Least
+headsOf es = tab (λ k. leastOf (queueOf k) es) 0 queues
+
+-- ---- taking out: the events of a queue at a tag, or those of some scopes
+
+unfoldable pub goesOf : Which → Event → Bool
+goesOf w e = cond (w .«by_tag») (atHead (w .queue) (ofStamp (w .stamp)) e) (has (w .inside .words) (e .queue))
+
+abbrev pub oneIf : Bool → ℕ
+oneIf b = cond b 1 0

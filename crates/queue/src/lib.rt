@@ -1,0 +1,261 @@
+// Waiting events in lent rows: accepting, the least tag of each queue, gathering and taking out.
+// Document 01, "The plain machine"; the Rust's sched/queue.rs.
+ghost use mathlib.Core.Path.{_≡_};
+ghost use Prim.Native.Nat.{_≤_, _<_};
+ghost use lib.ListN.{length, getD, set, take};
+ghost use Rattle.lists.specs.Lists.{lose, keep, count};
+ghost use Rattle.lists.specs.Lists as lists;
+ghost use Rattle.lists.specs.Lay.{lay};
+ghost use Rattle.machine.specs.State.{mostWaiting, ordinary, atHead};
+ghost use Rattle.machine.specs.Heads.{noTag, least, lesser};
+ghost use Rattle.tags.specs.Tags.{earlier};
+ghost use Rattle.slots.specs.Slots.{eventsOf, eventOf, blank};
+ghost use Rattle.slots.specs.Slots as slot;
+ghost use Rattle.queue.specs.Queue.{acceptedAt, ofStamp, ofEarliest, entryOf, leastsOf, Whole, Held, headsOf, goesOf, oneIf};
+use key_set::KeySet;
+use refusals::Refusal;
+use slots::Slot;
+
+// A tag on its queue's own scale.
+pub struct Stamp(pub u64, pub u32);
+
+// The least tag of a queue, or nothing.
+pub enum Earliest {
+    Nothing,
+    At(Stamp),
+}
+
+// How many events wait now, or the refusal.
+pub enum Accepted {
+    Count(usize),
+    Refused(Refusal),
+}
+
+// One entry for each scope, and the root's last.
+pub const QUEUES: usize = scopes::MOST_SCOPES + 1;
+
+const LEAST_WORDS: usize = 3;
+
+pub const HEADS: usize = QUEUES * LEAST_WORDS;
+
+impl Stamp {
+    pub fn earlier(self, other: Stamp) -> bool
+        ensures { λ r. ⌜ r ≡ earlier (ofStamp self) (ofStamp other) ⌝ }
+    {
+        if self.0 < other.0 {
+            return true;
+        }
+        if other.0 < self.0 {
+            return false;
+        }
+        self.1 < other.1
+    }
+}
+
+// ---- accepting
+
+// One more event comes last; 8 where as many wait as may.
+pub fn accept(rows: &mut [u64; slots::ROOM], n: usize, s: Slot) -> Accepted
+    requires { ⌜ slot.Whole (now rows) ⌝ }
+    ensures { λ r. ⌜ r ≡ acceptedAt n ⌝ }
+    ensures { λ _. ⌜ slot.Held (now (rows .exit)) (set (eventsOf (now (rows .entry))) n (eventOf s)) ⌝ }
+{
+    slots::put_slot(rows, n, s);
+    if slots::MOST_WAITING <= n {
+        return Accepted::Refused(Refusal::Waiting);
+    }
+    Accepted::Count(n + 1)
+}
+
+// ---- the least tag of each queue
+
+// The entry of a queue.
+fn entry_of(queue: u16) -> usize
+    ensures { λ r. ⌜ r ≡ entryOf queue ⌝ }
+{
+    if queue == slots::NONE {
+        return scopes::MOST_SCOPES;
+    }
+    let scope = queue as usize;
+    if scope < scopes::MOST_SCOPES {
+        return scope;
+    }
+    QUEUES
+}
+
+pub fn least_at(heads: &[u64; HEADS], k: usize) -> Earliest
+    ensures { λ r. ⌜ ofEarliest r ≡ getD (leastsOf (now (heads .entry))) k noTag ⌝ }
+{
+    if QUEUES <= k {
+        return Earliest::Nothing;
+    }
+    let b = k * LEAST_WORDS;
+    let there = heads[b + 0];
+    let offset = heads[b + 1];
+    let microstep = heads[b + 2];
+    if there == 1 {
+        return Earliest::At(Stamp(offset, (microstep % 4294967296) as u32));
+    }
+    Earliest::Nothing
+}
+
+fn put_least(heads: &mut [u64; HEADS], k: usize, t: Stamp)
+    requires { ⌜ Whole (now heads) ⌝ }
+    ensures { λ _. ⌜ Held (now (heads .exit)) (set (leastsOf (now (heads .entry))) k (least (ofStamp t))) ⌝ }
+{
+    if QUEUES <= k {
+        return;
+    }
+    let b = k * LEAST_WORDS;
+    heads[b + 0] = 1;
+    heads[b + 1] = t.0;
+    heads[b + 2] = t.1 as u64;
+}
+
+// The lesser of two tags.
+fn lesser_of(t: Stamp, old: Earliest) -> Stamp
+    ensures { λ r. ⌜ least (ofStamp r) ≡ lesser (ofStamp t) (ofEarliest old) ⌝ }
+{
+    match old {
+        Earliest::Nothing => t,
+        Earliest::At(u) => { if u.earlier(t) { u } else { t } }
+    }
+}
+
+// One event more.
+fn note(heads: &mut [u64; HEADS], s: Slot)
+    requires { ⌜ Whole (now heads) ⌝ }
+    ensures { λ _. ⌜ Held (now (heads .exit)) (set (leastsOf (now (heads .entry))) (entryOf (s .queue)) (lesser (eventOf s .tag) (getD (leastsOf (now (heads .entry))) (entryOf (s .queue)) noTag))) ⌝ }
+{
+    let k = entry_of(s.queue);
+    let old = least_at(heads, k);
+    let t = lesser_of(Stamp(s.offset, s.microstep), old);
+    put_least(heads, k, t);
+}
+
+// Every queue's least tag, in one pass.
+pub fn heads(rows: &[u64; slots::ROOM], n: usize) -> [u64; HEADS]
+    requires { ⌜ n ≤ mostWaiting ⌝ }
+    ensures { λ r. ⌜ Held r (headsOf (take n (eventsOf (now (rows .entry))))) ⌝ }
+{
+    let mut out = [0u64; HEADS];
+    let mut i = n;
+    while 0 < i {
+        i -= 1;
+        let s = slots::slot_at(rows, i);
+        note(&mut out, s);
+    }
+    out
+}
+
+// ---- taking out
+
+// Which events go: those of a queue at a tag, or all of some scopes.
+pub struct Which {
+    pub by_tag: bool,
+    pub queue: u16,
+    pub stamp: Stamp,
+    pub inside: KeySet,
+}
+
+// How many events are left, and how many ordinary ones went.
+pub struct Removed {
+    pub count: usize,
+    pub ordinary: usize,
+}
+
+fn is_at(s: Slot, queue: u16, t: Stamp) -> bool
+    ensures { λ r. ⌜ r ≡ atHead queue (ofStamp t) (eventOf s) ⌝ }
+{
+    if s.queue == queue {
+        if s.offset == t.0 {
+            return s.microstep == t.1;
+        }
+    }
+    false
+}
+
+impl Which {
+    pub fn goes(self, s: Slot) -> bool
+        ensures { λ r. ⌜ r ≡ goesOf self (eventOf s) ⌝ }
+    {
+        if self.by_tag {
+            return is_at(s, self.queue, self.stamp);
+        }
+        let inside = self.inside;
+        inside.contains(s.queue as usize)
+    }
+}
+
+fn one_if(b: bool) -> usize
+    ensures { λ r. ⌜ (r ≡ oneIf b) × (r < 2) ⌝ }
+{
+    if b {
+        return 1;
+    }
+    0
+}
+
+// The event of row `from` stays, in row `to`.
+fn stay(rows: &mut [u64; slots::ROOM], from: usize, to: usize)
+    requires { ⌜ slot.Whole (now rows) ⌝ }
+    requires { ⌜ (from < mostWaiting) × (to ≤ from) ⌝ }
+    ensures { λ _. ⌜ slot.Held (now (rows .exit)) (set (eventsOf (now (rows .entry))) to (getD (eventsOf (now (rows .entry))) from blank)) ⌝ }
+{
+    if to == from {
+        return;
+    }
+    slots::copy_slot(rows, from, to);
+}
+
+// Those that stay, over the front.
+fn compact(rows: &mut [u64; slots::ROOM], n: usize, which: Which) -> Removed
+    requires { ⌜ slot.Whole (now rows) ⌝ }
+    requires { ⌜ n ≤ mostWaiting ⌝ }
+    ensures { λ r. ⌜ r .count ≡ length (lose (goesOf which) (take n (eventsOf (now (rows .entry))))) ⌝ }
+    ensures { λ r. ⌜ r .ordinary ≡ count ordinary (keep (goesOf which) (take n (eventsOf (now (rows .entry))))) ⌝ }
+    ensures { λ _. ⌜ slot.Held (now (rows .exit)) (lists.over (lose (goesOf which) (take n (eventsOf (now (rows .entry))))) (eventsOf (now (rows .entry)))) ⌝ }
+{
+    let mut w: usize = 0;
+    let mut ordinary: usize = 0;
+    let mut i: usize = 0;
+    while i < n {
+        let s = slots::slot_at(rows, i);
+        let at = i;
+        i += 1;
+        if which.goes(s) {
+            ordinary += one_if(s.is_ordinary());
+        } else {
+            stay(rows, at, w);
+            w += 1;
+        }
+    }
+    Removed { count: w, ordinary }
+}
+
+// The rows from w to n blank.
+fn clear(rows: &mut [u64; slots::ROOM], w: usize, n: usize)
+    requires { ⌜ slot.Whole (now rows) ⌝ }
+    requires { ⌜ (w ≤ n) × (n ≤ mostWaiting) ⌝ }
+    ensures { λ _. ⌜ slot.Held (now (rows .exit)) (lay blank (eventsOf (now (rows .entry))) (take w (eventsOf (now (rows .entry)))) n) ⌝ }
+{
+    let b = Slot::blank();
+    let mut i = w;
+    while i < n {
+        slots::put_slot(rows, i, b);
+        i += 1;
+    }
+}
+
+// The events that go are taken out; the slots that they free are blank.
+pub fn remove(rows: &mut [u64; slots::ROOM], n: usize, which: Which) -> Removed
+    requires { ⌜ slot.Whole (now rows) ⌝ }
+    requires { ⌜ n ≤ mostWaiting ⌝ }
+    ensures { λ r. ⌜ r .count ≡ length (lose (goesOf which) (take n (eventsOf (now (rows .entry))))) ⌝ }
+    ensures { λ r. ⌜ r .ordinary ≡ count ordinary (keep (goesOf which) (take n (eventsOf (now (rows .entry))))) ⌝ }
+    ensures { λ _. ⌜ slot.Held (now (rows .exit)) (lay blank (eventsOf (now (rows .entry))) (lose (goesOf which) (take n (eventsOf (now (rows .entry))))) n) ⌝ }
+{
+    let r = compact(rows, n, which);
+    clear(rows, r.count, n);
+    r
+}

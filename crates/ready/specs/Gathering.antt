@@ -1,0 +1,62 @@
+-- What a pop gathers, one event at a time: document 01, "Answer: union of reactions, terminal, some ordinary work, network by "or",
+-- and each action key once, in order of taking." Assumes nothing.
+use mathlib.Core.Bool.{Bool, true, false, cond, _||_}
+use mathlib.Core.Path.{_≡_, refl, ap, _∙_, sym}
+use mathlib.Core.List.{List, [], _∷_, _++_}
+use Prim.Native.Nat.{ℕ, _+_}
+use lib.ListN.{length, take, set}
+use lib.Dec.{eqb}
+use Rattle.lists.specs.Lists.{any, foldl}
+use Rattle.key_set.specs.Sets.{unionOf, noKeys, wordCount}
+use Rattle.tags.specs.Tags.{Tag}
+use Rattle.rows.specs.Rows.{none}
+use Rattle.machine.specs.State.{Event, ordinary}
+use Rattle.machine.specs.Heads.{Ready, addAction, readyOf}
+use Rattle.ready.specs.declared.Gathered.{Gathered}
+
+-- a ready event without its tag
+pub record Gathering : Type 0 where
+  pub terminal : Bool
+  pub work : Bool
+  pub network : Bool
+  pub reactions : List ℕ
+  pub actions : List ℕ
+
+abbrev pub nothingYet : Gathering
+nothingYet = record { terminal = false; work = false; network = false; reactions = noKeys wordCount; actions = [] }
+
+-- one event more
+unfoldable pub addedTo : Gathering → Event → Gathering
+addedTo g e =
+    record {
+      terminal = g .terminal || e .terminal;
+      work = g .work || ordinary e;
+      network = g .network || e .network;
+      reactions = unionOf (g .reactions) (e .reactions);
+      actions = addAction (g .actions) e;
+    }
+
+abbrev pub readyAt : Tag → Gathering → Ready
+readyAt t g =
+    record { tag = t; terminal = g .terminal; work = g .work; network = g .network; reactions = g .reactions; actions = g .actions }
+
+-- the code's: flags, reactions, and how many action keys stand in the array beside it
+abbrev pub gatheringOf : Gathered → List ℕ → Gathering
+gatheringOf g actions =
+    record {
+      terminal = g .terminal;
+      work = g .work;
+      network = g .network;
+      reactions = g .reactions .words;
+      actions = take (g .actions) actions;
+    }
+
+-- how many keys there are after an action, and where it stands
+abbrev pub isNew : List ℕ → ℕ → Bool
+isNew l a = cond (eqb a none || any (eqb a) l) false true
+
+abbrev pub countAfter : List ℕ → ℕ → ℕ → ℕ
+countAfter keys n a = cond (isNew (take n keys) a) (n + 1) n
+
+abbrev pub keysAfter : List ℕ → ℕ → ℕ → List ℕ
+keysAfter keys n a = cond (isNew (take n keys) a) (set keys n a) keys

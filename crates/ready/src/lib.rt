@@ -1,0 +1,124 @@
+// What a pop gathers from the events that it takes: document 01, "Pop at peek tag t".
+ghost use mathlib.Core.Path.{_≡_};
+ghost use mathlib.Core.Bool.{_||_};
+ghost use Prim.Native.Nat.{_+_, _≤_, _<_};
+ghost use lib.ListN.{length, take};
+ghost use lib.Dec.{eqb};
+ghost use Rattle.lists.specs.Lists.{any, keep, foldl};
+ghost use Rattle.machine.specs.State.{mostWaiting, ordinary};
+ghost use Rattle.slots.specs.Slots.{eventsOf, eventOf};
+ghost use Rattle.queue.specs.Queue.{goesOf};
+ghost use Rattle.ready.specs.Gathering.{nothingYet, addedTo, gatheringOf, countAfter, keysAfter};
+use key_set::KeySet;
+use queue::Which;
+use slots::Slot;
+
+// The action keys taken so far stand beside it, in a lent array.
+pub struct Gathered {
+    pub terminal: bool,
+    pub work: bool,
+    pub network: bool,
+    pub reactions: KeySet,
+    pub actions: usize,
+}
+
+impl Gathered {
+    pub fn nothing_yet(keys: &[u16; slots::MOST_WAITING]) -> Self
+        ensures { λ r. ⌜ gatheringOf r (now (keys .entry)) ≡ nothingYet ⌝ }
+    {
+        let none = KeySet::empty();
+        Self {
+            terminal: false,
+            work: false,
+            network: false,
+            reactions: none,
+            actions: 0,
+        }
+    }
+}
+
+// The key stands among the first n.
+fn has_key(keys: &[u16; slots::MOST_WAITING], n: usize, a: u16) -> bool
+    requires { ⌜ (length (now keys) ≡ mostWaiting) × (n ≤ mostWaiting) ⌝ }
+    ensures { λ r. ⌜ r ≡ any (eqb a) (take n (now (keys .entry))) ⌝ }
+{
+    let mut i: usize = 0;
+    while i < n {
+        let key = keys[i];
+        if a == key {
+            return true;
+        }
+        i += 1;
+    }
+    false
+}
+
+// An action's key comes last, if it is one and is not there yet; how many there are then.
+fn add_key(keys: &mut [u16; slots::MOST_WAITING], n: usize, a: u16) -> usize
+    requires { ⌜ (length (now keys) ≡ mostWaiting) × (n < mostWaiting) ⌝ }
+    ensures { λ r. ⌜ r ≡ countAfter (now (keys .entry)) n a ⌝ }
+    ensures { λ _. ⌜ now (keys .exit) ≡ keysAfter (now (keys .entry)) n a ⌝ }
+{
+    if a == slots::NONE {
+        return n;
+    }
+    if has_key(keys, n, a) {
+        return n;
+    }
+    keys[n] = a;
+    n + 1
+}
+
+// One event more.
+fn add(keys: &mut [u16; slots::MOST_WAITING], g: Gathered, s: Slot) -> Gathered
+    requires { ⌜ (length (now keys) ≡ mostWaiting) × (g .actions < mostWaiting) ⌝ }
+    ensures { λ r. ⌜ gatheringOf r (now (keys .exit)) ≡ addedTo (gatheringOf g (now (keys .entry))) (eventOf s) ⌝ }
+    ensures { λ r. ⌜ (r .actions ≤ g .actions + 1) × (length (now (keys .exit)) ≡ length (now (keys .entry))) ⌝ }
+{
+    let n = g.actions;
+    let count = add_key(keys, n, s.action);
+    let old = g.reactions;
+    let new = s.reactions;
+    let both = old.union(new);
+    let ordinary = s.is_ordinary();
+    Gathered {
+        terminal: either(g.terminal, s.terminal),
+        work: either(g.work, ordinary),
+        network: either(g.network, s.network),
+        reactions: both,
+        actions: count,
+    }
+}
+
+fn either(a: bool, b: bool) -> bool
+    ensures { λ r. ⌜ r ≡ (a || b) ⌝ }
+{
+    if a {
+        return true;
+    }
+    b
+}
+
+// All events that go, in order of acceptance.
+pub fn gather(
+    rows: &[u64; slots::ROOM],
+    n: usize,
+    which: Which,
+    keys: &mut [u16; slots::MOST_WAITING],
+    g: Gathered,
+) -> Gathered
+    requires { ⌜ (length (now keys) ≡ mostWaiting) × (g .actions + n ≤ mostWaiting) ⌝ }
+    ensures { λ r. ⌜ gatheringOf r (now (keys .exit)) ≡ foldl addedTo (gatheringOf g (now (keys .entry))) (keep (goesOf which) (take n (eventsOf (now (rows .entry))))) ⌝ }
+    ensures { λ r. ⌜ (r .actions ≤ g .actions + length (keep (goesOf which) (take n (eventsOf (now (rows .entry)))))) × (length (now (keys .exit)) ≡ length (now (keys .entry))) ⌝ }
+{
+    let mut out = g;
+    let mut i: usize = 0;
+    while i < n {
+        let s = slots::slot_at(rows, i);
+        i += 1;
+        if which.goes(s) {
+            out = add(keys, out, s);
+        }
+    }
+    out
+}

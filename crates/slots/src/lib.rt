@@ -1,0 +1,174 @@
+// A waiting event as a slot, and slots as rows of words in one array that can be lent: document 01, "one slot each".
+// Only `slot_at` and `put_slot` know the words; every other function speaks of slots.
+ghost use mathlib.Core.Path.{_≡_};
+ghost use Prim.Native.Nat.{_<_};
+ghost use lib.ListN.{getD, set, replicate};
+ghost use Rattle.slots.specs.Slots.{blank, bitOf, headWord, stepsWord, eventsOf, Whole, Held, eventOf};
+ghost use Rattle.machine.specs.State.{ordinary, mostWaiting};
+use key_set::KeySet;
+use tags::GlobalTag;
+
+// How many events may wait; `mostWaiting` of specs/ says the same.
+pub const MOST_WAITING: usize = 256;
+
+// How many words a slot takes; `slotWords` of specs/ says the same.
+pub const SLOT_WORDS: usize = 6;
+
+// All slots.
+pub const ROOM: usize = MOST_WAITING * SLOT_WORDS;
+
+// The number that means "no scope" (the root's queue) and "no action".
+pub const NONE: u16 = 65535;
+
+// An event: its queue (a scope, or NONE for the root), its tag on that queue's scale, reactions, flags, and perhaps an action
+// (or NONE) with its stored tag.
+pub struct Slot {
+    pub queue: u16,
+    pub offset: u64,
+    pub microstep: u32,
+    pub reactions: KeySet,
+    pub terminal: bool,
+    pub control: bool,
+    pub network: bool,
+    pub action: u16,
+    pub stored: GlobalTag,
+}
+
+fn bit(b: bool) -> u64
+    ensures { λ r. ⌜ (r ≡ bitOf b) × (r < 2) ⌝ }
+{
+    if b {
+        return 1;
+    }
+    0
+}
+
+impl Slot {
+    pub fn blank() -> Self
+        ensures { λ r. ⌜ eventOf r ≡ blank ⌝ }
+    {
+        let none = KeySet {
+            words: [0; key_set::WORDS],
+        };
+        Self {
+            queue: 0,
+            offset: 0,
+            microstep: 0,
+            reactions: none,
+            terminal: false,
+            control: false,
+            network: false,
+            action: 0,
+            stored: GlobalTag(0, 0),
+        }
+    }
+
+    // Neither terminal nor control.
+    pub fn is_ordinary(self) -> bool
+        ensures { λ r. ⌜ r ≡ ordinary (eventOf self) ⌝ }
+    {
+        if self.terminal {
+            return false;
+        }
+        !self.control
+    }
+}
+
+// Queue, action and the three flags in one word.
+fn head_word(s: Slot) -> u64
+    ensures { λ r. ⌜ r ≡ headWord (eventOf s) ⌝ }
+{
+    let terminal = bit(s.terminal);
+    let control = bit(s.control);
+    let network = bit(s.network);
+    (s.queue as u64)
+        + (s.action as u64) * 65536
+        + terminal * 4294967296
+        + control * 8589934592
+        + network * 17179869184
+}
+
+// The microsteps of the tag and of the stored tag in one word.
+fn steps_word(s: Slot) -> u64
+    ensures { λ r. ⌜ r ≡ stepsWord (eventOf s) ⌝ }
+{
+    (s.microstep as u64) + (s.stored.1 as u64) * 4294967296
+}
+
+// The slot in row k; past the last row a blank one.
+pub fn slot_at(rows: &[u64; ROOM], k: usize) -> Slot
+    ensures { λ r. ⌜ eventOf r ≡ getD (eventsOf (now (rows .entry))) k blank ⌝ }
+{
+    if MOST_WAITING <= k {
+        return Slot::blank();
+    }
+    let b = k * SLOT_WORDS;
+    let head = rows[b + 0];
+    let offset = rows[b + 1];
+    let steps = rows[b + 2];
+    let stored = rows[b + 3];
+    let first = rows[b + 4];
+    let second = rows[b + 5];
+    let reactions = KeySet {
+        words: [first, second],
+    };
+    Slot {
+        queue: (head % 65536) as u16,
+        offset,
+        microstep: (steps % 4294967296) as u32,
+        reactions,
+        terminal: head / 4294967296 % 2 == 1,
+        control: head / 8589934592 % 2 == 1,
+        network: head / 17179869184 % 2 == 1,
+        action: (head / 65536 % 65536) as u16,
+        stored: GlobalTag(stored, (steps / 4294967296 % 4294967296) as u32),
+    }
+}
+
+// The slot into row k; past the last row nothing changes.
+pub fn put_slot(rows: &mut [u64; ROOM], k: usize, s: Slot)
+    requires { ⌜ Whole (now rows) ⌝ }
+    ensures { λ _. ⌜ Held (now (rows .exit)) (set (eventsOf (now (rows .entry))) k (eventOf s)) ⌝ }
+{
+    if MOST_WAITING <= k {
+        return;
+    }
+    let b = k * SLOT_WORDS;
+    let r = s.reactions;
+    let w = r.words;
+    rows[b + 0] = head_word(s);
+    rows[b + 1] = s.offset;
+    rows[b + 2] = steps_word(s);
+    rows[b + 3] = s.stored.0;
+    rows[b + 4] = w[0];
+    rows[b + 5] = w[1];
+}
+
+// The slot of row `from` into row `to`, word by word.
+pub fn copy_slot(rows: &mut [u64; ROOM], from: usize, to: usize)
+    requires { ⌜ Whole (now rows) ⌝ }
+    requires { ⌜ (from < mostWaiting) × (to < mostWaiting) ⌝ }
+    ensures { λ _. ⌜ Held (now (rows .exit)) (set (eventsOf (now (rows .entry))) to (getD (eventsOf (now (rows .entry))) from blank)) ⌝ }
+{
+    let a = from * SLOT_WORDS;
+    let b = to * SLOT_WORDS;
+    let head = rows[a + 0];
+    let offset = rows[a + 1];
+    let steps = rows[a + 2];
+    let stored = rows[a + 3];
+    let first = rows[a + 4];
+    let second = rows[a + 5];
+    rows[b + 0] = head;
+    rows[b + 1] = offset;
+    rows[b + 2] = steps;
+    rows[b + 3] = stored;
+    rows[b + 4] = first;
+    rows[b + 5] = second;
+}
+
+// Rows of blank slots.
+pub fn blank_rows() -> [u64; ROOM]
+    ensures { λ r. ⌜ Held r (replicate mostWaiting blank) ⌝ }
+{
+    [0; ROOM]
+}

@@ -1,0 +1,18 @@
+-- `store_calls::clear` meets its contract: the parts promise it. Assumes nothing.
+use Rattle.store.specs.Store.{cleared}
+use borrow.Author.Needs.{needs}
+use Rattle.store_calls.proofs.clear.Statement.{statement}
+use Rattle.store_calls.proofs.clear.Tie as tie
+
+lose-values-requires : tie.Need-lose-values-requires
+lose-values-requires c κs = search needs
+
+lose-buckets-requires : tie.Need-lose-buckets-requires
+lose-buckets-requires c κs = search needs
+
+returns : tie.Need-returns
+unfolding cleared
+returns c = search needs
+
+pub clear-spec : {M : Type 1} → statement M
+clear-spec = tie.close (tie.spec lose-values-requires lose-buckets-requires returns)

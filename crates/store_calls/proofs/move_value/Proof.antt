@@ -1,0 +1,50 @@
+-- `store_calls::move_value` meets its contract: equal tags, not held, no room for a bucket, or a take and then a push. Assumes nothing.
+use Rattle.store_calls.proofs.Calls.{left-room, move-done, move-full, move-none, move-same}
+use borrow.Author.Needs.{needs}
+use Rattle.store_calls.proofs.move_value.Statement.{statement}
+use Rattle.store_calls.proofs.move_value.Tie as tie
+
+same-requires : tie.Need-same-requires
+same-requires c κs = search needs
+
+returns : tie.Need-returns
+returns c = search move-same
+
+find-value-requires : tie.Need-find-value-requires
+find-value-requires c κs = search needs
+
+find-bucket-requires : tie.Need-find-bucket-requires
+find-bucket-requires c κs = search needs
+
+returns-2 : tie.Need-returns-2
+returns-2 c = search move-none
+
+returns-3 : tie.Need-returns-3
+returns-3 c = search move-full
+
+value-at-requires : tie.Need-value-at-requires
+value-at-requires c κs = search needs
+
+lose-values-requires : tie.Need-lose-values-requires
+lose-values-requires c κs = search needs
+
+push-requires : tie.Need-push-requires
+push-requires c κs = record { values = search needs; buckets = search needs; few-values = search left-room; few-buckets = search needs }
+
+returns-4 : tie.Need-returns-4
+returns-4 c = search move-done
+
+pub move-value-spec : {M : Type 1} → statement M
+move-value-spec =
+    tie.close
+    (tie.spec
+    same-requires
+    returns
+    find-value-requires
+    find-bucket-requires
+    returns-2
+    returns-3
+    value-at-requires
+    lose-values-requires
+    push-requires
+    returns-4)

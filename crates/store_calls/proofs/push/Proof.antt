@@ -1,0 +1,42 @@
+-- `store_calls::push` meets its contract: full, or both are put. Assumes nothing.
+use Rattle.store_calls.proofs.Calls.{push-no-value, push-no-bucket, push-done}
+use borrow.Author.Needs.{needs}
+use Rattle.store_calls.proofs.push.Statement.{statement}
+use Rattle.store_calls.proofs.push.Tie as tie
+
+find-value-requires : tie.Need-find-value-requires
+find-value-requires c κs = search needs
+
+find-bucket-requires : tie.Need-find-bucket-requires
+find-bucket-requires c κs = search needs
+
+returns : tie.Need-returns
+returns c = search push-no-value
+
+returns-2 : tie.Need-returns-2
+returns-2 c = search push-no-bucket
+
+next-after-requires : tie.Need-next-after-requires
+next-after-requires c κs = search needs
+
+set-value-requires : tie.Need-set-value-requires
+set-value-requires c κs = search needs
+
+raise-bucket-requires : tie.Need-raise-bucket-requires
+raise-bucket-requires c κs = search needs
+
+returns-3 : tie.Need-returns-3
+returns-3 c = search push-done
+
+pub push-spec : {M : Type 1} → statement M
+push-spec =
+    tie.close
+    (tie.spec
+    find-value-requires
+    find-bucket-requires
+    returns
+    returns-2
+    next-after-requires
+    set-value-requires
+    raise-bucket-requires
+    returns-3)

@@ -1,0 +1,22 @@
+-- The rules of a store handed in with its counts, and the slot of a key. Assumes nothing.
+use Prim.Native.Nat.{ℕ, _+_, _*_, _%_}
+use mathlib.Core.Bool.{Bool, _&&_}
+use lib.Dec.{leb}
+use Rattle.entries.specs.Entries.{Value, Bucket, mostHeld}
+use Rattle.store.specs.Store.{Store, storeRules}
+
+-- no more are counted than may be held, and the store that is counted keeps the rules
+unfoldable pub countedRules : ℕ → ℕ → ℕ → Store → Bool
+countedRules actions values buckets s = leb values mostHeld && (leb buckets mostHeld && storeRules actions s)
+
+abbrev pub slots : ℕ
+slots = 4096
+
+unfoldable pub slotOf : ℕ → ℕ → ℕ → ℕ
+slotOf a o m = (o % 4093 + m * 31 + a * 997) % slots
+
+abbrev pub valueSlot : Value → ℕ
+valueSlot v = slotOf (v .action) (v .tag .offset) (v .tag .microstep)
+
+abbrev pub bucketSlot : Bucket → ℕ
+bucketSlot b = slotOf (b .action) (b .offset) 0
