@@ -43,6 +43,7 @@ oracle store exhaustive DEPTH SCRIPT ANSWERS    all short scripts of store calls
 oracle store-compare SCRIPT ANSWERS OURS        another program's answers to store calls
 oracle walk SEED COUNT SCRIPT ANSWERS           level walks
 oracle table SEED COUNT SCRIPT ANSWERS          images with 01's answers
+oracle table days FOLDER SCRIPT ANSWERS         images of recorded days with the recorded answers
 oracle time DAY REPEAT [ANSWERS]    the day in the Rust alone, nanoseconds a record
 oracle selftest DIR                 recorded days, and wrong answers that must be caught
 oracle sweep FROM TO [KIND]         made days on both sides, seeds FROM to TO - 1
@@ -131,6 +132,10 @@ fn run(words: &[&str]) -> Result<(), Failure> {
                 scripts::store_compare::compare(&read(script)?, &read(answers)?, &read(ours)?)
                     .map_err(Difference)?;
             writeln!(out, "{words}")?;
+        }
+        ["table", "days", folder, script, answers] => {
+            let written = scripts::table::write_days(Path::new(folder)).map_err(Fault)?;
+            save(written, script, answers)?;
         }
         ["table", seed, count, script, answers] => {
             let written = scripts::table::write(number(seed)?, number(count)? as usize)

@@ -1,4 +1,6 @@
-//! `oracle table SEED COUNT SCRIPT ANSWERS`: images with what 01 answers of each.
+//! `oracle table SEED COUNT SCRIPT ANSWERS`: images with what 01 answers of each. `oracle table days FOLDER SCRIPT
+//! ANSWERS`: the images of recorded days with the answers that were recorded (those that the bench refuses before it looks
+//! inside, cut short or over the largest, are left out).
 //!
 //! A script: for each image its number of bytes 4, then the bytes. The answers: for each image the number of refusal 1
 //! (0 if it is accepted) and the place 4. The check has no bound of length here; the bench's is in `image::open`.
@@ -6,6 +8,8 @@
 //! First one made image is cut at every byte, once with its length field as it was and once with one that fits. The
 //! others are images of made days, of every kind: valid, at the limits, one rule or two broken at a time; or such an image with a
 //! byte or two changed, cut somewhere, or random bytes behind a length that fits.
+
+use std::path::Path;
 
 use super::{Bytes, Written};
 use crate::image;
@@ -61,6 +65,50 @@ fn made(rng: &mut Rng, seed: u64, index: usize) -> Vec<u8> {
         }
         _ => image,
     }
+}
+
+/// Number and place of a recorded table line.
+fn recorded(line: &str) -> Option<(u8, u32)> {
+    if line == "table ok" {
+        return Some((0, 0));
+    }
+    let (number, place) = line.strip_prefix("table refused ")?.split_once(' ')?;
+    Some((number.parse().ok()?, place.parse().ok()?))
+}
+
+pub fn write_days(folder: &Path) -> Result<Written, String> {
+    let fault = |error: std::io::Error| format!("cannot read {}: {error}", folder.display());
+    let mut days: Vec<_> = std::fs::read_dir(folder)
+        .map_err(fault)?
+        .filter_map(|entry| entry.ok().map(|entry| entry.path()))
+        .filter(|path| path.extension().map_or(false, |end| end == "day"))
+        .collect();
+    days.sort();
+    let (mut script, mut answers, mut count) = (Bytes::default(), Bytes::default(), 0);
+    for path in &days {
+        let day = std::fs::read(path).map_err(fault)?;
+        let text = std::fs::read_to_string(path.with_extension("answers")).map_err(fault)?;
+        let image = image_of(&day);
+        let length = day.get(..4).map(|field| image::number(field) as usize + 4);
+        if length != Some(image.len()) || image.len() > image::LARGEST {
+            continue;
+        }
+        let (number, place) = text
+            .lines()
+            .next()
+            .and_then(recorded)
+            .ok_or_else(|| format!("{} has no table line", path.display()))?;
+        script.four(image.len() as u32);
+        script.0.extend_from_slice(&image);
+        answers.byte(number);
+        answers.four(place);
+        count += 1;
+    }
+    Ok(Written {
+        script: script.0,
+        answers: answers.0,
+        summary: format!("{count} images of {} recorded days", days.len()),
+    })
 }
 
 pub fn write(seed: u64, count: usize) -> Result<Written, String> {
