@@ -1,6 +1,7 @@
 //! The oracle: the published Rust, unchanged over stand-ins, and a plain reading of 01, to hold gate days against.
 
 mod answers;
+mod antt;
 mod compare;
 mod deep;
 mod image;
@@ -18,6 +19,7 @@ mod storage;
 mod sweep;
 #[cfg(test)]
 mod tests;
+mod text;
 mod timing;
 
 // The published files name these at the crate's root.
@@ -37,6 +39,8 @@ oracle answer DAY                   the lines that 01 demands
 oracle deep DAY [ANSWERS]           the Rust's state after every record
 oracle deep-plain DAY               the same from the plain machine
 oracle make SEED KIND               a made day
+oracle asm TEXT DAY                 a day from its text
+oracle antt FILE..                  days, or texts (.txt), as theorems for the checker to compute
 oracle map SEED COUNT SCRIPT ANSWERS            clock maps with the Rust's answers
 oracle store SEED COUNT SCRIPT ANSWERS          store calls
 oracle store exhaustive DEPTH SCRIPT ANSWERS    all short scripts of store calls
@@ -105,6 +109,20 @@ fn run(words: &[&str]) -> Result<(), Failure> {
         ["deep-plain", day] => deep::print_plain(&read(day)?, &mut out)?,
         ["make", seed, kind] => {
             out.write_all(&made(number(seed)?, kind)?)?;
+        }
+        ["asm", text, day] => {
+            let words = String::from_utf8(read(text)?).map_err(|error| Fault(error.to_string()))?;
+            let bytes =
+                text::assemble(&words).map_err(|words| Fault(format!("{text}: {words}")))?;
+            std::fs::write(day, bytes)
+                .map_err(|error| Fault(format!("cannot write {day}: {error}")))?;
+        }
+        ["antt", ref files @ ..] if !files.is_empty() => {
+            let days: Result<Vec<_>, Failure> = files
+                .iter()
+                .map(|&file| Ok((file.to_string(), read(file)?)))
+                .collect();
+            out.write_all(antt::file(&days?).map_err(Difference)?.as_bytes())?;
         }
         ["map", seed, count, script, answers] => {
             let written =

@@ -1,82 +1,13 @@
-//! Small days in the text form of tools/daytext, and what must come out of them.
+//! Small days in the text form of text.rs, and what must come out of them.
 
 use crate::compare::{compare, Outcome};
 use crate::judge::judge;
-use crate::{deep, plain};
+use crate::text::assemble;
+use crate::{antt, deep, plain};
 
-/// Bytes a field of each kind of row, in the image's order.
-const ROWS: [(&str, &[usize]); 9] = [
-    ("scope", &[2, 2, 2]),
-    ("reactor", &[2, 2]),
-    ("mode", &[2, 2]),
-    ("reaction", &[1]),
-    ("action", &[2, 1]),
-    ("trigger", &[2, 2]),
-    ("startup", &[2, 2, 2]),
-    ("reset", &[2, 2]),
-    ("timer", &[2, 8, 4]),
-];
-
-/// Ops with the bytes of their fields; a list of keys, if any, comes after them.
-const OPS: [(&str, u8, &[usize], bool); 6] = [
-    ("plain", 1, &[8, 4, 1], true),
-    ("network", 2, &[8, 4], true),
-    ("control", 3, &[8, 4], false),
-    ("act", 4, &[2, 8, 4, 1], true),
-    ("transition", 5, &[2, 2, 1, 8, 4], false),
-    ("pop", 6, &[], false),
-];
-
-fn field(word: &str, width: usize) -> Vec<u8> {
-    let value: u64 = match word {
-        "-" => 65535,
-        "reset" => 0,
-        "history" => 1,
-        _ => word.parse().unwrap(),
-    };
-    value.to_be_bytes()[8 - width..].to_vec()
-}
-
-/// The day of a text; lines are parted by newlines or semicolons.
+/// The day of a text.
 fn day(text: &str) -> Vec<u8> {
-    let mut counts = [0u16; 9];
-    let mut rows: [Vec<u8>; 9] = Default::default();
-    let mut records = Vec::new();
-    for line in text.split(['\n', ';']) {
-        let words: Vec<&str> = line.split_whitespace().collect();
-        let Some((&name, words)) = words.split_first() else {
-            continue;
-        };
-        if let Some(kind) = ROWS.iter().position(|row| row.0 == name) {
-            counts[kind] += 1;
-            for (word, &width) in words.iter().zip(ROWS[kind].1) {
-                rows[kind].extend(field(word, width));
-            }
-            continue;
-        }
-        let (_, op, widths, keys) = OPS.iter().find(|op| op.0 == name).unwrap();
-        let mut body = vec![1, *op];
-        for (word, &width) in words.iter().zip(*widths) {
-            body.extend(field(word, width));
-        }
-        if *keys {
-            let keys: Vec<&str> = match words[widths.len()] {
-                "-" => Vec::new(),
-                list => list.split(',').collect(),
-            };
-            body.extend((keys.len() as u16).to_be_bytes());
-            body.extend(keys.iter().flat_map(|key| field(key, 2)));
-        }
-        records.extend((body.len() as u32).to_be_bytes());
-        records.extend(body);
-    }
-    let mut body = vec![1];
-    body.extend(counts.iter().flat_map(|count| count.to_be_bytes()));
-    body.extend(rows.concat());
-    let mut day = (body.len() as u32).to_be_bytes().to_vec();
-    day.extend(body);
-    day.extend(records);
-    day
+    assemble(text).unwrap()
 }
 
 /// Table T2 of the readings.
@@ -181,4 +112,37 @@ fn a_push_is_refused_for_its_image_only_in_an_active_scope() {
     ));
     let expected = ["table ok", "ok", "refused 7", "ok", "ok", "nothing"];
     assert_eq!(answers(&day), expected);
+}
+
+#[test]
+fn a_text_is_told_apart_from_words() {
+    let day = day("scope - 0 -; reactor 0 - # a comment; not a row\nrepeat 2 raw 0000000106; pop");
+    assert_eq!(
+        answers(&day),
+        ["table ok", "refused 1", "refused 1", "nothing"]
+    );
+    for wrong in [
+        "scope 0 0",
+        "plain 5 0 0",
+        "pop 1",
+        "action 0 256",
+        "repeat x pop",
+        "stop",
+    ] {
+        assert_eq!(assemble(wrong), Err(format!("what is \"{wrong}\"?")));
+    }
+}
+
+#[test]
+fn only_calls_that_the_rust_agrees_on_become_theorems() {
+    let theorems = |text: &str| antt::file(&[("a.txt".to_string(), text.as_bytes().to_vec())]);
+    let written = theorems(&format!("# shown\n{T2} pop")).unwrap();
+    assert!(written.contains("-- shown\nabbrev pub a-image : Image"));
+    assert!(written.contains("replies =\n          nothing ∷\n          [];"));
+    let outside = theorems(&format!("{T2} transition 0 1 history 5 4294967295"));
+    assert!(outside.unwrap_err().contains("leaves the domain"));
+    assert!(theorems(&format!("{T2} raw 00000000"))
+        .unwrap_err()
+        .contains("is no call"));
+    assert!(theorems("pop").unwrap_err().contains("table refused"));
 }

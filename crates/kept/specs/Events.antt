@@ -71,7 +71,7 @@ module _ (img : Image) where
 
   stamp-within : (i : ℕ) (k : Clock) (e : Event) → within (e .tag) ≡ true → within (e .stored) ≡ true → within (stamp i k e) ≡ true
   unfolding stamp
-  stamp-within i k e w v = by-test (inQueue i e) (λ b. rw b (go (toGlobal k (e .tag)) refl)) (λ b. rw b v)
+  stamp-within i k e w v = by-test (inQueue i e && not (eqb (e .action) none)) (λ b. rw b (go (toGlobal k (e .tag)) refl)) (λ b. rw b v)
     where
       go : (a : Answer) → toGlobal k (e .tag) ≡ a → within (tagOr (e .stored) a) ≡ true
       go (done g) q = global-within k (e .tag) g w q

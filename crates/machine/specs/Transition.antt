@@ -100,9 +100,9 @@ tagOr t (refused n) = t
 unfoldable pub maps : ℕ → Clock → Event → Bool
 maps i k e = not (inQueue i e) || isTag (toGlobal k (e .tag))
 
--- "set their stored tags": the new stored tag of an event, where scope i goes active by the clock k
+-- "set their stored tags": the new stored tag of an event with an action, where scope i goes active by the clock k
 unfoldable pub stamp : ℕ → Clock → Event → Tag
-stamp i k e = cond (inQueue i e) (tagOr (e .stored) (toGlobal k (e .tag))) (e .stored)
+stamp i k e = cond (inQueue i e && not (eqb (e .action) none)) (tagOr (e .stored) (toGlobal k (e .tag))) (e .stored)
 
 -- "then move their values, later old tag first, ties by acceptance"
 unfoldable pub movers : ℕ → List Event → List Event

@@ -1,0 +1,9 @@
+pub mod Computed
+pub mod DaysCall
+pub mod DaysClock
+pub mod DaysTurn
+pub mod DaysReset
+pub mod DaysFull
+pub mod Values
+pub mod Limits
+pub mod Broken

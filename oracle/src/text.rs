@@ -1,0 +1,137 @@
+//! `oracle asm TEXT DAY`: a day from its text, one row or record a line, parted by newlines or semicolons; '#' starts
+//! a comment.
+//!
+//! ```text
+//! scope PARENT REACTOR MODE      reactor ROOT INITIAL            mode SCOPE REACTOR          reaction LEVEL
+//! action SCOPE LOGICAL           trigger ACTION REACTION         startup SCOPE ACTION REACTION
+//! reset SCOPE REACTION           timer ACTION OFFSET MICROSTEP
+//! plain OFFSET MICROSTEP TERMINAL KEYS       network OFFSET MICROSTEP KEYS      control OFFSET MICROSTEP
+//! act ACTION OFFSET MICROSTEP TERMINAL KEYS  transition REACTOR MODE reset|history OFFSET MICROSTEP
+//! pop                            raw HEX (bytes of records)      repeat COUNT RECORD
+//! ```
+//!
+//! "-" is none, and an empty list of keys; others are joined by commas. Rows may stand in any order.
+
+/// Bytes a field of each kind of row, in the image's order.
+const ROWS: [(&str, &[usize]); 9] = [
+    ("scope", &[2, 2, 2]),
+    ("reactor", &[2, 2]),
+    ("mode", &[2, 2]),
+    ("reaction", &[1]),
+    ("action", &[2, 1]),
+    ("trigger", &[2, 2]),
+    ("startup", &[2, 2, 2]),
+    ("reset", &[2, 2]),
+    ("timer", &[2, 8, 4]),
+];
+
+/// Ops with the bytes of their fields; a list of keys, if any, comes after them.
+const OPS: [(&str, u8, &[usize], bool); 6] = [
+    ("plain", 1, &[8, 4, 1], true),
+    ("network", 2, &[8, 4], true),
+    ("control", 3, &[8, 4], false),
+    ("act", 4, &[2, 8, 4, 1], true),
+    ("transition", 5, &[2, 2, 1, 8, 4], false),
+    ("pop", 6, &[], false),
+];
+
+/// The bytes of a day; an error names the line that is not understood.
+pub fn assemble(text: &str) -> Result<Vec<u8>, String> {
+    let mut counts = [0u16; 9];
+    let mut rows: [Vec<u8>; 9] = Default::default();
+    let mut records = Vec::new();
+    for line in text.lines().flat_map(|line| bare(line).split(';')) {
+        let words: Vec<&str> = line.split_whitespace().collect();
+        let Some((&name, rest)) = words.split_first() else {
+            continue;
+        };
+        let understood = match ROWS.iter().position(|row| row.0 == name) {
+            Some(kind) => fields(rest, ROWS[kind].1).map(|bytes| {
+                counts[kind] += 1;
+                rows[kind].extend(bytes);
+            }),
+            None => record(&words).map(|bytes| records.extend(bytes)),
+        };
+        understood.ok_or_else(|| format!("what is \"{}\"?", line.trim()))?;
+    }
+    let mut body = vec![1];
+    body.extend(counts.iter().flat_map(|count| count.to_be_bytes()));
+    body.extend(rows.concat());
+    Ok([with_length(body), records].concat())
+}
+
+/// The comments at the top of a text: what the day shows.
+pub fn about(text: &str) -> Vec<&str> {
+    text.lines()
+        .map_while(|line| line.strip_prefix('#'))
+        .map(str::trim)
+        .collect()
+}
+
+/// A line without its comment.
+fn bare(line: &str) -> &str {
+    line.split('#').next().unwrap_or("")
+}
+
+fn with_length(body: Vec<u8>) -> Vec<u8> {
+    [(body.len() as u32).to_be_bytes().to_vec(), body].concat()
+}
+
+/// The bytes of a record, or of several.
+fn record(words: &[&str]) -> Option<Vec<u8>> {
+    match *words {
+        ["raw", hex] => raw(hex),
+        ["repeat", count, ref words @ ..] => Some(record(words)?.repeat(count.parse().ok()?)),
+        [name, ref words @ ..] => {
+            let &(_, op, widths, has_keys) = OPS.iter().find(|op| op.0 == name)?;
+            let (words, list) = match words.split_last() {
+                Some((&list, words)) if has_keys => (words, keys(list)?),
+                _ => (words, Vec::new()),
+            };
+            Some(with_length(
+                [vec![1, op], fields(words, widths)?, list].concat(),
+            ))
+        }
+        [] => None,
+    }
+}
+
+/// A list of keys, after their count.
+fn keys(list: &str) -> Option<Vec<u8>> {
+    let words: Vec<&str> = match list {
+        "-" => Vec::new(),
+        list => list.split(',').collect(),
+    };
+    let widths = vec![2; words.len()];
+    let count = (words.len() as u16).to_be_bytes().to_vec();
+    Some([count, fields(&words, &widths)?].concat())
+}
+
+fn raw(hex: &str) -> Option<Vec<u8>> {
+    hex.as_bytes()
+        .chunks(2)
+        .map(|pair| u8::from_str_radix(std::str::from_utf8(pair).ok()?, 16).ok())
+        .collect()
+}
+
+/// Numbers in so many bytes each; none if a word is missing, left over or does not fit.
+fn fields(words: &[&str], widths: &[usize]) -> Option<Vec<u8>> {
+    if words.len() != widths.len() {
+        return None;
+    }
+    let fields = words.iter().zip(widths);
+    let bytes: Option<Vec<_>> = fields.map(|(word, &width)| field(word, width)).collect();
+    Some(bytes?.concat())
+}
+
+fn field(word: &str, width: usize) -> Option<Vec<u8>> {
+    let value: u64 = match word {
+        "-" => 65535,
+        "reset" => 0,
+        "history" => 1,
+        _ => word.parse().ok()?,
+    };
+    let bytes = value.to_be_bytes();
+    let (front, bytes) = bytes.split_at(8 - width);
+    front.iter().all(|&byte| byte == 0).then(|| bytes.to_vec())
+}
