@@ -9,6 +9,7 @@ use lib.ListN.{length, getD, set, replicate}
 use lib.Dec.{eqb}
 use Rattle.lists.specs.Rows.{tab, stores}
 use Rattle.lists.specs.Held as H
+use Rattle.rows.specs.Kinds.{kinds, kindOf, scope}
 use Rattle.scopes.specs.Scopes.{Scope, mostScopes, scopeWords, blank, bitOf, marksWord, encode, decode, encode-long, scopesOf, Whole, Held}
 
 -- what is known of a scope in the code
@@ -82,3 +83,8 @@ blank-held =
       whole = H.whole-zero decode encode scopeWords mostScopes encode-long blank refl refl;
       things = H.zero-things decode encode scopeWords mostScopes encode-long blank refl refl (mostScopes * scopeWords);
     }
+
+-- as many as a table's count allows
+pub scopes-fit : kindOf scope .most ≡ mostScopes
+unfolding kindOf kinds
+scopes-fit = refl
