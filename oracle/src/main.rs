@@ -7,6 +7,7 @@ mod deep;
 mod image;
 mod judge;
 mod make;
+mod picture;
 mod plain;
 mod published;
 mod records;
@@ -40,6 +41,7 @@ oracle deep DAY [ANSWERS]           the Rust's state after every record
 oracle deep-plain DAY               the same from the plain machine
 oracle make SEED KIND               a made day
 oracle asm TEXT DAY                 a day from its text
+oracle picture TEXT SVG             a day from its text as a picture, clocks and events
 oracle antt FILE..                  days, or texts (.txt), as theorems for the checker to compute
 oracle map SEED COUNT SCRIPT ANSWERS            clock maps with the Rust's answers
 oracle store SEED COUNT SCRIPT ANSWERS          store calls
@@ -116,6 +118,13 @@ fn run(words: &[&str]) -> Result<(), Failure> {
                 text::assemble(&words).map_err(|words| Fault(format!("{text}: {words}")))?;
             std::fs::write(day, bytes)
                 .map_err(|error| Fault(format!("cannot write {day}: {error}")))?;
+        }
+        ["picture", text, svg] => {
+            let words = String::from_utf8(read(text)?).map_err(|error| Fault(error.to_string()))?;
+            let drawn =
+                picture::picture(&words).map_err(|words| Fault(format!("{text}: {words}")))?;
+            std::fs::write(svg, drawn)
+                .map_err(|error| Fault(format!("cannot write {svg}: {error}")))?;
         }
         ["antt", ref files @ ..] if !files.is_empty() => {
             let days: Result<Vec<_>, Failure> = files

@@ -4,6 +4,7 @@ pub mod DaysClock
 pub mod DaysTurn
 pub mod DaysReset
 pub mod DaysFull
+pub mod DaysHour
 pub mod Values
 pub mod Limits
 pub mod Broken
