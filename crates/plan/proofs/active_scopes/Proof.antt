@@ -1,0 +1,66 @@
+-- `plan::active_scopes` meets its contract: the scopes before i are marked. Assumes nothing.
+use Prim.Native.Nat.{_-_, _≤_}
+use mathlib.Core.Path.{_≡_}
+use Rattle.schedule.specs.Schedule.{isActive}
+use Rattle.scopes.specs.Scopes.{mostScopes}
+use Rattle.machine.specs.Table.{scopes}
+use Rattle.plan.specs.Plans.{Marks}
+use Rattle.plan.proofs.PlanLaws.{few-scopes, marks-none, marks-more, marks-all}
+use borrow.Author.Needs.{needs}
+use Rattle.plan.proofs.active_scopes.Statement.{statement}
+use Rattle.plan.proofs.active_scopes.Tie as tie
+use Rattle.plan.proofs.active_scopes.Reads as reads
+use Rattle.plan.proofs.active_scopes.Lts as lts
+use Rattle.key_set.proofs.KeySet.empty.Reads as empty-reads
+use Rattle.plan.proofs.mark.Reads as mark-reads
+use Rattle.rows.proofs.count.Reads as count-reads
+use Rattle.schedule.proofs.is_active.Reads as is-active-reads
+
+abbrev Inv-loop : tie.InvT-loop
+Inv-loop image modes n set₀ i₀ set i = (i ≤ n) × (n ≤ mostScopes) × (n ≡ scopes image) × Marks (isActive image modes) i (set .words)
+
+abbrev μ-loop : tie.MeasureT-loop
+μ-loop image modes n set₀ i₀ set i = n - i
+
+count-requires : tie.Need-count-requires Inv-loop μ-loop
+count-requires c κs = search needs
+
+empty-requires : tie.Need-empty-requires Inv-loop μ-loop
+empty-requires c κs = search needs
+
+loop-holds : tie.Need-loop-holds Inv-loop μ-loop
+loop-holds c = let a = c .before .before .before .before .args in let n = c .before .count .ensures in (search needs, rw n (few-scopes (a .image .now) (c .before .before .before .before .pre)), n, rw (c .empty .ensures) (marks-none _))
+
+is-active-requires : tie.Need-is-active-requires Inv-loop μ-loop
+is-active-requires c κs = search needs
+
+mark-requires : tie.Need-mark-requires Inv-loop μ-loop
+mark-requires c κs = search needs
+
+add-i : tie.Need-add-i Inv-loop μ-loop
+add-i c = search needs
+
+loop-less : tie.Need-loop-less Inv-loop μ-loop
+loop-less c = search needs
+
+loop-again : tie.Need-loop-again Inv-loop μ-loop
+loop-again c = let l = c .before .before .before .loop in (search needs, l .inv .1, l .inv .2, marks-more _ (l .i) (l .set .words) _ _ (search needs) (l .inv .3) (c .before .is-active .ensures) (c .mark .ensures))
+
+returns : tie.Need-returns Inv-loop μ-loop
+returns c = let l = c .before .loop in rw (← (l .inv .2)) (marks-all _ (l .i) _ (l .set .words) (search needs) (search needs) (l .inv .3))
+
+pub active-scopes-spec : {M : Type 1} → statement M
+active-scopes-spec =
+    tie.close
+    (tie.spec
+    Inv-loop
+    μ-loop
+    count-requires
+    empty-requires
+    loop-holds
+    is-active-requires
+    mark-requires
+    add-i
+    loop-less
+    loop-again
+    returns)

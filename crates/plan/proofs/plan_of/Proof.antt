@@ -1,0 +1,72 @@
+-- `plan::plan_of` meets its contract. Assumes nothing.
+use mathlib.Core.Path.{refl}
+use Prim.Native.Nat.{_≤_}
+use native.Mathlib.Omega.{arith}
+use lib.ListN.{length, length-take}
+use Rattle.plan.proofs.PlanLaws.{few-reactors, filled-long, filled-take, filled-new}
+use borrow.Author.Needs.{needs}
+use Rattle.plan.proofs.plan_of.Statement.{statement}
+use Rattle.plan.proofs.plan_of.Tie as tie
+use Rattle.plan.proofs.plan_of.Reads as reads
+use Rattle.plan.proofs.plan_of.Lts as lts
+use Rattle.plan.proofs.active_scopes.Reads as active-scopes-reads
+use Rattle.plan.proofs.new_modes.Reads as new-modes-reads
+use Rattle.plan.proofs.subtree_if.Reads as subtree-if-reads
+use Rattle.rows.proofs.count.Reads as count-reads
+use Rattle.rows.proofs.mode_scope.Reads as mode-scope-reads
+
+mode-scope-requires : tie.Need-mode-scope-requires
+mode-scope-requires c κs = search needs
+
+subtree-if-requires : tie.Need-subtree-if-requires
+subtree-if-requires c κs = search needs
+
+count-requires : tie.Need-count-requires
+count-requires c κs = search needs
+
+new-modes-requires : tie.Need-new-modes-requires
+new-modes-requires c κs = let a = c .before .before .before .before .args in (search needs, rw (c .count .ensures) (few-reactors (a .image .now) (c .before .before .before .before .pre .0)))
+
+cast-end : tie.Need-cast-end
+cast-end c = search needs
+
+array-share-prefix-after : tie.Need-array-share-prefix-after
+array-share-prefix-after c = let a = c .before .before .before .before .before .args in let p = c .before .before .before .before .before .pre in filled-long (a .image .now) (a .modes .now) (a .request) (p .0) (p .1 .0) (p .1 .1) _ _ (c .before .count .ensures) (c .new-modes .ensures)
+
+slice-aggregate-active-scopes : tie.Need-slice-aggregate-active-scopes
+slice-aggregate-active-scopes c = let a = c .before .before .before .before .before .before .args in let p = c .before .before .before .before .before .before .pre in let n : c .before .before .count .result ≤ length (c .before .new-modes .result) = filled-long (a .image .now) (a .modes .now) (a .request) (p .0) (p .1 .0) (p .1 .1) _ _ (c .before .before .count .ensures) (c .before .new-modes .ensures) in rw length-take (omega arith)
+
+active-scopes-requires : tie.Need-active-scopes-requires
+active-scopes-requires c κs = search needs
+
+returns : tie.Need-returns
+returns c =
+    let start = c .before .before .before .before .before .before .before .before in
+    let a = start .args in
+    let p = start .pre in
+    let target = c .before .before .before .before .before .before .mode-scope .ensures in
+    let count = c .before .before .before .before .count .ensures in
+    let modes = c .before .before .before .new-modes .ensures in
+    record {
+      c = refl;
+      target = target;
+      inside = rw (← target) (c .before .before .before .before .before .subtree-if .ensures);
+      now = rw (← (filled-take (a .image .now) (a .modes .now) (a .request) (p .0) (p .1 .0) (p .1 .1) _ _ count modes)) (c .before .active-scopes .ensures);
+      modes = filled-new (a .image .now) (a .modes .now) (a .request) (p .0) (p .1 .0) (p .1 .1) _ _ count modes;
+      counts = refl;
+      held = refl;
+    }
+
+pub plan-of-spec : {M : Type 1} → statement M
+plan-of-spec =
+    tie.close
+    (tie.spec
+    mode-scope-requires
+    subtree-if-requires
+    count-requires
+    new-modes-requires
+    cast-end
+    array-share-prefix-after
+    slice-aggregate-active-scopes
+    active-scopes-requires
+    returns)

@@ -1,0 +1,24 @@
+-- `plan::subtree_if` meets its contract. Assumes nothing.
+use Rattle.plan.proofs.PlanLaws.{marks-never}
+use borrow.Author.Needs.{needs}
+use Rattle.plan.proofs.subtree_if.Statement.{statement}
+use Rattle.plan.proofs.subtree_if.Tie as tie
+use Rattle.plan.proofs.subtree_if.Reads as reads
+use Rattle.plan.proofs.subtree_if.Lts as lts
+use Rattle.key_set.proofs.KeySet.empty.Reads as empty-reads
+use Rattle.plan.proofs.subtree.Reads as subtree-reads
+
+subtree-requires : tie.Need-subtree-requires
+subtree-requires c κs = search needs
+
+returns : tie.Need-returns
+returns c = rw (c .before .if1 .taken) (c .subtree .ensures)
+
+empty-requires : tie.Need-empty-requires
+empty-requires c κs = search needs
+
+returns-2 : tie.Need-returns-2
+returns-2 c = rw (c .empty .ensures) (marks-never _ _ λ i. rw (c .before .if1 .left))
+
+pub subtree-if-spec : {M : Type 1} → statement M
+subtree-if-spec = tie.close (tie.spec subtree-requires returns empty-requires returns-2)

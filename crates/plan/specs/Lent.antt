@@ -1,0 +1,181 @@
+-- The rows of events and values that a transition's steps are lent, and the machine's state that they hold. Assumes nothing.
+use mathlib.Core.Bool.{Bool, true, false, cond, not, _&&_, _||_}
+use mathlib.Core.Path.{_≡_, refl, ap, _∙_, sym}
+use mathlib.Core.List.{List, [], _∷_, _++_}
+use Prim.Native.Nat.{ℕ, _+_, _≤_, _<_}
+use native.Mathlib.Omega.{arith}
+use lib.Dec.{leb}
+use lib.ListN.{length, take, set, length-append}
+use borrow.Author.Tests.{le-leb, lt-leb}
+use Rattle.lists.specs.Held as H
+use Rattle.lists.specs.Lists.{count, count-append}
+use Rattle.lists.specs.Changes.{or-no-left, or-no-right, room-upsert}
+use Rattle.lists.specs.Every.{unless-is, done-is}
+use Rattle.lists.specs.Walk.{Result, done, refused, _>>=_}
+use Rattle.refusals.specs.declared.Refusal.{Refusal}
+use Rattle.refusals.specs.declared.Refusal.the-variants as R
+use Rattle.tags.specs.Tags.{Tag}
+use Rattle.entries.specs.Entries.{mostHeld}
+use Rattle.store.specs.Store.{Store, pushed, lacks, isValue, isBucket}
+use Rattle.store_calls.specs.declared.Counts as store
+use Rattle.store_calls.specs.declared.Changed.{Changed}
+use Rattle.store_calls.specs.declared.Outcome.{Outcome}
+use Rattle.store_calls.specs.declared.Outcome.the-variants as O
+use Rattle.store_calls.specs.Lent.{storeOf, Lent, Laid, Did, told, after}
+use Rattle.machine.specs.State.{Event, State, mostWaiting, ordinary, withQueue, withStore, tally, accepted}
+use Rattle.machine.specs.Transition.{Step, held}
+use Rattle.slots.specs.Slots as slot
+use Rattle.slots.specs.Slots.{eventsOf}
+use Rattle.lens.specs.declared.Counts.{Counts}
+use Rattle.lens.specs.Padded.{padded}
+use Rattle.lens.specs.Lens.{Queued, Waits, waits-queued, queued-is, queued-waits, queued-more, Stored, Fits, stored-lent, stored-is, stored-laid}
+
+-- the values and buckets, and blanks behind them
+pub record Holds (vs bs : List ℕ) (h : store.Counts) : Type 0 where
+  pub stored : Stored (storeOf vs bs h) vs bs h
+  pub fits : Fits (storeOf vs bs h)
+
+-- and the events
+pub record Good (es vs bs : List ℕ) (c : Counts) (h : store.Counts) : Type 0 where
+  pub waits : Waits es c
+  pub holds : Holds vs bs h
+
+-- a state with the events, or the store, or both, that the rows hold
+abbrev pub queueIn : State → List ℕ → Counts → State
+queueIn s es c = withQueue s (take (c .waiting) (eventsOf es)) (c .work)
+
+abbrev pub storeIn : State → List ℕ → List ℕ → store.Counts → State
+storeIn s vs bs h = withStore s (storeOf vs bs h)
+
+abbrev pub rowsIn : State → List ℕ → List ℕ → List ℕ → Counts → store.Counts → State
+rowsIn s es vs bs c h = storeIn (queueIn s es c) vs bs h
+
+-- a step's outcome, with the state that it leaves where it is done
+abbrev pub finished : Outcome → State → Step
+finished O.Done t = done t
+finished (O.Refused r) t = refused r
+
+-- what follows it
+abbrev pub onward : Outcome → State → (State → Step) → Step
+onward o t f = finished o t >>= f
+
+-- ---- a state that the rows hold
+
+module _ (s : State) (es vs bs : List ℕ) (c : Counts) (h : store.Counts) where
+  pub rows-are : Queued (s .waiting) (s .work) es c → length (s .waiting) ≤ mostWaiting → Stored (s .store) vs bs h → Fits (s .store) → rowsIn s es vs bs c h ≡ s
+  rows-are q l t f =
+      let a = queued-is (s .waiting) (s .work) es c q l in
+      let b = stored-is (s .store) vs bs h t f in
+      rw (a, q .work, b)
+
+  pub rows-good : Queued (s .waiting) (s .work) es c → length (s .waiting) ≤ mostWaiting → s .work ≡ count ordinary (s .waiting) → Stored (s .store) vs bs h → Fits (s .store) → Good es vs bs c h
+  rows-good q l k t f =
+      let b = stored-is (s .store) vs bs h t f in
+      record { waits = queued-waits (s .waiting) (s .work) es c q l k; holds = record { stored = rw b t; fits = rw b f } }
+
+  -- and what a state is held by, that is the rows' own
+  module _ (g : Good es vs bs c h) where
+    pub good-queued : Queued (rowsIn s es vs bs c h .waiting) (rowsIn s es vs bs c h .work) es c
+    good-queued = waits-queued es c (g .waits)
+
+    pub good-stored : Stored (rowsIn s es vs bs c h .store) vs bs h
+    good-stored = g .holds .stored
+
+-- ---- the store
+
+module _ (vs bs : List ℕ) (h : store.Counts) (k : Holds vs bs h) where
+  pub holds-lent : Lent vs bs h
+  holds-lent = stored-lent (storeOf vs bs h) vs bs h (k .stored) (k .fits)
+
+  -- a new store laid over it
+  module _ (t : Store) (vs-end bs-end : List ℕ) (m : store.Counts) (f : Fits t) (l : Laid vs bs h t vs-end bs-end m) where
+    abbrev now-stored : Stored t vs-end bs-end m
+    now-stored = stored-laid (storeOf vs bs h) vs bs h (k .stored) (k .fits) t vs-end bs-end m l
+
+    pub laid-is : storeOf vs-end bs-end m ≡ t
+    laid-is = stored-is t vs-end bs-end m now-stored f
+
+    pub laid-holds : Holds vs-end bs-end m
+    laid-holds = record { stored = rw laid-is now-stored; fits = rw laid-is f }
+
+pushed-fits : (st : Store) (a : ℕ) (t : Tag) (v : ℕ) (u : Store) → Fits st → pushed st a t v ≡ done u → Fits u
+unfolding pushed lacks
+pushed-fits st a t v u f e =
+    let x = unless-is (lacks (isValue a t) (st .values) || lacks (isBucket a (t .offset)) (st .buckets)) R.Held e in
+    let y = done-is (x .1) in
+    record {
+      values = rw (← (ap (λ z. z .values) y)) (room-upsert _ _ _ mostHeld (st .values) (f .values) (or-no-left (lacks (isValue a t) (st .values)) _ (x .0)));
+      buckets = rw (← (ap (λ z. z .buckets) y)) (room-upsert _ _ _ mostHeld (st .buckets) (f .buckets) (or-no-right (lacks (isValue a t) (st .values)) _ (x .0)));
+    }
+
+-- a value pushed
+module _ (vs bs : List ℕ) (h : store.Counts) (k : Holds vs bs h) (a : ℕ) (t : Tag) (vs-end bs-end : List ℕ) (m : Changed)
+    (d : Did vs bs h (pushed (storeOf vs bs h) a t 0) vs-end bs-end m) where
+  pub push-holds : Holds vs-end bs-end (m .held)
+  push-holds = go (pushed (storeOf vs bs h) a t 0) refl d
+    where
+      go : (r : Result Refusal Store) → pushed (storeOf vs bs h) a t 0 ≡ r → Did vs bs h r vs-end bs-end m → Holds vs-end bs-end (m .held)
+      go (done u) e d = laid-holds vs bs h k u vs-end bs-end (m .held) (pushed-fits _ a t 0 u (k .fits) e) (d .laid)
+      go (refused x) e d = laid-holds vs bs h k (storeOf vs bs h) vs-end bs-end (m .held) (k .fits) (d .laid)
+
+  pub push-step : (s : State) → held a t (storeIn s vs bs h) ≡ finished (m .outcome) (storeIn s vs-end bs-end (m .held))
+  unfolding held
+  push-step s = go (pushed (storeOf vs bs h) a t 0) refl d
+    where
+      go : (r : Result Refusal Store) → pushed (storeOf vs bs h) a t 0 ≡ r → Did vs bs h r vs-end bs-end m →
+          (r >>= λ st. done (withStore s st)) ≡ finished (m .outcome) (storeIn s vs-end bs-end (m .held))
+      go (done u) e d = rw (d .outcome, laid-is vs bs h k u vs-end bs-end (m .held) (pushed-fits _ a t 0 u (k .fits) e) (d .laid))
+      go (refused x) e d = rw (d .outcome)
+
+-- ---- the events
+
+more-work : (e : Event) (l : List Event) → tally e (count ordinary l) ≡ count ordinary (l ++ (e ∷ []))
+unfolding count
+more-work e l = put (ordinary e) ∙ sym (count-append ordinary l (e ∷ []))
+  where
+    put : (b : Bool) → cond b (count ordinary l + 1) (count ordinary l) ≡ count ordinary l + cond b 1 0
+    put true = refl
+    put false = omega arith
+
+module _ (es : List ℕ) (c : Counts) (w : Waits es c) (e : Event) (es-end : List ℕ) (o : slot.Held es-end (set (eventsOf es) (c .waiting) e)) where
+  -- as many wait as may: nothing changes
+  module _ (full : mostWaiting ≤ c .waiting) where
+    same-events : eventsOf es-end ≡ eventsOf es
+    same-events = o .things ∙ H.set-past slot.decode slot.encode slot.slotWords mostWaiting slot.encode-long es (c .waiting) full e
+
+    pub full-waits : Waits es-end c
+    full-waits =
+        let q = same-events in
+        record { held = record { whole = o .whole; things = rw q (w .held .things) }; few = w .few; counted = rw q (w .counted) }
+
+    pub full-step : (s : State) → accepted (queueIn s es c) e ≡ refused R.Waiting
+    unfolding accepted
+    full-step s =
+        let l : mostWaiting ≤ length (take (c .waiting) (eventsOf es)) = rw (← (waits-queued es c w .waiting)) full in
+        rw (le-leb mostWaiting _ l)
+
+  module _ (room : c .waiting < mostWaiting) (m : Counts) (f : m .waiting ≡ c .waiting + 1) (g : m .work ≡ tally e (c .work)) where
+    abbrev before : List Event
+    before = take (c .waiting) (eventsOf es)
+
+    long : length before ≡ c .waiting
+    long = sym (waits-queued es c w .waiting)
+
+    grown : length (before ++ (e ∷ [])) ≡ c .waiting + 1
+    grown = length-append before (e ∷ []) ∙ ap (_+ 1) long
+
+    now-queued : Queued (before ++ (e ∷ [])) (tally e (c .work)) es-end m
+    now-queued =
+        record { held = queued-more before (c .work) es c e es-end (waits-queued es c w) o; waiting = f ∙ sym grown; work = g }
+
+    fit : length (before ++ (e ∷ [])) ≤ mostWaiting
+    fit = rw grown (omega arith)
+
+    pub more-waits : Waits es-end m
+    more-waits = queued-waits (before ++ (e ∷ [])) (tally e (c .work)) es-end m now-queued fit (ap (tally e) (w .counted) ∙ more-work e before)
+
+    pub more-step : (s : State) → accepted (queueIn s es c) e ≡ done (queueIn s es-end m)
+    unfolding accepted
+    more-step s =
+        let l : length before < mostWaiting = rw long room in
+        rw (lt-leb mostWaiting _ l, queued-is (before ++ (e ∷ [])) (tally e (c .work)) es-end m now-queued fit, g)

@@ -1,0 +1,170 @@
+// What a transition goes by, worked out before anything changes: document 01, "A transition", its subtree and its modes.
+ghost use mathlib.Core.Path.{_≡_};
+ghost use mathlib.Core.Bool.{true, cond, _&&_};
+ghost use mathlib.Core.List.{map};
+ghost use Prim.Native.Nat.{_≤_, _<_};
+ghost use lib.ListN.{length};
+ghost use Rattle.lists.specs.Lists.{from};
+ghost use Rattle.rows.specs.Lineage.{inSubtree};
+ghost use Rattle.key_set.specs.Sets.{insertKey};
+ghost use Rattle.schedule.specs.Schedule.{isActive};
+ghost use Rattle.table.specs.Check.{isTable};
+ghost use Rattle.lens.specs.Padded.{padded};
+ghost use Rattle.machine.specs.Table.{scopes as scopesIn, reactors as reactorsIn};
+ghost use Rattle.plan.specs.Plans.{mostReactors, Marks, modeAfter, Planned};
+use key_set::KeySet;
+use tags::GlobalTag;
+
+// How many reactors there may be; `mostReactors` of specs/ says the same.
+pub const MOST_REACTORS: usize = 16;
+
+// The tag c, the target scope, the scopes of the reset subtree (none for a history transition), those that are active from now on,
+// the modes from now on, and how much waits and is held before the transition.
+pub struct Plan {
+    pub c: GlobalTag,
+    pub target: u16,
+    pub inside: KeySet,
+    pub now: KeySet,
+    pub modes: [u16; MOST_REACTORS],
+    pub counts: lens::Counts,
+    pub held: store_calls::Counts,
+}
+
+// What is asked for: a reactor, the mode it goes to, whether by reset, and the current tag c.
+pub struct Request {
+    pub reactor: u16,
+    pub mode: u16,
+    pub reset: bool,
+    pub c: GlobalTag,
+}
+
+// ---- sets of scopes
+
+// The key goes into the set where it passes.
+pub fn mark(set: KeySet, test: bool, key: u16) -> KeySet
+    ensures { λ r. ⌜ r .words ≡ cond test (insertKey (set .words) key) (set .words) ⌝ }
+{
+    if test {
+        return set.insert(key as usize);
+    }
+    set
+}
+
+// The target scope's subtree, itself included.
+fn subtree(image: &[u8], target: u16) -> KeySet
+    requires { ⌜ isTable (now image) ≡ true ⌝ }
+    ensures { λ r. ⌜ Marks (inSubtree (now (image .entry)) target) (scopesIn (now (image .entry))) (r .words) ⌝ }
+{
+    let n = rows::count(image, rows::SCOPE);
+    let mut set = KeySet::empty();
+    let mut i: u16 = 0;
+    while i < n {
+        let test = rows::in_subtree(image, target, i);
+        set = mark(set, test, i);
+        i += 1;
+    }
+    set
+}
+
+// None for a history transition.
+fn subtree_if(image: &[u8], reset: bool, target: u16) -> KeySet
+    requires { ⌜ isTable (now image) ≡ true ⌝ }
+    ensures { λ r. ⌜ Marks (λ i. reset && inSubtree (now (image .entry)) target i) (scopesIn (now (image .entry))) (r .words) ⌝ }
+{
+    if reset {
+        return subtree(image, target);
+    }
+    KeySet::empty()
+}
+
+// The scopes that are active by the modes.
+fn active_scopes(image: &[u8], modes: &[u16]) -> KeySet
+    requires { ⌜ isTable (now image) ≡ true ⌝ }
+    ensures { λ r. ⌜ Marks (isActive (now (image .entry)) (now (modes .entry))) (scopesIn (now (image .entry))) (r .words) ⌝ }
+{
+    let n = rows::count(image, rows::SCOPE);
+    let mut set = KeySet::empty();
+    let mut i: u16 = 0;
+    while i < n {
+        let test = schedule::is_active(image, modes, i);
+        set = mark(set, test, i);
+        i += 1;
+    }
+    set
+}
+
+// ---- modes
+
+// A reactor's mode from now on: the one asked for, its initial one in the reset subtree, or as it was.
+fn mode_after(image: &[u8], modes: &[u16; MOST_REACTORS], request: Request, reactor: u16) -> u16
+    requires { ⌜ (length (now modes) ≡ mostReactors) × (reactor < mostReactors) ⌝ }
+    ensures { λ r. ⌜ r ≡ modeAfter (now (image .entry)) (now (modes .entry)) request reactor ⌝ }
+{
+    if reactor == request.reactor {
+        return request.mode;
+    }
+    let at = reactor as usize;
+    let current = modes[at];
+    if !request.reset {
+        return current;
+    }
+    let target = rows::mode_scope(image, request.mode);
+    let root = rows::root_scope(image, reactor);
+    if rows::under(image, target, root) {
+        return rows::initial_mode(image, reactor);
+    }
+    current
+}
+
+// The modes of the first n reactors from now on, and zeros behind them.
+fn new_modes(
+    image: &[u8],
+    modes: &[u16; MOST_REACTORS],
+    request: Request,
+    n: u16,
+) -> [u16; MOST_REACTORS]
+    requires { ⌜ (length (now modes) ≡ mostReactors) × (n ≤ mostReactors) ⌝ }
+    ensures { λ r. ⌜ r ≡ padded 0 mostReactors (map (modeAfter (now (image .entry)) (now (modes .entry)) request) (from 0 n)) ⌝ }
+{
+    let mut out = [0u16; MOST_REACTORS];
+    let mut i: u16 = 0;
+    while i < n {
+        let mode = mode_after(image, modes, request, i);
+        let at = i as usize;
+        out[at] = mode;
+        i += 1;
+    }
+    out
+}
+
+// ---- the plan
+
+pub fn plan_of(
+    image: &[u8],
+    modes: &[u16; MOST_REACTORS],
+    request: Request,
+    counts: lens::Counts,
+    held: store_calls::Counts,
+) -> Plan
+    requires { ⌜ isTable (now image) ≡ true ⌝ }
+    requires { ⌜ length (now modes) ≡ mostReactors ⌝ }
+    requires { ⌜ request .reactor < reactorsIn (now image) ⌝ }
+    ensures { λ r. ⌜ Planned (now (image .entry)) (now (modes .entry)) request counts held r ⌝ }
+{
+    let target = rows::mode_scope(image, request.mode);
+    let inside = subtree_if(image, request.reset, target);
+    let n = rows::count(image, rows::REACTOR);
+    let after = new_modes(image, modes, request, n);
+    let end = n as usize;
+    let now = active_scopes(image, &after[..end]);
+    let c = request.c;
+    Plan {
+        c,
+        target,
+        inside,
+        now,
+        modes: after,
+        counts,
+        held,
+    }
+}

@@ -1,0 +1,2 @@
+pub mod PopLaws
+pub mod AsMachine

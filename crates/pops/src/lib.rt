@@ -1,0 +1,327 @@
+// Pop and peek over the events and scopes in lent rows: document 01, "Pop at peek tag t". What they mean is in specs/.
+ghost use mathlib.Core.Path.{_≡_};
+ghost use Prim.Native.Nat.{_+_, _≤_};
+ghost use lib.ListN.{length, take};
+ghost use Rattle.lists.specs.Lists.{every};
+ghost use Rattle.rows.specs.Kinds.{scope, count};
+ghost use Rattle.tags.specs.Views.{ofGlobal};
+ghost use Rattle.machine.specs.State.{mostWaiting};
+ghost use Rattle.machine.specs.Heads.{sooner, isAt};
+ghost use Rattle.machine.specs.Machine.{peekAt};
+ghost use Rattle.slots.specs.Slots.{eventsOf, eventOf};
+ghost use Rattle.scopes.specs.Scopes.{mostScopes, scopesOf};
+ghost use Rattle.queue.specs.Queue.{ofStamp, headsOf};
+ghost use Rattle.heads.specs.Found.{headOf, leastHead};
+ghost use Rattle.ready.specs.Gathering.{gatheringOf};
+ghost use Rattle.lens.specs.Lens.{Waits};
+ghost use Rattle.pops.specs.Pops.{untaken, taken, tookAt, tookScopes, peekHead, popOf, controlled, controlIn, replyOf, Takes, Pops};
+use heads::Head;
+use heads::HeadAt;
+use key_set::KeySet;
+use lens::Counts;
+use queue::Which;
+use ready::Gathered;
+use slots::Slot;
+use tags::GlobalTag;
+
+// Whether there was a head, its tag, what was gathered there (the action keys stand in the lent array), and what still waits.
+pub struct Popped {
+    pub found: bool,
+    pub tag: GlobalTag,
+    pub gathered: Gathered,
+    pub counts: Counts,
+}
+
+pub enum Peeked {
+    Nothing,
+    At(GlobalTag),
+}
+
+// What was gathered so far, and what still waits.
+struct Taking {
+    gathered: Gathered,
+    counts: Counts,
+}
+
+// What the scopes are taken by: the tag, their number, the least of their heads, and how many turns there are at most.
+struct Turn {
+    tag: GlobalTag,
+    scopes: u16,
+    local: Head,
+    turns: usize,
+}
+
+// ---- heads
+
+fn is_at(h: Head, t: GlobalTag) -> bool
+    ensures { λ r. ⌜ r ≡ isAt (ofGlobal t) (headOf h) ⌝ }
+{
+    match h {
+        Head::Empty => false,
+        Head::At(x) => {
+            let g = x.tag;
+            g.same(t)
+        }
+    }
+}
+
+// The tag of the earlier of two heads.
+fn peek_of(root: Head, local: Head) -> Peeked
+    ensures { λ r. ⌜ replyOf r ≡ peekAt (sooner (headOf root) (headOf local)) ⌝ }
+{
+    match root {
+        Head::Empty => match local {
+            Head::Empty => Peeked::Nothing,
+            Head::At(y) => {
+                let second = y.tag;
+                Peeked::At(second)
+            }
+        },
+        Head::At(x) => {
+            let first = x.tag;
+            match local {
+                Head::Empty => Peeked::At(first),
+                Head::At(y) => {
+                    let second = y.tag;
+                    if second.earlier(first) {
+                        Peeked::At(second)
+                    } else {
+                        Peeked::At(first)
+                    }
+                }
+            }
+        }
+    }
+}
+
+// The least head of the first n scopes.
+fn local_head(
+    scopes: &[u64; scopes::ROOM],
+    n: u16,
+    events: &[u64; slots::ROOM],
+    waiting: usize,
+) -> Head
+    requires { ⌜ waiting ≤ mostWaiting ⌝ }
+    ensures { λ r. ⌜ headOf r ≡ leastHead (scopesOf (now (scopes .entry))) (headsOf (take waiting (eventsOf (now (events .entry))))) n ⌝ }
+{
+    let heads = queue::heads(events, waiting);
+    heads::scope_head(&heads, scopes, n)
+}
+
+// ---- taking
+
+// All events at a head.
+fn take_at(
+    events: &mut [u64; slots::ROOM],
+    keys: &mut [u16; slots::MOST_WAITING],
+    given: Taking,
+    h: HeadAt,
+) -> Taking
+    requires { ⌜ Waits (now events) (given .counts) ⌝ }
+    requires { ⌜ (length (now keys) ≡ mostWaiting) × (given .gathered .actions + given .counts .waiting ≤ mostWaiting) ⌝ }
+    ensures { λ r. ⌜ Takes (taken (h .queue) (ofStamp (h .stamp)) (untaken (take (given .counts .waiting) (eventsOf (now (events .entry)))) (given .counts .work))) (gatheringOf (given .gathered) (now (keys .entry))) (now (events .exit)) (now (keys .exit)) (r .gathered) (r .counts) ⌝ }
+{
+    let none = KeySet::empty();
+    let stamp = h.stamp;
+    let which = Which {
+        by_tag: true,
+        queue: h.queue,
+        stamp,
+        inside: none,
+    };
+    let counts = given.counts;
+    let before = given.gathered;
+    let gathered = ready::gather(events, counts.waiting, which, keys, before);
+    let gone = queue::remove(events, counts.waiting, which);
+    let left = Counts {
+        waiting: gone.count,
+        work: counts.work - gone.ordinary,
+    };
+    Taking {
+        gathered,
+        counts: left,
+    }
+}
+
+// All events at a head, if the head is t.
+fn take_head(
+    events: &mut [u64; slots::ROOM],
+    keys: &mut [u16; slots::MOST_WAITING],
+    given: Taking,
+    h: Head,
+    t: GlobalTag,
+) -> Taking
+    requires { ⌜ Waits (now events) (given .counts) ⌝ }
+    requires { ⌜ (length (now keys) ≡ mostWaiting) × (given .gathered .actions + given .counts .waiting ≤ mostWaiting) ⌝ }
+    ensures { λ r. ⌜ Takes (tookAt (ofGlobal t) (untaken (take (given .counts .waiting) (eventsOf (now (events .entry)))) (given .counts .work)) (headOf h)) (gatheringOf (given .gathered) (now (keys .entry))) (now (events .exit)) (now (keys .exit)) (r .gathered) (r .counts) ⌝ }
+{
+    match h {
+        Head::Empty => given,
+        Head::At(x) => {
+            let g = x.tag;
+            if g.same(t) {
+                take_at(events, keys, given, x)
+            } else {
+                given
+            }
+        }
+    }
+}
+
+// While the least scope head is the tag, all events at that head.
+fn take_scopes(
+    scopes: &[u64; scopes::ROOM],
+    events: &mut [u64; slots::ROOM],
+    keys: &mut [u16; slots::MOST_WAITING],
+    given: Taking,
+    turn: Turn,
+) -> Taking
+    requires { ⌜ Waits (now events) (given .counts) ⌝ }
+    requires { ⌜ (length (now keys) ≡ mostWaiting) × (given .gathered .actions + given .counts .waiting ≤ mostWaiting) ⌝ }
+    requires { ⌜ headOf (turn .local) ≡ leastHead (scopesOf (now scopes)) (headsOf (take (given .counts .waiting) (eventsOf (now events)))) (turn .scopes) ⌝ }
+    ensures { λ r. ⌜ Takes (tookScopes (turn .turns) (scopesOf (now (scopes .entry))) (turn .scopes) (ofGlobal (turn .tag)) (untaken (take (given .counts .waiting) (eventsOf (now (events .entry)))) (given .counts .work))) (gatheringOf (given .gathered) (now (keys .entry))) (now (events .exit)) (now (keys .exit)) (r .gathered) (r .counts) ⌝ }
+{
+    let t = turn.tag;
+    let n = turn.scopes;
+    let mut local = turn.local;
+    let mut out = given;
+    let mut turns = turn.turns;
+    while 0 < turns {
+        turns -= 1;
+        if is_at(local, t) {
+            out = take_head(events, keys, out, local, t);
+            let counts = out.counts;
+            local = local_head(scopes, n, events, counts.waiting);
+        } else {
+            return out;
+        }
+    }
+    out
+}
+
+// The events at the least head's tag: the root's, then the scopes'.
+pub fn pop_next_event(
+    image: &[u8],
+    scopes: &[u64; scopes::ROOM],
+    events: &mut [u64; slots::ROOM],
+    counts: Counts,
+    keys: &mut [u16; slots::MOST_WAITING],
+) -> Popped
+    requires { ⌜ count (now image) scope ≤ mostScopes ⌝ }
+    requires { ⌜ Waits (now events) counts ⌝ }
+    requires { ⌜ length (now keys) ≡ mostWaiting ⌝ }
+    ensures { λ r. ⌜ Pops (popOf (scopesOf (now (scopes .entry))) (count (now (image .entry)) scope) (take (counts .waiting) (eventsOf (now (events .entry)))) (counts .work)) r (now (events .exit)) (now (keys .exit)) ⌝ }
+{
+    let n = rows::count(image, rows::SCOPE);
+    let waiting = counts.waiting;
+    let heads = queue::heads(events, waiting);
+    let root = heads::root_head(&heads);
+    let local = heads::scope_head(&heads, scopes, n);
+    let none = Gathered::nothing_yet(keys);
+    match peek_of(root, local) {
+        Peeked::Nothing => Popped {
+            found: false,
+            tag: GlobalTag(0, 0),
+            gathered: none,
+            counts,
+        },
+        Peeked::At(t) => {
+            let start = Taking {
+                gathered: none,
+                counts,
+            };
+            let first = take_head(events, keys, start, root, t);
+            let turn = Turn {
+                tag: t,
+                scopes: n,
+                local,
+                turns: waiting,
+            };
+            let all = take_scopes(scopes, events, keys, first, turn);
+            let gathered = all.gathered;
+            let left = all.counts;
+            Popped {
+                found: true,
+                tag: t,
+                gathered,
+                counts: left,
+            }
+        }
+    }
+}
+
+// ---- peeking
+
+pub fn peek_tag(
+    image: &[u8],
+    scopes: &[u64; scopes::ROOM],
+    events: &[u64; slots::ROOM],
+    counts: Counts,
+) -> Peeked
+    requires { ⌜ counts .waiting ≤ mostWaiting ⌝ }
+    ensures { λ r. ⌜ replyOf r ≡ peekAt (peekHead (scopesOf (now (scopes .entry))) (count (now (image .entry)) scope) (take (counts .waiting) (eventsOf (now (events .entry))))) ⌝ }
+{
+    let n = rows::count(image, rows::SCOPE);
+    let heads = queue::heads(events, counts.waiting);
+    let root = heads::root_head(&heads);
+    let local = heads::scope_head(&heads, scopes, n);
+    peek_of(root, local)
+}
+
+// An event that is the root's at the tag is a control event.
+fn is_controlled(s: Slot, t: GlobalTag) -> bool
+    ensures { λ r. ⌜ r ≡ controlled (ofGlobal t) (eventOf s) ⌝ }
+{
+    if s.queue == slots::NONE {
+        if s.offset == t.0 {
+            if s.microstep == t.1 {
+                return s.control;
+            }
+        }
+    }
+    true
+}
+
+fn all_controlled(events: &[u64; slots::ROOM], waiting: usize, t: GlobalTag) -> bool
+    requires { ⌜ waiting ≤ mostWaiting ⌝ }
+    ensures { λ r. ⌜ r ≡ every (controlled (ofGlobal t)) (take waiting (eventsOf (now (events .entry)))) ⌝ }
+{
+    let mut i: usize = 0;
+    while i < waiting {
+        let s = slots::slot_at(events, i);
+        if is_controlled(s, t) {
+            i += 1;
+        } else {
+            return false;
+        }
+    }
+    true
+}
+
+pub fn peek_is_control_only(
+    image: &[u8],
+    scopes: &[u64; scopes::ROOM],
+    events: &[u64; slots::ROOM],
+    counts: Counts,
+) -> bool
+    requires { ⌜ counts .waiting ≤ mostWaiting ⌝ }
+    ensures { λ r. ⌜ r ≡ controlIn (scopesOf (now (scopes .entry))) (count (now (image .entry)) scope) (take (counts .waiting) (eventsOf (now (events .entry)))) ⌝ }
+{
+    let n = rows::count(image, rows::SCOPE);
+    let waiting = counts.waiting;
+    let heads = queue::heads(events, waiting);
+    let root = heads::root_head(&heads);
+    let local = heads::scope_head(&heads, scopes, n);
+    match peek_of(root, local) {
+        Peeked::Nothing => false,
+        Peeked::At(t) => {
+            if is_at(root, t) {
+                if is_at(local, t) {
+                    return false;
+                }
+                return all_controlled(events, waiting, t);
+            }
+            false
+        }
+    }
+}

@@ -1,0 +1,233 @@
+// The records of a gate day: document 01, "The bench program". A record is parsed from exactly the bytes that its length counts.
+// Total on bytes: a call, or malformed. Any tag and any key is well formed; whether the table has them is for the call.
+ghost use mathlib.Core.Path.{_≡_};
+ghost use mathlib.Core.Bool.{true};
+ghost use Prim.Native.Nat.{ℕ};
+ghost use mathlib.Core.List.{List};
+ghost use lib.ListN.{length};
+ghost use Rattle.tags.specs.Views.{ofGlobal};
+ghost use Rattle.records.specs.Records.{mostKeys, tagAt, isBit, isOne, isZero, keysFill, plainOf, networkOf, controlOf, actionOf, transitionOf, popOf, opOf, bodyOf, lengthOf};
+ghost use Rattle.records.specs.Views.{Parses, Filled, ofHead};
+use tags::GlobalTag;
+
+// A record names at most so many reactions.
+pub const MOST_KEYS: usize = 128;
+
+// No record is longer, its length not counted.
+pub const MOST_BYTES: usize = 512;
+
+// The bytes of a length.
+pub const LENGTH_BYTES: usize = 4;
+
+const VERSION: u8 = 1;
+
+// A record; where it has reaction keys, how many, and they stand beside it in a lent array.
+pub enum Parsed {
+    // tag, terminal, keys
+    Plain(GlobalTag, bool, u16),
+    // tag, keys
+    Network(GlobalTag, u16),
+    Control(GlobalTag),
+    // action, tag, terminal, keys
+    Action(u16, GlobalTag, bool, u16),
+    // reactor, target mode, reset, current tag
+    Transition(u16, u16, bool, GlobalTag),
+    Pop,
+    Malformed,
+}
+
+// What stands where a length is due.
+pub enum Head {
+    // how many bytes follow
+    Counts(usize),
+    // a length over the most, or 1 to 3 bytes
+    Broken,
+    // no byte
+    Missing,
+}
+
+// ---- the operands, at a place of the body
+
+fn tag_at(body: &[u8], at: u8) -> GlobalTag
+    ensures { λ r. ⌜ ofGlobal r ≡ tagAt (now (body .entry)) at ⌝ }
+{
+    let i = at as usize;
+    let offset = rows::eight_bytes(body, i);
+    let microstep = rows::four_bytes(body, i + 8);
+    GlobalTag(offset, microstep)
+}
+
+fn is_bit(body: &[u8], at: usize) -> bool
+    ensures { λ r. ⌜ r ≡ isBit (now (body .entry)) at ⌝ }
+{
+    let byte = rows::one_byte(body, at);
+    byte < 2
+}
+
+fn is_one(body: &[u8], at: usize) -> bool
+    ensures { λ r. ⌜ r ≡ isOne (now (body .entry)) at ⌝ }
+{
+    let byte = rows::one_byte(body, at);
+    byte == 1
+}
+
+fn is_zero(body: &[u8], at: usize) -> bool
+    ensures { λ r. ⌜ r ≡ isZero (now (body .entry)) at ⌝ }
+{
+    let byte = rows::one_byte(body, at);
+    byte == 0
+}
+
+// The count at this place and the keys behind it are no more than the most, and fill the body to its end.
+fn keys_fill(body: &[u8], at: u8) -> bool
+    ensures { λ r. ⌜ r ≡ keysFill (now (body .entry)) at ⌝ }
+{
+    let i = at as usize;
+    let count = rows::two_bytes(body, i) as usize;
+    if count <= MOST_KEYS {
+        let end = i + 2 + 2 * count;
+        return body.len() == end;
+    }
+    false
+}
+
+// The keys of a record whose keys fill it, put over the front of the array; how many they are.
+fn read_keys(body: &[u8], at: u8, keys: &mut [u16; MOST_KEYS]) -> u16
+    requires { ⌜ (length (now keys) ≡ mostKeys) × (keysFill (now body) at ≡ true) ⌝ }
+    ensures { λ r. ⌜ Filled (now (body .entry)) at r (now (keys .entry)) (now (keys .exit)) ⌝ }
+{
+    let i = at as usize;
+    let count = rows::two_bytes(body, i);
+    let n = count as usize;
+    let mut k: usize = 0;
+    while k < n {
+        let key = rows::two_bytes(body, i + 2 + 2 * k);
+        keys[k] = key;
+        k += 1;
+    }
+    count
+}
+
+// ---- the ops, each from the whole body
+
+fn plain(body: &[u8], keys: &mut [u16; MOST_KEYS]) -> Parsed
+    requires { ⌜ length (now keys) ≡ mostKeys ⌝ }
+    ensures { λ r. ⌜ Parses r (now (keys .entry)) (now (keys .exit)) (plainOf (now (body .entry))) ⌝ }
+{
+    if is_bit(body, 14) {
+        if keys_fill(body, 15) {
+            let n = read_keys(body, 15, keys);
+            let tag = tag_at(body, 2);
+            let terminal = is_one(body, 14);
+            return Parsed::Plain(tag, terminal, n);
+        }
+    }
+    Parsed::Malformed
+}
+
+fn network(body: &[u8], keys: &mut [u16; MOST_KEYS]) -> Parsed
+    requires { ⌜ length (now keys) ≡ mostKeys ⌝ }
+    ensures { λ r. ⌜ Parses r (now (keys .entry)) (now (keys .exit)) (networkOf (now (body .entry))) ⌝ }
+{
+    if keys_fill(body, 14) {
+        let n = read_keys(body, 14, keys);
+        let tag = tag_at(body, 2);
+        return Parsed::Network(tag, n);
+    }
+    Parsed::Malformed
+}
+
+fn control(body: &[u8]) -> Parsed
+    ensures { λ r. ⌜ ((keys : List ℕ) → Parses r keys keys (controlOf (now (body .entry)))) ⌝ }
+{
+    if body.len() == 14 {
+        let tag = tag_at(body, 2);
+        return Parsed::Control(tag);
+    }
+    Parsed::Malformed
+}
+
+fn action(body: &[u8], keys: &mut [u16; MOST_KEYS]) -> Parsed
+    requires { ⌜ length (now keys) ≡ mostKeys ⌝ }
+    ensures { λ r. ⌜ Parses r (now (keys .entry)) (now (keys .exit)) (actionOf (now (body .entry))) ⌝ }
+{
+    if is_bit(body, 16) {
+        if keys_fill(body, 17) {
+            let n = read_keys(body, 17, keys);
+            let key = rows::two_bytes(body, 2);
+            let tag = tag_at(body, 4);
+            let terminal = is_one(body, 16);
+            return Parsed::Action(key, tag, terminal, n);
+        }
+    }
+    Parsed::Malformed
+}
+
+fn transition(body: &[u8]) -> Parsed
+    ensures { λ r. ⌜ ((keys : List ℕ) → Parses r keys keys (transitionOf (now (body .entry)))) ⌝ }
+{
+    if is_bit(body, 6) {
+        if body.len() == 19 {
+            let reactor = rows::two_bytes(body, 2);
+            let mode = rows::two_bytes(body, 4);
+            let reset = is_zero(body, 6);
+            let tag = tag_at(body, 7);
+            return Parsed::Transition(reactor, mode, reset, tag);
+        }
+    }
+    Parsed::Malformed
+}
+
+fn pop(body: &[u8]) -> Parsed
+    ensures { λ r. ⌜ ((keys : List ℕ) → Parses r keys keys (popOf (now (body .entry)))) ⌝ }
+{
+    if body.len() == 2 {
+        return Parsed::Pop;
+    }
+    Parsed::Malformed
+}
+
+fn parse_op(body: &[u8], op: u8, keys: &mut [u16; MOST_KEYS]) -> Parsed
+    requires { ⌜ length (now keys) ≡ mostKeys ⌝ }
+    ensures { λ r. ⌜ Parses r (now (keys .entry)) (now (keys .exit)) (opOf op (now (body .entry))) ⌝ }
+{
+    match op {
+        1 => plain(body, keys),
+        2 => network(body, keys),
+        3 => control(body),
+        4 => action(body, keys),
+        5 => transition(body),
+        6 => pop(body),
+        _ => Parsed::Malformed,
+    }
+}
+
+// The record that has exactly these bytes behind its length.
+pub fn parse(body: &[u8], keys: &mut [u16; MOST_KEYS]) -> Parsed
+    requires { ⌜ length (now keys) ≡ mostKeys ⌝ }
+    ensures { λ r. ⌜ Parses r (now (keys .entry)) (now (keys .exit)) (bodyOf (now (body .entry))) ⌝ }
+{
+    let version = rows::one_byte(body, 0);
+    if version == VERSION {
+        let op = rows::one_byte(body, 1);
+        return parse_op(body, op, keys);
+    }
+    Parsed::Malformed
+}
+
+// What the bytes say where a length is due: as many as are left, and at most LENGTH_BYTES.
+pub fn length_of(head: &[u8]) -> Head
+    ensures { λ r. ⌜ ofHead r ≡ lengthOf (now (head .entry)) ⌝ }
+{
+    if head.len() == 0 {
+        return Head::Missing;
+    }
+    if head.len() < LENGTH_BYTES {
+        return Head::Broken;
+    }
+    let n = rows::four_bytes(head, 0) as usize;
+    if n <= MOST_BYTES {
+        return Head::Counts(n);
+    }
+    Head::Broken
+}

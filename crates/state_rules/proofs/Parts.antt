@@ -1,0 +1,269 @@
+-- The parts of the state rules from what the code's tests tell. Assumes nothing.
+use mathlib.Core.Bool.{Bool, true, false, not, _&&_, _||_, Bool·beq}
+use mathlib.Core.Path.{_≡_, refl, ap, _∙_, sym}
+use mathlib.Core.List.{List, [], _∷_, map}
+use mathlib.Core.Option.{none, some}
+use mathlib.Core.Logic.{_⊎_, ⊎-elim}
+use Prim.Native.Nat.{ℕ, suc, _+_, _-_, _*_, _/_, _%_, _^_, _≤_, _<_}
+use native.Mathlib.Nat.{zero-div, div-div-eq-div-mul}
+use native.Mathlib.Omega.{arith}
+use lib.Pow.{pow-add}
+use lib.Dec.{ltb, leb, eqb}
+use lib.ListN.{length, take, drop, getD}
+use borrow.Author.Tests.{lt-ltb, le-ltb, ltb-true, ltb-false, eq-eqb, ne-eqb, eqb-true}
+use Rattle.lists.specs.Tests.{flag, flag-no, flag-yes, below?, yes-no}
+use Rattle.lists.specs.Lists.{every, count, from, drop-pred, drop-take-end, count-yes, count-no}
+use Rattle.lists.specs.Every.{by-test, or-left, or-right, every-below, below-every}
+use Rattle.lists.specs.Steps.{from-next, from-end, every-pass, every-fail, every-end}
+use Rattle.lists.specs.Held as H
+use Rattle.lists.specs.Loops.{test-on, test-fails, test-all}
+use Rattle.rows.specs.Bytes.{Image}
+use Rattle.rows.specs.Rows as rows
+use Rattle.tags.specs.Tags.{Answer, within, withinClock, toGlobal}
+use Rattle.tags.specs.declared.MappedGlobal.{MappedGlobal}
+use Rattle.tags.specs.declared.MappedGlobal.the-variants as M
+use Rattle.tags.specs.Views.{mappedGlobal}
+use Rattle.key_set.specs.Sets.{bit, has, wordCount, lowestFrom}
+use Rattle.key_set.specs.Views.{foundOf}
+use Rattle.key_set.specs.declared.Found.{Found}
+use Rattle.key_set.specs.declared.Found.the-variants.{Key, Nothing}
+use Rattle.key_set.proofs.Laws.{bit-zero, told-key, told-nothing, lowest-key, lowest-range, none-from}
+use Rattle.machine.specs.Table.{scopes, reactions, actions, hasParent}
+use Rattle.machine.specs.State.{Event, root, mostWaiting, ordinary}
+use Rattle.machine.specs.Transition.{isTag}
+use Rattle.machine.specs.Machine.{eventRules, queueRules}
+use Rattle.slots.specs.Slots as slot
+use Rattle.slots.specs.Slots.{eventsOf}
+use Rattle.scopes.specs.Scopes as scope
+use Rattle.scopes.specs.Scopes.{Scope, mostScopes, scopesOf}
+use Rattle.schedule.specs.Schedule.{isActive}
+use Rattle.state_rules.specs.declared.Sizes.{Sizes}
+use Rattle.state_rules.specs.Sound.{sizesOf, keysBelow, scopeAt, scopeKeeps, imageKeeps, eventKeeps}
+
+-- ---- keys of a set
+
+-- a word without a bit from b on
+no-bit : (w b d : ℕ) → w / 2 ^ b ≡ 0 → bit w (b + d) ≡ 0
+unfolding bit
+no-bit w b d e = ap (λ (x : ℕ). x % 2) (ap (λ (x : ℕ). w / x) (pow-add 2 b d) ∙ (sym (div-div-eq-div-mul w (2 ^ b) (2 ^ d)) ∙ (ap (λ (x : ℕ). x / 2 ^ d) e ∙ zero-div (2 ^ d))))
+
+no-key : (ws : List ℕ) (k : ℕ) → bit (getD ws (k / 64) 0) (k % 64) ≡ 0 → has ws k ≡ false
+unfolding has
+no-key ws k e = rw e
+
+below-all : (ws : List ℕ) (n : ℕ) → ((k : ℕ) → k < wordCount * 64 → n ≤ k → has ws k ≡ false) → keysBelow ws n ≡ true
+below-all ws n h =
+    every-below (λ k. not (has ws k) || ltb k n) (wordCount * 64) λ k l.
+    by-test (ltb k n) (λ y. or-right (not (has ws k)) y) (λ y. or-left (ltb k n) (ap not (h k l (ltb-false k n y))))
+
+module _ (ws : List ℕ) (n : ℕ) {r : Bool} where
+  pub fit-first : n < 64 → getD ws 1 0 ≡ 0 → r ≡ eqb (getD ws 0 0 / 2 ^ n) 0 → r ≡ true → keysBelow ws n ≡ true
+  fit-first h z q y = below-all ws n λ k l m. no-key ws k (go k l m)
+    where
+      go : (k : ℕ) → k < wordCount * 64 → n ≤ k → bit (getD ws (k / 64) 0) (k % 64) ≡ 0
+      go k l m =
+          ⊎-elim
+          (λ b. let i : k / 64 ≡ 0 = omega arith in let j : k % 64 ≡ n + (k - n) = omega arith in rw (i, j) (no-bit (getD ws 0 0) n (k - n) (eqb-true _ 0 (sym q ∙ y))))
+          (λ b. let i : k / 64 ≡ 1 = omega arith in rw (i, z) (bit-zero (k % 64))) (below? k 64)
+
+  pub fit-second : 64 ≤ n → n < 128 → r ≡ eqb (getD ws 1 0 / 2 ^ (n - 64)) 0 → r ≡ true → keysBelow ws n ≡ true
+  fit-second h g q y = below-all ws n λ k l m. no-key ws k (go k l m)
+    where
+      go : (k : ℕ) → k < wordCount * 64 → n ≤ k → bit (getD ws (k / 64) 0) (k % 64) ≡ 0
+      go k l m =
+          let i : k / 64 ≡ 1 = omega arith in
+          let j : k % 64 ≡ (n - 64) + (k - n) = omega arith in
+          rw (i, j) (no-bit (getD ws 1 0) (n - 64) (k - n) (eqb-true _ 0 (sym q ∙ y)))
+
+-- the keys from n on are looked for
+module _ (ws : List ℕ) (n : ℕ) (f : Found) (e : foundOf f ≡ lowestFrom ws n) where
+  pub keys-none : f ≡ Nothing → true ≡ keysBelow ws n
+  keys-none y = sym (below-all ws n λ k l m. none-from ws n (told-nothing y e) k m)
+
+  pub keys-some : {j : ℕ} → length ws ≡ wordCount → f ≡ Key j → false ≡ keysBelow ws n
+  keys-some {j} h y =
+      let s = told-key y e in
+      let w = lowest-range ws n wordCount h s in
+      by-test (keysBelow ws n)
+      (λ t.
+      let a : (not (has ws j) || ltb j n) ≡ true = below-every (λ k. not (has ws k) || ltb k n) (wordCount * 64) t j (w .1) in
+      let b : ltb j n ≡ true = simp (lowest-key ws n s .is .passes) at a in
+      absurd (let c = ltb-true j n b in let d = w .0 in omega arith))
+      (λ t. sym t)
+
+pub keys-fit : {r b : Bool} → (r ≡ true → b ≡ true) → r ≡ true → true ≡ b
+keys-fit f y = sym (f y)
+
+-- ---- an event
+
+module _ (img : Image) (z : Sizes) (ez : z ≡ sizesOf img) (e : Event) where
+  module _ (a : Bool) (ea : a ≡ within (e .tag)) where
+    pub proper-tag : not a ≡ true → false ≡ eventRules img e
+    unfolding eventRules
+    proper-tag y = simp (flag-no ea y)
+
+    module _ (ya : not a ≡ false) (b : Bool) (eb : b ≡ keysBelow (e .reactions) (z .reactions)) where
+      keys-are : b ≡ keysBelow (e .reactions) (reactions img)
+      keys-are = eb ∙ ap (λ (x : Sizes). keysBelow (e .reactions) (x .reactions)) ez
+
+      pub proper-keys : not b ≡ true → false ≡ eventRules img e
+      unfolding eventRules
+      proper-keys y = simp (flag-yes ea ya, flag-no keys-are y)
+
+      module _ (yb : not b ≡ false) where
+        pub proper-none : e .action ≡ rows.none → true ≡ eventRules img e
+        unfolding eventRules
+        proper-none y = simp (flag-yes ea ya, flag-yes keys-are yb, eq-eqb (e .action) rows.none y)
+
+        module _ (n : e .action ≡ rows.none → ⊥) where
+          pub proper-action : z .actions ≤ e .action → false ≡ eventRules img e
+          unfolding eventRules
+          proper-action h =
+              let w : ltb (e .action) (actions img) ≡ false = ap (λ (x : Sizes). ltb (e .action) (x .actions)) (sym ez) ∙ le-ltb (e .action) (z .actions) h in
+              simp (flag-yes ea ya, flag-yes keys-are yb, ne-eqb (e .action) rows.none n, w)
+
+          pub proper-stored : {r : Bool} → e .action < z .actions → r ≡ within (e .stored) → r ≡ eventRules img e
+          unfolding eventRules
+          proper-stored h q =
+              let w : ltb (e .action) (actions img) ≡ true = ap (λ (x : Sizes). ltb (e .action) (x .actions)) (sym ez) ∙ lt-ltb (e .action) (z .actions) h in
+              simp (flag-yes ea ya, flag-yes keys-are yb, ne-eqb (e .action) rows.none n, w) q
+
+  pub queue-root : e .queue ≡ root → true ≡ queueRules img e
+  unfolding queueRules
+  queue-root y = simp (eq-eqb (e .queue) root y)
+
+  module _ (n : e .queue ≡ root → ⊥) where
+    pub queue-past : z .scopes ≤ e .queue → false ≡ queueRules img e
+    unfolding queueRules
+    queue-past h =
+        let w : ltb (e .queue) (scopes img) ≡ false = ap (λ (x : Sizes). ltb (e .queue) (x .scopes)) (sym ez) ∙ le-ltb (e .queue) (z .scopes) h in
+        simp (ne-eqb (e .queue) root n, w)
+
+    pub queue-parent : {p : ℕ} {r : Bool} → e .queue < z .scopes → p ≡ rows.parent img (e .queue) → r ≡ not (eqb p rows.none) → r ≡ queueRules img e
+    unfolding queueRules hasParent
+    queue-parent h ep q =
+        let w : ltb (e .queue) (scopes img) ≡ true = ap (λ (x : Sizes). ltb (e .queue) (x .scopes)) (sym ez) ∙ lt-ltb (e .queue) (z .scopes) h in
+        simp (ne-eqb (e .queue) root n, w, ← ep) q
+
+pub ruleset proper-cases = (proper-tag, proper-keys, proper-none, proper-action, proper-stored, queue-root, queue-past, queue-parent)
+
+module _ (ss : List Scope) (e : Event) where
+  pub image-root : e .queue ≡ root → true ≡ imageKeeps ss e
+  unfolding imageKeeps
+  image-root y = simp (eq-eqb (e .queue) root y)
+
+  module _ (n : e .queue ≡ root → ⊥) (x : Scope) (ex : x ≡ scopeAt ss (e .queue)) where
+    pub image-off : x .active ≡ false → true ≡ imageKeeps ss e
+    unfolding imageKeeps
+    image-off y = simp (ne-eqb (e .queue) root n, ← ex, y)
+
+    module _ (y : x .active ≡ true) (m : MappedGlobal) (em : mappedGlobal m ≡ toGlobal (x .clock) (e .tag)) where
+      pub image-tag : {t : _} → m ≡ M.Tag t → true ≡ imageKeeps ss e
+      unfolding imageKeeps
+      image-tag q = simp (ne-eqb (e .queue) root n, ← ex, y, ← em, q)
+
+      pub image-not : {t : _} → m ≡ M.Refused t → false ≡ imageKeeps ss e
+      unfolding imageKeeps
+      image-not q = simp (ne-eqb (e .queue) root n, ← ex, y, ← em, q)
+
+pub ruleset image-cases = (image-root, image-off, image-tag, image-not)
+
+-- ---- a scope
+
+module _ (img : Image) (modes : List ℕ) (ss : List Scope) (i : ℕ) (x : Scope) (ex : x ≡ scopeAt ss i) (b : Bool) (eb : b ≡ isActive img modes i) where
+  pub scope-stays : x .active ≡ true → b ≡ true → x .ever ≡ scopeKeeps img modes ss i
+  unfolding scopeKeeps
+  scope-stays y t = simp (← ex, ← eb, y, t)
+
+  pub scope-left : x .active ≡ true → b ≡ false → false ≡ scopeKeeps img modes ss i
+  unfolding scopeKeeps
+  scope-left y t = simp (← ex, ← eb, y, t)
+
+  pub scope-off : {r : Bool} → x .active ≡ false → r ≡ not b → r ≡ scopeKeeps img modes ss i
+  unfolding scopeKeeps
+  scope-off y q = q ∙ (rw (← ex, ← eb, y) (go b))
+    where
+      go : (b : Bool) → not b ≡ (Bool·beq false b && true)
+      go true = refl
+      go false = refl
+
+pub ruleset scope-cases = (scope-stays, scope-left, scope-off)
+
+-- ---- one more of those that must pass
+
+every-cons : {A : Type 0} (p : A → Bool) (a : A) (l : List A) → every p (a ∷ l) ≡ (p a && every p l)
+unfolding every
+every-cons p a l = refl
+
+every-nil : {A : Type 0} (p : A → Bool) → every p [] ≡ true
+unfolding every
+every-nil p = refl
+
+module _ (p : Event → Bool) (ws : List ℕ) (n i : ℕ) where
+  module _ (e : Event) (b : Bool) (h : i < n) (m : n ≤ mostWaiting) (r : e ≡ getD (eventsOf ws) i slot.blank) (q : b ≡ p e) where
+    pub event-on : {s : Bool} → b ≡ true → s ≡ every p (drop i (take n (eventsOf ws))) → s ≡ every p (drop (i + 1) (take n (eventsOf ws)))
+    event-on y k = test-on slot.decode slot.encode slot.slotWords mostWaiting slot.encode-long (every p) (λ a l. p a) (every-cons p) (every-nil p) ws n i slot.blank e b h m r q y k
+
+    pub event-fails : {s : Bool} → b ≡ false → s ≡ every p (drop i (take n (eventsOf ws))) → false ≡ s
+    event-fails y k = test-fails slot.decode slot.encode slot.slotWords mostWaiting slot.encode-long (every p) (λ a l. p a) (every-cons p) (every-nil p) ws n i slot.blank e b h m r q y k
+
+  pub event-all : {s : Bool} → i ≤ n → n ≤ i → s ≡ every p (drop i (take n (eventsOf ws))) → true ≡ s
+  event-all h k q = test-all slot.decode slot.encode slot.slotWords mostWaiting slot.encode-long (every p) (λ a l. p a) (every-cons p) (every-nil p) ws n i h k q
+
+abbrev pub clocksWithin : List Scope → Bool
+clocksWithin l = every withinClock (map (λ x. x .clock) l)
+
+module _ (ws : List ℕ) (n i : ℕ) where
+  module _ (x : Scope) (b : Bool) (h : i < n) (m : n ≤ mostScopes) (r : x ≡ getD (scopesOf ws) i scope.blank) (q : b ≡ withinClock (x .clock)) where
+    pub clock-on : {s : Bool} → b ≡ true → s ≡ clocksWithin (drop i (take n (scopesOf ws))) → s ≡ clocksWithin (drop (i + 1) (take n (scopesOf ws)))
+    clock-on y k = test-on scope.decode scope.encode scope.scopeWords mostScopes scope.encode-long clocksWithin (λ a l. withinClock (a .clock)) (λ a l. every-cons withinClock (a .clock) _) (every-nil withinClock) ws n i scope.blank x b h m r q y k
+
+    pub clock-fails : {s : Bool} → b ≡ false → s ≡ clocksWithin (drop i (take n (scopesOf ws))) → false ≡ s
+    clock-fails y k = test-fails scope.decode scope.encode scope.scopeWords mostScopes scope.encode-long clocksWithin (λ a l. withinClock (a .clock)) (λ a l. every-cons withinClock (a .clock) _) (every-nil withinClock) ws n i scope.blank x b h m r q y k
+
+  pub clock-all : {s : Bool} → i ≤ n → n ≤ i → s ≡ clocksWithin (drop i (take n (scopesOf ws))) → true ≡ s
+  clock-all h k q = test-all scope.decode scope.encode scope.scopeWords mostScopes scope.encode-long clocksWithin (λ a l. withinClock (a .clock)) (λ a l. every-cons withinClock (a .clock) _) (every-nil withinClock) ws n i h k q
+
+-- the modes that are left
+module _ (p : ℕ → Bool) (l : List ℕ) (i : ℕ) {s : Bool} (k : s ≡ every p (drop i l)) where
+  pub mode-on : (d : ℕ) {b : Bool} → i < length l → b ≡ p (getD l i d) → b ≡ true → s ≡ every p (drop (i + 1) l)
+  mode-on d h q y = k ∙ every-pass p l i d h (sym q ∙ y)
+
+  pub mode-fails : (d : ℕ) {b : Bool} → i < length l → b ≡ p (getD l i d) → b ≡ false → false ≡ s
+  mode-fails d h q y = sym (k ∙ every-fail p l i d h (sym q ∙ y))
+
+  pub mode-all : length l ≤ i → true ≡ s
+  mode-all h = sym (k ∙ every-end p l i h)
+
+-- the numbers that are left
+pub index-none : (p : ℕ → Bool) (n : ℕ) → every p (from 0 n) ≡ every p (from 0 (n - 0))
+index-none p n = let e : n - 0 ≡ n = omega arith in rw e
+
+module _ (p : ℕ → Bool) (n i : ℕ) {s : Bool} (k : s ≡ every p (from i (n - i))) where
+  pub index-on : {b : Bool} → i < n → b ≡ p i → b ≡ true → s ≡ every p (from (i + 1) (n - (i + 1)))
+  index-on h q y = k ∙ (ap (every p) (from-next n i h) ∙ (every-cons p i _ ∙ simp (sym q ∙ y)))
+
+  pub index-fails : {b : Bool} → i < n → b ≡ p i → b ≡ false → false ≡ s
+  index-fails h q y = sym (k ∙ (ap (every p) (from-next n i h) ∙ (every-cons p i _ ∙ simp (sym q ∙ y))))
+
+  pub index-all : n ≤ i → true ≡ s
+  index-all h = sym (k ∙ (ap (every p) (from-end n i h) ∙ every-nil p))
+
+-- ---- ordinary work
+
+module _ (ws : List ℕ) (n i : ℕ) (h : 0 < i) (g : i ≤ n) (m : n ≤ mostWaiting) (e : Event) (r : e ≡ getD (eventsOf ws) (i - 1) slot.blank) (b : Bool) (q : b ≡ ordinary e) {w : ℕ} (k : w ≡ count ordinary (drop i (take n (eventsOf ws)))) where
+  one-more : drop (i - 1) (take n (eventsOf ws)) ≡ e ∷ drop i (take n (eventsOf ws))
+  one-more = rw r (drop-pred (eventsOf ws) n i slot.blank h g (rw (H.things-length slot.decode slot.encode slot.slotWords mostWaiting slot.encode-long ws) m))
+
+  pub work-more : b ≡ true → w + 1 ≡ count ordinary (drop (i - 1) (take n (eventsOf ws)))
+  work-more y = rw (one-more, count-yes ordinary e (drop i (take n (eventsOf ws))) (sym q ∙ y), k) (omega arith)
+
+  pub work-same : b ≡ false → w ≡ count ordinary (drop (i - 1) (take n (eventsOf ws)))
+  work-same y = rw (one-more, count-no ordinary e (drop i (take n (eventsOf ws))) (sym q ∙ y)) k
+
+pub work-none : (ws : List ℕ) (n : ℕ) → 0 ≡ count ordinary (drop n (take n (eventsOf ws)))
+unfolding count
+work-none ws n = rw (drop-take-end n (eventsOf ws))
+
+pub work-all : (ws : List ℕ) (n i : ℕ) {w : ℕ} → i ≤ 0 → w ≡ count ordinary (drop i (take n (eventsOf ws))) → w ≡ count ordinary (take n (eventsOf ws))
+work-all ws n i h k = let e : i ≡ 0 = omega arith in rw e at k

@@ -1,0 +1,204 @@
+-- The state rules from their parts on rows. Assumes nothing.
+use mathlib.Core.Bool.{Bool, true, false, not, _&&_, _||_}
+use mathlib.Core.Path.{_≡_, refl, ap, _∙_, sym}
+use mathlib.Core.List.{List, [], _∷_, map}
+use Prim.Native.Nat.{ℕ, zero, suc, _+_, _≤_, _<_}
+use native.Mathlib.Nat.{min-eq-left}
+use native.Mathlib.Omega.{arith}
+use lib.Dec.{ltb, leb, eqb}
+use lib.ListN.{length, take, getD, length-take, length-map, List·getD-map}
+use lib.Seq.{getD-take}
+use borrow.Author.Tests.{lt-leb, le-leb, eq-eqb, leb-true, ltb-true, not-true, not-false}
+use Rattle.lists.specs.Tests.{flag, flag-no, flag-yes, and-left, and-right, and-yes, and-no}
+use Rattle.lists.specs.Lists.{every, count, from}
+use Rattle.lists.specs.Every.{by-test, no-way}
+use Rattle.lists.specs.Held as H
+use Rattle.lists.specs.Loops.{front-long}
+use Rattle.rows.specs.Bytes.{Image}
+use Rattle.rows.specs.Kinds as K
+use Rattle.table.specs.Check.{isTable}
+use Rattle.table.specs.Table.{Table}
+use Rattle.table.proofs.TableLaws.{count-most}
+use Rattle.kept.specs.Kept.{table-is}
+use Rattle.kept.specs.Stored.{empty-rules}
+use Rattle.tags.specs.Tags.{withinClock, freshClock, toGlobal}
+use Rattle.entries.specs.Entries.{mostHeld}
+use Rattle.store.specs.Store.{Store, storeRules, emptyStore}
+use Rattle.store_rules.specs.Rules.{countedRules}
+use Rattle.machine.specs.Table.{scopes, reactors, actions, hasParent}
+use Rattle.machine.specs.State.{Event, State, root, mostWaiting, ordinary, clockAt, activeAt, everAt, withStore}
+use Rattle.machine.specs.Transition.{isTag}
+use Rattle.machine.specs.Machine.{modeRules, eventRules, queueRules, imageRules, scopeRules, sized, rules}
+use Rattle.slots.specs.Slots as slot
+use Rattle.slots.specs.Slots.{eventsOf}
+use Rattle.scopes.specs.Scopes as scope
+use Rattle.scopes.specs.Scopes.{Scope, mostScopes, scopesOf}
+use Rattle.lens.specs.Lens.{stateIn}
+use Rattle.state_rules.specs.Sound.{mostReactors, scopeAt, scopeKeeps, imageKeeps, eventKeeps, scopesSound, queueSound, sound}
+
+-- ---- what a table's counts allow
+
+module _ (img : Image) (t : isTable img ≡ true) where
+  pub scopes-few : scopes img ≤ mostScopes
+  unfolding K.kindOf K.kinds
+  scopes-few = count-most img (table-is img t) K.scope (omega arith)
+
+  pub reactors-few : reactors img ≤ mostReactors
+  unfolding K.kindOf K.kinds
+  reactors-few = count-most img (table-is img t) K.reactor (omega arith)
+
+module _ (img : Image) {t : Bool} (et : t ≡ isTable img) (y : not t ≡ false) {k : ℕ} where
+  pub few-scopes : k ≡ scopes img → k ≤ mostScopes
+  few-scopes e = rw e (scopes-few img (flag-yes et y))
+
+  pub few-reactors : (modes : List ℕ) → length modes ≡ mostReactors → k ≡ reactors img → k ≤ length modes
+  few-reactors modes m e = rw (e, m) (reactors-few img (flag-yes et y))
+
+  pub own-long : (modes : List ℕ) → length modes ≡ mostReactors → k ≡ reactors img → k ≡ length (take k modes)
+  own-long modes m e = let f = few-reactors modes m e in sym (length-take k modes ∙ min-eq-left f)
+
+-- ---- tests taken together
+
+every-same : {A : Type 0} (p q : A → Bool) → ((a : A) → p a ≡ q a) → (l : List A) → every p l ≡ every q l
+unfolding every
+every-same p q h [] = refl
+every-same p q h (a ∷ l) = rw (h a, every-same p q h l)
+
+every-numbers : (p q : ℕ → Bool) (n i : ℕ) → ((j : ℕ) → j < i + n → p j ≡ q j) → every p (from i n) ≡ every q (from i n)
+unfolding every from
+every-numbers p q zero i h = refl
+every-numbers p q (suc n) i h = rw (h i (omega arith), every-numbers p q n (suc i) (λ j l. h j (omega arith)))
+
+module _ {A : Type 0} (p q r : A → Bool) where
+  -- three tests of each one, or each test of all
+  every-three : (l : List A) (x : Bool) → (every p l && (every q l && (every r l && x))) ≡ (every (λ a. p a && (q a && r a)) l && x)
+  unfolding every
+  every-three [] x = refl
+  every-three (a ∷ l) x = go (p a) (q a) (r a) (every-three l x)
+    where
+      go : (b c d : Bool) → (every p l && (every q l && (every r l && x))) ≡ (every (λ a. p a && (q a && r a)) l && x) →
+          ((b && every p l) && ((c && every q l) && ((d && every r l) && x))) ≡ (((b && (c && d)) && every (λ a. p a && (q a && r a)) l) && x)
+      go true true true h = h
+      go true true false h = simp (and-no)
+      go true false d h = simp (and-no)
+      go false c d h = refl
+
+and-four : (a b c d : Bool) → (a && (b && (c && d))) ≡ ((a && (b && c)) && d)
+and-four true true c d = refl
+and-four true false c d = refl
+and-four false b c d = refl
+
+-- ---- the machine's scopes and the rows'
+
+module _ (img : Image) (modes : List ℕ) (ss : List Scope) (es : List Event) (work : ℕ) (few : scopes img ≤ length ss) where
+  abbrev here : State
+  here = stateIn img modes ss es work emptyStore
+
+  module _ (i : ℕ) (h : i < scopes img) where
+    active-is : activeAt here i ≡ scopeAt ss i .active
+    active-is = List·getD-map (λ x. x .active) (take (scopes img) ss) i scope.blank ∙ ap (λ x. x .active) (getD-take (scopes img) ss i scope.blank h)
+
+    ever-is : everAt here i ≡ scopeAt ss i .ever
+    ever-is = List·getD-map (λ x. x .ever) (take (scopes img) ss) i scope.blank ∙ ap (λ x. x .ever) (getD-take (scopes img) ss i scope.blank h)
+
+    clock-is : clockAt here i ≡ scopeAt ss i .clock
+    clock-is = List·getD-map (λ x. x .clock) (take (scopes img) ss) i scope.blank ∙ ap (λ x. x .clock) (getD-take (scopes img) ss i scope.blank h)
+
+    scope-same : scopeRules img here i ≡ scopeKeeps img (take (reactors img) modes) ss i
+    unfolding scopeRules scopeKeeps
+    scope-same = rw (active-is, ever-is)
+
+  image-same : (e : Event) → queueRules img e ≡ true → imageRules here e ≡ imageKeeps ss e
+  unfolding queueRules imageRules imageKeeps
+  image-same e y =
+      by-test (eqb (e .queue) root) (λ r. simp r)
+      (λ r.
+      let w : (ltb (e .queue) (scopes img) && hasParent img (e .queue)) ≡ true = simp r at y in
+      let l : e .queue < scopes img = ltb-true _ _ (and-left _ _ w) in
+      rw (active-is (e .queue) l, clock-is (e .queue) l))
+
+  event-same : (e : Event) → (eventRules img e && (queueRules img e && imageRules here e)) ≡ eventKeeps img ss e
+  unfolding eventKeeps
+  event-same e = by-test (queueRules img e) (λ y. rw (image-same e y)) (λ n. simp n)
+
+  module _ (t : isTable img ≡ true) (m : length modes ≡ mostReactors) (w : length es ≤ mostWaiting) where
+    sized-is : sized img here ≡ true
+    unfolding sized
+    sized-is =
+        let a : length (take (reactors img) modes) ≡ reactors img = length-take (reactors img) modes ∙ min-eq-left (let f = reactors-few img t in omega arith) in
+        let b : length (take (scopes img) ss) ≡ scopes img = length-take (scopes img) ss ∙ min-eq-left few in
+        simp (a, length-map, b, eq-eqb)
+
+    pub rules-are : rules img here ≡ (scopesSound img (take (reactors img) modes) ss (scopes img) && queueSound img ss es work)
+    unfolding rules scopesSound queueSound
+    rules-are =
+        let ev : (every (eventRules img) es && (every (queueRules img) es && (every (imageRules here) es && (eqb work (count ordinary es) && storeRules (actions img) emptyStore))))
+        ≡ (every (eventKeeps img ss) es && eqb work (count ordinary es))
+        = every-three (eventRules img) (queueRules img) (imageRules here) es _ ∙
+        rw (every-same (λ e. eventRules img e && (queueRules img e && imageRules here e)) (eventKeeps img ss) event-same es, empty-rules (actions img), and-yes (eqb work (count ordinary es))) in
+        let sc = every-numbers (scopeRules img here) (scopeKeeps img (take (reactors img) modes) ss) (scopes img) 0 (λ i l. scope-same i (omega arith)) in
+        rw (t, sized-is, le-leb (length es) mostWaiting w, ev, sc) (and-four (every (modeRules img) (take (reactors img) modes)) (every withinClock (map (λ x. x .clock) (take (scopes img) ss))) (every (scopeKeeps img (take (reactors img) modes) ss) (from 0 (scopes img))) (queueSound img ss es work))
+
+-- ---- queue_rules
+
+module _ (img : Image) (modes sws ews : List ℕ) (n work : ℕ) (m : length modes ≡ mostReactors) where
+  abbrev queue : Bool
+  queue = leb n mostWaiting && rules img (stateIn img modes (scopesOf sws) (take n (eventsOf ews)) work emptyStore)
+
+  pub rules-many : mostWaiting < n → false ≡ queue
+  rules-many h = simp (lt-leb n mostWaiting h)
+
+  module _ (h : n ≤ mostWaiting) (t : Bool) (et : t ≡ isTable img) where
+    pub rules-table : not t ≡ true → false ≡ queue
+    unfolding rules
+    rules-table y = simp (le-leb n mostWaiting h, flag-no et y)
+
+    module _ (yt : not t ≡ false) (k : ℕ) (ek : k ≡ scopes img) (own : List ℕ) (eo : own ≡ take (reactors img) modes) (a : Bool) (ea : a ≡ scopesSound img own (scopesOf sws) k) where
+      queue-is : queue ≡ (a && queueSound img (scopesOf sws) (take n (eventsOf ews)) work)
+      queue-is =
+          let few : scopes img ≤ length (scopesOf sws) = rw (H.things-length scope.decode scope.encode scope.scopeWords mostScopes scope.encode-long sws) (scopes-few img (flag-yes et yt)) in
+          let w : length (take n (eventsOf ews)) ≤ mostWaiting = rw (front-long slot.decode slot.encode slot.slotWords mostWaiting slot.encode-long ews n h) h in
+          rw (le-leb n mostWaiting h, rules-are img modes (scopesOf sws) (take n (eventsOf ews)) work few (flag-yes et yt) m w, ea, eo, ek)
+
+      pub rules-scopes : not a ≡ true → false ≡ queue
+      rules-scopes y = sym (queue-is ∙ simp (not-true a y))
+
+      pub rules-queue : {r : Bool} → not a ≡ false → r ≡ queueSound img (scopesOf sws) (take n (eventsOf ews)) work → r ≡ queue
+      rules-queue y q = q ∙ sym (queue-is ∙ simp (not-false a y))
+
+-- the modes that the table has
+pub own-is : (img : Image) (modes : List ℕ) {k : ℕ} {own : List ℕ} → k ≡ reactors img → own ≡ take k modes → own ≡ take (reactors img) modes
+own-is img modes e q = rw e at q
+
+pub ruleset queue-cases = (rules-many, rules-table, rules-scopes, rules-queue)
+
+-- ---- all the rules
+
+module _ (img : Image) (modes : List ℕ) (ss : List Scope) (es : List Event) (work : ℕ) (st : Store) where
+  rules-store : rules img (stateIn img modes ss es work st) ≡ (rules img (stateIn img modes ss es work emptyStore) && storeRules (actions img) st)
+  unfolding rules sized scopeRules imageRules
+  rules-store =
+      by-test (storeRules (actions img) st) (λ y. simp (y, empty-rules (actions img), and-yes)) (λ n. simp (n, and-no))
+
+apart : (w h o r s : Bool) → (w && (h && (o && (r && s)))) ≡ ((w && r) && (h && (o && s)))
+apart true h o true s = refl
+apart true true o false s = and-no o
+apart true false o false s = refl
+apart false h o r s = refl
+
+module _ (img : Image) (n held opened : ℕ) (modes : List ℕ) (ss : List Scope) (es : List Event) (work : ℕ) (st : Store) where
+  abbrev whole : Bool
+  whole = sound img n held opened (stateIn img modes ss es work st)
+
+  whole-is : whole ≡ ((leb n mostWaiting && rules img (stateIn img modes ss es work emptyStore)) && countedRules (actions img) held opened st)
+  unfolding sound countedRules
+  whole-is = rw (rules-store img modes ss es work st) (apart (leb n mostWaiting) (leb held mostHeld) (leb opened mostHeld) _ _)
+
+  module _ (a : Bool) (ea : a ≡ (leb n mostWaiting && rules img (stateIn img modes ss es work emptyStore))) where
+    pub sound-queue : not a ≡ true → false ≡ whole
+    sound-queue y = rw (whole-is, ← ea, not-true a y)
+
+    pub sound-store : {k : ℕ} {r : Bool} → not a ≡ false → k ≡ actions img → r ≡ countedRules k held opened st → r ≡ whole
+    sound-store y ek q = q ∙ (rw (whole-is, ← ea, not-false a y, ek))
+
+pub ruleset sound-cases = (sound-queue, sound-store)

@@ -1,0 +1,51 @@
+-- `state_rules::scopes_keep` meets its contract: invariant: all keep the rule if those from i on do. Assumes nothing.
+use borrow.Author.Needs.{needs}
+use Rattle.state_rules.proofs.Parts.{index-none, index-on, index-fails, index-all}
+use Rattle.state_rules.specs.Sound.{scopeKeeps}
+use Rattle.scopes.specs.Scopes.{scopesOf}
+use Rattle.lists.specs.Lists.{every, from}
+use Prim.Native.Nat.{_-_, _≤_}
+use mathlib.Core.Path.{_≡_}
+use Rattle.state_rules.proofs.scopes_keep.Statement.{statement}
+use Rattle.state_rules.proofs.scopes_keep.Tie as tie
+
+abbrev Inv-loop : tie.InvT-loop
+Inv-loop image modes scopes n i₀ i = (i ≤ n) × (every (scopeKeeps image modes (scopesOf scopes)) (from 0 n) ≡ every (scopeKeeps image modes (scopesOf scopes)) (from i (n - i)))
+
+abbrev μ-loop : tie.MeasureT-loop
+μ-loop image modes scopes n i₀ i = n - i
+
+loop-holds : tie.Need-loop-holds Inv-loop μ-loop
+loop-holds c = (search needs, search index-none)
+
+scope-keeps-requires : tie.Need-scope-keeps-requires Inv-loop μ-loop
+scope-keeps-requires c κs = search needs
+
+add-i : tie.Need-add-i Inv-loop μ-loop
+add-i c = search needs
+
+loop-less : tie.Need-loop-less Inv-loop μ-loop
+loop-less c = search needs
+
+loop-again : tie.Need-loop-again Inv-loop μ-loop
+loop-again c = (search needs, search index-on)
+
+returns : tie.Need-returns Inv-loop μ-loop
+returns c = search index-fails
+
+returns-2 : tie.Need-returns-2 Inv-loop μ-loop
+returns-2 c = search index-all
+
+pub scopes-keep-spec : {M : Type 1} → statement M
+scopes-keep-spec =
+    tie.close
+    (tie.spec
+    Inv-loop
+    μ-loop
+    loop-holds
+    scope-keeps-requires
+    add-i
+    loop-less
+    loop-again
+    returns
+    returns-2)

@@ -1,0 +1,346 @@
+// The state rules on lent rows: document 01, "State rules", refusal 11.
+ghost use mathlib.Core.Path.{_≡_};
+ghost use mathlib.Core.Bool.{true, _&&_};
+ghost use mathlib.Core.List.{map};
+ghost use Prim.Native.Nat.{_≤_};
+ghost use lib.Dec.{leb};
+ghost use lib.ListN.{length, getD, take};
+ghost use Rattle.lists.specs.Lists.{every, count, from};
+ghost use Rattle.tags.specs.Tags.{withinClock};
+ghost use Rattle.store.specs.Store.{emptyStore};
+ghost use Rattle.store_calls.specs.Lent.{storeOf};
+ghost use Rattle.machine.specs.State.{mostWaiting, ordinary};
+ghost use Rattle.machine.specs.Machine.{modeRules, eventRules, queueRules, rules};
+ghost use Rattle.slots.specs.Slots.{eventsOf, eventOf};
+ghost use Rattle.scopes.specs.Scopes.{mostScopes, scopesOf, blank};
+ghost use Rattle.lens.specs.Lens.{stateIn};
+ghost use Rattle.state_rules.specs.Sound.{keysBelow, scopeKeeps, imageKeeps, eventKeeps, sizesOf, mostReactors, scopesSound, queueSound, sound};
+use entries::BucketRows;
+use entries::ValueRows;
+use key_set::Found;
+use key_set::KeySet;
+use lens::Counts;
+use slots::Slot;
+use tags::LocalTag;
+use tags::MappedGlobal;
+
+// How many scopes, reactions and actions the table has.
+struct Sizes {
+    scopes: u16,
+    reactions: u16,
+    actions: u16,
+}
+
+fn sizes_in(image: &[u8]) -> Sizes
+    ensures { λ r. ⌜ r ≡ sizesOf (now (image .entry)) ⌝ }
+{
+    let scopes = rows::count(image, rows::SCOPE);
+    let reactions = rows::count(image, rows::REACTION);
+    let actions = rows::count(image, rows::ACTION);
+    Sizes {
+        scopes,
+        reactions,
+        actions,
+    }
+}
+
+// ---- modes
+
+fn mode_exists(image: &[u8], m: u16) -> bool
+    ensures { λ r. ⌜ r ≡ modeRules (now (image .entry)) m ⌝ }
+{
+    if m == rows::NONE {
+        return true;
+    }
+    let n = rows::count(image, rows::MODE);
+    m < n
+}
+
+fn modes_exist(image: &[u8], modes: &[u16]) -> bool
+    ensures { λ r. ⌜ r ≡ every (modeRules (now (image .entry))) (now (modes .entry)) ⌝ }
+{
+    let mut i: usize = 0;
+    while i < modes.len() {
+        let m = modes[i];
+        i += 1;
+        if mode_exists(image, m) {} else {
+            return false;
+        }
+    }
+    true
+}
+
+// ---- scopes
+
+fn clocks_within(scopes: &[u64; scopes::ROOM], n: usize) -> bool
+    requires { ⌜ n ≤ mostScopes ⌝ }
+    ensures { λ r. ⌜ r ≡ every withinClock (map (λ x. x .clock) (take n (scopesOf (now (scopes .entry))))) ⌝ }
+{
+    let mut i: usize = 0;
+    while i < n {
+        let s = scopes::scope_at(scopes, i);
+        let clock = s.clock;
+        i += 1;
+        if clock.within() {} else {
+            return false;
+        }
+    }
+    true
+}
+
+// Scope i is active exactly if the modes say so, and counts as active before where it is.
+fn scope_keeps(image: &[u8], modes: &[u16], scopes: &[u64; scopes::ROOM], i: u16) -> bool
+    ensures { λ r. ⌜ r ≡ scopeKeeps (now (image .entry)) (now (modes .entry)) (scopesOf (now (scopes .entry))) i ⌝ }
+{
+    let s = scopes::scope_at(scopes, i as usize);
+    let current = schedule::is_active(image, modes, i);
+    if s.active {
+        if current { s.ever } else { false }
+    } else {
+        !current
+    }
+}
+
+fn scopes_keep(image: &[u8], modes: &[u16], scopes: &[u64; scopes::ROOM], n: u16) -> bool
+    ensures { λ r. ⌜ r ≡ every (scopeKeeps (now (image .entry)) (now (modes .entry)) (scopesOf (now (scopes .entry)))) (from 0 n) ⌝ }
+{
+    let mut i: u16 = 0;
+    while i < n {
+        if scope_keeps(image, modes, scopes, i) {
+            i += 1;
+        } else {
+            return false;
+        }
+    }
+    true
+}
+
+// ---- events
+
+// The words have no bit from n on: then no key is n or more.
+fn words_fit(set: KeySet, n: u16) -> bool
+    ensures { λ r. ⌜ (r ≡ true → keysBelow (set .words) n ≡ true) ⌝ }
+{
+    let words = set.words;
+    let first = words[0];
+    let second = words[1];
+    if n < 64 {
+        if second == 0 {
+            return first >> n == 0;
+        }
+        return false;
+    }
+    if n < 128 {
+        return second >> (n - 64) == 0;
+    }
+    false
+}
+
+// Every key of the set is below n; where the words alone don't tell it, the keys from n on are looked for.
+fn keys_exist(set: KeySet, n: u16) -> bool
+    ensures { λ r. ⌜ r ≡ keysBelow (set .words) n ⌝ }
+{
+    if words_fit(set, n) {
+        return true;
+    }
+    match set.lowest_from(n as usize) {
+        Found::Key(_) => false,
+        Found::Nothing => true,
+    }
+}
+
+// All keys exist, and tags are within limits.
+fn is_proper(image: &[u8], z: Sizes, s: Slot) -> bool
+    requires { ⌜ z ≡ sizesOf (now image) ⌝ }
+    ensures { λ r. ⌜ r ≡ eventRules (now (image .entry)) (eventOf s) ⌝ }
+{
+    let tag = LocalTag(s.offset, s.microstep);
+    let set = s.reactions;
+    let stored = s.stored;
+    if !tag.within() {
+        return false;
+    }
+    if !keys_exist(set, z.reactions) {
+        return false;
+    }
+    if s.action == slots::NONE {
+        return true;
+    }
+    if z.actions <= s.action {
+        return false;
+    }
+    stored.within()
+}
+
+// Only scopes with a parent have local events.
+fn has_queue(image: &[u8], z: Sizes, s: Slot) -> bool
+    requires { ⌜ z ≡ sizesOf (now image) ⌝ }
+    ensures { λ r. ⌜ r ≡ queueRules (now (image .entry)) (eventOf s) ⌝ }
+{
+    if s.queue == slots::NONE {
+        return true;
+    }
+    if z.scopes <= s.queue {
+        return false;
+    }
+    let above = rows::parent(image, s.queue);
+    above != rows::NONE
+}
+
+// An event in an active scope maps within limits.
+fn has_image(scopes: &[u64; scopes::ROOM], s: Slot) -> bool
+    ensures { λ r. ⌜ r ≡ imageKeeps (scopesOf (now (scopes .entry))) (eventOf s) ⌝ }
+{
+    if s.queue == slots::NONE {
+        return true;
+    }
+    let x = scopes::scope_at(scopes, s.queue as usize);
+    let clock = x.clock;
+    if x.active {
+        match clock.to_global(LocalTag(s.offset, s.microstep)) {
+            MappedGlobal::Tag(_) => true,
+            MappedGlobal::Refused(_) => false,
+        }
+    } else {
+        true
+    }
+}
+
+fn event_keeps(image: &[u8], z: Sizes, scopes: &[u64; scopes::ROOM], s: Slot) -> bool
+    requires { ⌜ z ≡ sizesOf (now image) ⌝ }
+    ensures { λ r. ⌜ r ≡ eventKeeps (now (image .entry)) (scopesOf (now (scopes .entry))) (eventOf s) ⌝ }
+{
+    if is_proper(image, z, s) {
+        if has_queue(image, z, s) {
+            return has_image(scopes, s);
+        }
+    }
+    false
+}
+
+fn events_keep(
+    image: &[u8],
+    scopes: &[u64; scopes::ROOM],
+    events: &[u64; slots::ROOM],
+    n: usize,
+) -> bool
+    requires { ⌜ n ≤ mostWaiting ⌝ }
+    ensures { λ r. ⌜ r ≡ every (eventKeeps (now (image .entry)) (scopesOf (now (scopes .entry)))) (take n (eventsOf (now (events .entry)))) ⌝ }
+{
+    let z = sizes_in(image);
+    let mut i: usize = 0;
+    while i < n {
+        let s = slots::slot_at(events, i);
+        i += 1;
+        if event_keeps(image, z, scopes, s) {} else {
+            return false;
+        }
+    }
+    true
+}
+
+// How many of the events are ordinary.
+fn ordinary_work(events: &[u64; slots::ROOM], n: usize) -> usize
+    requires { ⌜ n ≤ mostWaiting ⌝ }
+    ensures { λ r. ⌜ r ≡ count ordinary (take n (eventsOf (now (events .entry)))) ⌝ }
+{
+    let mut work: usize = 0;
+    let mut i = n;
+    while 0 < i {
+        i -= 1;
+        let s = slots::slot_at(events, i);
+        if s.is_ordinary() {
+            work += 1;
+        }
+    }
+    work
+}
+
+// ---- all but the store's
+
+fn scopes_sound(image: &[u8], modes: &[u16], scopes: &[u64; scopes::ROOM], n: u16) -> bool
+    requires { ⌜ n ≤ mostScopes ⌝ }
+    ensures { λ r. ⌜ r ≡ scopesSound (now (image .entry)) (now (modes .entry)) (scopesOf (now (scopes .entry))) n ⌝ }
+{
+    if !modes_exist(image, modes) {
+        return false;
+    }
+    if !clocks_within(scopes, n as usize) {
+        return false;
+    }
+    scopes_keep(image, modes, scopes, n)
+}
+
+fn queue_sound(
+    image: &[u8],
+    scopes: &[u64; scopes::ROOM],
+    events: &[u64; slots::ROOM],
+    counts: Counts,
+) -> bool
+    requires { ⌜ counts .waiting ≤ mostWaiting ⌝ }
+    ensures { λ r. ⌜ r ≡ queueSound (now (image .entry)) (scopesOf (now (scopes .entry))) (take (counts .waiting) (eventsOf (now (events .entry)))) (counts .work) ⌝ }
+{
+    let n = counts.waiting;
+    if !events_keep(image, scopes, events, n) {
+        return false;
+    }
+    let work = ordinary_work(events, n);
+    counts.work == work
+}
+
+// The table's rules first, then those on modes, scopes and events; of the scopes and modes those that the table has are looked at.
+pub fn queue_rules(
+    image: &[u8],
+    modes: &[u16; plan::MOST_REACTORS],
+    scopes: &[u64; scopes::ROOM],
+    events: &[u64; slots::ROOM],
+    counts: Counts,
+) -> bool
+    requires { ⌜ length (now modes) ≡ mostReactors ⌝ }
+    ensures { λ r. ⌜ r ≡ (leb (counts .waiting) mostWaiting && rules (now (image .entry)) (stateIn (now (image .entry)) (now (modes .entry)) (scopesOf (now (scopes .entry))) (take (counts .waiting) (eventsOf (now (events .entry)))) (counts .work) emptyStore)) ⌝ }
+{
+    let waiting = counts.waiting;
+    if slots::MOST_WAITING < waiting {
+        return false;
+    }
+    if !table::accepted(image) {
+        return false;
+    }
+    let scope_count = rows::count(image, rows::SCOPE);
+    let reactors = rows::count(image, rows::REACTOR) as usize;
+    let all = *modes;
+    if !scopes_sound(image, &all[..reactors], scopes, scope_count) {
+        return false;
+    }
+    queue_sound(image, scopes, events, counts)
+}
+
+// ---- all
+
+// The modes, and how many events wait and values and buckets are held.
+pub struct Given {
+    pub modes: [u16; plan::MOST_REACTORS],
+    pub counts: Counts,
+    pub held: store_calls::Counts,
+}
+
+// The state handed in keeps the state rules.
+pub fn keeps_rules(
+    image: &[u8],
+    given: Given,
+    scopes: &[u64; scopes::ROOM],
+    events: &[u64; slots::ROOM],
+    values: &ValueRows,
+    buckets: &BucketRows,
+) -> bool
+    ensures { λ r. ⌜ r ≡ sound (now (image .entry)) (given .counts .waiting) (given .held .values) (given .held .buckets) (stateIn (now (image .entry)) (given .modes) (scopesOf (now (scopes .entry))) (take (given .counts .waiting) (eventsOf (now (events .entry)))) (given .counts .work) (storeOf (now (values .entry)) (now (buckets .entry)) (given .held))) ⌝ }
+{
+    let modes = given.modes;
+    let counts = given.counts;
+    let held = given.held;
+    if !queue_rules(image, &modes, scopes, events, counts) {
+        return false;
+    }
+    let actions = rows::count(image, rows::ACTION);
+    store_rules::keeps_rules(values, buckets, held, actions)
+}
