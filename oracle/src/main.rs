@@ -1,37 +1,13 @@
 //! The oracle: the published Rust, unchanged over stand-ins, and a plain reading of 01, to hold gate days against.
 
-mod answers;
-mod antt;
-mod compare;
-mod deep;
-mod image;
-mod judge;
-mod make;
-mod picture;
-mod plain;
-mod published;
-mod records;
-mod rng;
-mod sched;
-mod schedule;
-mod scripts;
-mod selftest;
-mod storage;
-mod sweep;
-#[cfg(test)]
-mod tests;
-mod text;
-mod timing;
-
-// The published files name these at the crate's root.
-use published::*;
-
 use std::io::{self, BufWriter, Write};
 use std::path::Path;
 use std::process::ExitCode;
+use std::time::Duration;
 
-use compare::Outcome;
-use scripts::Written;
+use oracle::compare::{self, Outcome};
+use oracle::scripts::{self, Written};
+use oracle::{antt, beside, deep, judge, make, picture, plain, selftest, sweep, text, timing};
 
 const USAGE: &str = "\
 oracle compare DAY ANSWERS          the answers against the published Rust and what the bytes alone decide
@@ -51,8 +27,12 @@ oracle walk SEED COUNT SCRIPT ANSWERS           level walks
 oracle table SEED COUNT SCRIPT ANSWERS          images with 01's answers
 oracle table days FOLDER SCRIPT ANSWERS         images of recorded days with the recorded answers
 oracle time DAY REPEAT [ANSWERS]    the day in the Rust alone, nanoseconds a record
+oracle race REPEAT FOLDER PROGRAM [WORD..]
+                                    another program beside the Rust on long days, as a table; FOLDER for two files
 oracle selftest DIR                 recorded days, and wrong answers that must be caught
 oracle sweep FROM TO [KIND]         made days on both sides, seeds FROM to TO - 1
+oracle beside FROM TO DAMAGED FOLDER PROGRAM [WORD..]
+                                    another program's answers: recorded days, made days, so many damaged copies
 
 Exit status: 0 all agrees, 1 a difference, 2 the arguments or a file are at fault.";
 
@@ -184,6 +164,11 @@ fn run(words: &[&str]) -> Result<(), Failure> {
                 .map_err(Fault)?;
             writeln!(out, "{day}: {words}")?;
         }
+        ["race", repeat, folder, ref words @ ..] if !words.is_empty() => {
+            let repeat = number(repeat)? as usize;
+            let table = timing::race(repeat, words, Path::new(folder)).map_err(Difference)?;
+            write!(out, "{table}")?;
+        }
         ["selftest", folder] => {
             if !Path::new(folder).is_dir() {
                 return Err(Fault(format!("{folder} is no folder")));
@@ -200,6 +185,13 @@ fn run(words: &[&str]) -> Result<(), Failure> {
             made(from, kind)?;
             let words = sweep::sweep(from, number(to)?, Some(kind)).map_err(Difference)?;
             writeln!(out, "{words}")?;
+        }
+        ["beside", from, to, damaged, folder, ref words @ ..] if !words.is_empty() => {
+            let seeds = (number(from)?, number(to)?);
+            let damaged = number(damaged)? as usize;
+            let runner = |day: &[u8], limit: Duration| beside::child(words, day, limit);
+            let outcome = beside::beside(seeds, damaged, Path::new(folder), &runner);
+            writeln!(out, "{}", outcome.map_err(Fault)?.map_err(Difference)?)?;
         }
         ["help"] => writeln!(out, "{USAGE}")?,
         _ => return Err(Fault(format!("what is asked for?\n{USAGE}"))),

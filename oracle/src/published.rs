@@ -1,6 +1,6 @@
 //! What stands at the root of the published crate: its files key_set.rs, time.rs and action/store.rs, unchanged,
 //! and stand-ins for what they name there. The scheduler's two files are in sched.rs. The published files say
-//! `crate::..`, so main.rs takes all of this into the crate's root.
+//! `crate::..`, so lib.rs takes all of this into the crate's root.
 
 use std::ops::{Add, AddAssign, Sub};
 

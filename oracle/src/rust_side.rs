@@ -193,7 +193,7 @@ impl RustSide {
     }
 
     /// Clock, active, ever active and head of each scope.
-    pub fn scopes(&self) -> impl Iterator<Item = ScopeView> + '_ {
+    pub(crate) fn scopes(&self) -> impl Iterator<Item = ScopeView> + '_ {
         self.schedule.scopes().map(move |scope| ScopeView {
             clock: self.manager.clock_view(scope),
             active: self.manager.scope_active(scope),
@@ -204,7 +204,7 @@ impl RustSide {
 }
 
 /// What can be seen of one scope.
-pub struct ScopeView {
+pub(crate) struct ScopeView {
     pub clock: ClockView,
     pub active: bool,
     pub ever: bool,

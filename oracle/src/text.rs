@@ -8,9 +8,16 @@
 //! plain OFFSET MICROSTEP TERMINAL KEYS       network OFFSET MICROSTEP KEYS      control OFFSET MICROSTEP
 //! act ACTION OFFSET MICROSTEP TERMINAL KEYS  transition REACTOR MODE reset|history OFFSET MICROSTEP
 //! pop                            raw HEX (bytes of records)      repeat COUNT RECORD
+//! image HEX (bytes in the place of an image: of one that its rows don't fill)
 //! ```
 //!
 //! "-" is none, and an empty list of keys; others are joined by commas. Rows may stand in any order.
+//! `lines_of` goes the other way: every day has a text that gives its bytes again.
+
+use std::fmt::Write;
+
+use crate::image::number;
+use crate::records::{split, Op};
 
 /// Bytes a field of each kind of row, in the image's order.
 const ROWS: [(&str, &[usize]); 9] = [
@@ -39,7 +46,7 @@ const OPS: [(&str, u8, &[usize], bool); 6] = [
 pub fn assemble(text: &str) -> Result<Vec<u8>, String> {
     let mut counts = [0u16; 9];
     let mut rows: [Vec<u8>; 9] = Default::default();
-    let mut records = Vec::new();
+    let (mut whole, mut records) = (None, Vec::new());
     for line in text.lines().flat_map(|line| bare(line).split(';')) {
         let words: Vec<&str> = line.split_whitespace().collect();
         let Some((&name, rest)) = words.split_first() else {
@@ -50,6 +57,10 @@ pub fn assemble(text: &str) -> Result<Vec<u8>, String> {
                 counts[kind] += 1;
                 rows[kind].extend(bytes);
             }),
+            None if name == "image" => match rest {
+                [hex] => raw(hex).map(|bytes| whole = Some(bytes)),
+                _ => None,
+            },
             None => record(&words).map(|bytes| records.extend(bytes)),
         };
         understood.ok_or_else(|| format!("what is \"{}\"?", line.trim()))?;
@@ -57,7 +68,61 @@ pub fn assemble(text: &str) -> Result<Vec<u8>, String> {
     let mut body = vec![1];
     body.extend(counts.iter().flat_map(|count| count.to_be_bytes()));
     body.extend(rows.concat());
-    Ok([with_length(body), records].concat())
+    Ok([whole.unwrap_or_else(|| with_length(body)), records].concat())
+}
+
+/// The text of a day, one row or record a line; `assemble` gives the day again.
+pub fn lines_of(day: &[u8]) -> Vec<String> {
+    let end = match day.get(..4) {
+        Some(length) => (number(length) as usize).saturating_add(4).min(day.len()),
+        None => day.len(),
+    };
+    let (image, records) = day.split_at(end);
+    let mut lines = rows_of(image).unwrap_or_else(|| vec![format!("image {}", hex(image))]);
+    for record in split(records) {
+        lines.push(match record.op {
+            Op::Malformed | Op::Broken => format!("raw {}", hex(record.bytes)),
+            _ => record.to_string(),
+        });
+    }
+    lines
+}
+
+/// The rows of an image of version 1 that they fill exactly, right or wrong.
+fn rows_of(image: &[u8]) -> Option<Vec<String>> {
+    let counts_end = 5 + 2 * ROWS.len();
+    let fits = image.len() >= counts_end
+        && number(&image[..4]) as usize == image.len() - 4
+        && image[4] == 1;
+    let (counts, mut rest) = image.split_at(if fits { counts_end } else { return None });
+    let mut lines = Vec::new();
+    for (kind, &(name, widths)) in ROWS.iter().enumerate() {
+        for _ in 0..number(&counts[5 + 2 * kind..7 + 2 * kind]) {
+            let mut line = name.to_string();
+            for &width in widths {
+                let (field, after) = rest.split_at(if width <= rest.len() {
+                    width
+                } else {
+                    return None;
+                });
+                rest = after;
+                match number(field) {
+                    65535 => line.push_str(" -"),
+                    value => line.push_str(&format!(" {value}")),
+                }
+            }
+            lines.push(line);
+        }
+    }
+    rest.is_empty().then_some(lines)
+}
+
+fn hex(bytes: &[u8]) -> String {
+    bytes.iter().fold(String::new(), |mut hex, byte| {
+        // Writing into a string does not fail.
+        let _ = write!(hex, "{byte:02x}");
+        hex
+    })
 }
 
 /// The comments at the top of a text: what the day shows.

@@ -1,0 +1,175 @@
+//! Barnshiver's proved functions for a Rust program: clock maps, the table check, runs of gate days, and a [`Gate`] over
+//! them. `barnshiver.h` has the same for C.
+//!
+//! The archive `target/staticlib/libexports.a` (`rt staticlib exports`) is linked; it has code for x86-64 alone. Nothing in
+//! this wrapper is proved; it hands slices over and takes answers apart. "01" is the scope's document.
+//!
+//! ```
+//! use barnshiver::{Gate, Table, Tag, NONE};
+//!
+//! let table = Table {
+//!     scopes: vec![[NONE, 0, NONE]],
+//!     reactors: vec![[0, NONE]],
+//!     levels: vec![0],
+//!     ..Table::default()
+//! };
+//! let mut gate = Gate::new(&table.image()).unwrap();
+//! gate.push_event(Tag::new(5, 0), &[0], false).unwrap();
+//! assert_eq!(gate.pop_next_event().unwrap().tag, Tag::new(5, 0));
+//! assert_eq!(gate.pop_next_event(), None);
+//! ```
+
+mod gate;
+mod raw;
+pub mod slices;
+#[cfg(feature = "standin")]
+mod standin;
+pub mod state;
+mod table;
+
+pub use gate::{Gate, Kind, Ready};
+pub use state::State;
+pub use table::{Table, NONE};
+
+use std::fmt;
+
+/// Room in which every line of answers fits.
+pub const LINE_ROOM: usize = 4096;
+
+/// Nanoseconds and a microstep; offset first in order. Whether it is global or local, its place says.
+#[derive(Debug, Clone, Copy, PartialEq, Eq, PartialOrd, Ord, Hash)]
+pub struct Tag {
+    pub offset: u64,
+    pub microstep: u32,
+}
+
+impl Tag {
+    pub const ZERO: Self = Self::new(0, 0);
+
+    pub const fn new(offset: u64, microstep: u32) -> Self {
+        Self { offset, microstep }
+    }
+}
+
+impl fmt::Display for Tag {
+    fn fmt(&self, f: &mut fmt::Formatter<'_>) -> fmt::Result {
+        write!(f, "({},{})", self.offset, self.microstep)
+    }
+}
+
+/// A number of refusal (01, "Numbers of refusal"). What was refused changed nothing.
+#[derive(Debug, Clone, Copy, PartialEq, Eq)]
+pub struct Refused(pub u8);
+
+impl fmt::Display for Refused {
+    fn fmt(&self, f: &mut fmt::Formatter<'_>) -> fmt::Result {
+        let why = match self.0 {
+            1 => "the record is malformed",
+            5 => "the table lacks a key",
+            6 => "a tag given is beyond the limits",
+            7 => "a mapped or delayed tag is beyond the limits",
+            8 => "256 events wait and one more is needed",
+            9 => "256 values or buckets are held and one more is needed",
+            10 => "the target mode is not of the named reactor",
+            11 => "what was handed in breaks a rule",
+            _ => "no number that 01 knows",
+        };
+        write!(f, "refused {}: {why}", self.0)
+    }
+}
+
+impl std::error::Error for Refused {}
+
+/// Why an image is no table: number 1 to 4, and the byte at which 01 finds it.
+#[derive(Debug, Clone, Copy, PartialEq, Eq)]
+pub struct TableRefused {
+    pub number: u8,
+    pub place: u64,
+}
+
+impl fmt::Display for TableRefused {
+    fn fmt(&self, f: &mut fmt::Formatter<'_>) -> fmt::Result {
+        let why = match self.number {
+            1 => "its length does not fit",
+            2 => "its version is not 1",
+            3 => "a count is too large, or there is no scope or no reactor",
+            _ => "a row breaks a rule",
+        };
+        write!(
+            f,
+            "table refused {} at byte {}: {why}",
+            self.number, self.place
+        )
+    }
+}
+
+impl std::error::Error for TableRefused {}
+
+/// Whether an image is a table.
+pub fn check_table(image: &[u8]) -> Result<(), TableRefused> {
+    match slices::check_table(image) {
+        (0, _) => Ok(()),
+        (number, place) => Err(TableRefused { number, place }),
+    }
+}
+
+/// A scope's clock: activation global, activation local, allowed, suspended local.
+#[derive(Debug, Clone, Copy, PartialEq, Eq)]
+pub struct ScopeClock {
+    pub global: Tag,
+    pub local: Tag,
+    pub allowed: bool,
+    pub suspended: Tag,
+}
+
+impl ScopeClock {
+    /// A global tag on the local scale.
+    pub fn global_to_local(&self, tag: Tag) -> Result<Tag, Refused> {
+        self.map(true, tag)
+    }
+
+    /// A local tag on the global scale.
+    pub fn local_to_global(&self, tag: Tag) -> Result<Tag, Refused> {
+        self.map(false, tag)
+    }
+
+    fn map(&self, to_local: bool, tag: Tag) -> Result<Tag, Refused> {
+        let clock = [
+            self.global.offset,
+            u64::from(self.global.microstep),
+            self.local.offset,
+            u64::from(self.local.microstep),
+            u64::from(self.allowed),
+            self.suspended.offset,
+            u64::from(self.suspended.microstep),
+        ];
+        let mut mapped = [0; 2];
+        match slices::map(to_local, &clock, tag.offset, tag.microstep, &mut mapped) {
+            0 => Ok(Tag::new(mapped[0], mapped[1] as u32)),
+            number => Err(Refused(number)),
+        }
+    }
+}
+
+/// All lines of a day's answers, as the bench program writes them.
+pub fn run_day(day: &[u8]) -> Vec<u8> {
+    let mut lines = vec![0; 4 * LINE_ROOM];
+    loop {
+        let length = slices::run_day(day, &mut lines);
+        // With room for a line left over nothing was held back.
+        if lines.len().saturating_sub(length) >= LINE_ROOM {
+            lines.truncate(length);
+            return lines;
+        }
+        lines.resize(2 * lines.len(), 0);
+    }
+}
+
+/// The state after a day's records; none if its image is refused.
+pub fn state_after(day: &[u8]) -> Option<State> {
+    let mut words = Box::new([0; state::STATE_WORDS]);
+    match slices::state_after(day, &mut words[..]) {
+        0 => Some(State::of(&words)),
+        _ => None,
+    }
+}

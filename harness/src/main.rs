@@ -1,0 +1,308 @@
+//! The library beside the oracle: clock maps, images, runs of days, and the state after every record.
+
+use std::io::Write;
+use std::process::ExitCode;
+use std::sync::atomic::{AtomicU64, AtomicUsize, Ordering};
+use std::sync::Mutex;
+
+use barnshiver::state::STATE_WORDS;
+use barnshiver::{slices, LINE_ROOM};
+use oracle::image::{self, number};
+use oracle::make::{make, KINDS};
+use oracle::plain::{self, Plain};
+use oracle::records::split;
+use oracle::{deep, scripts, shrink};
+
+mod seen;
+
+const USAGE: &str = "\
+harness maps SEED COUNT      clock maps against the published clock's and 01's answers
+harness tables SEED COUNT    the table check on images, valid and damaged
+harness days FROM TO         made days of every kind, seeds FROM to TO - 1: the lines, and the state after every record
+                             against the Rust's and the plain machine's
+
+Exit status: 0 all agrees, 1 a difference, 2 the arguments are at fault.";
+
+fn main() -> ExitCode {
+    let arguments: Vec<String> = std::env::args().skip(1).collect();
+    let words: Vec<&str> = arguments.iter().map(String::as_str).collect();
+    let outcome = match words[..] {
+        [what, first, second] => match (what, first.parse(), second.parse()) {
+            ("maps", Ok(seed), Ok(count)) => maps(seed, count),
+            ("tables", Ok(seed), Ok(count)) => tables(seed, count),
+            ("days", Ok(from), Ok(to)) => days(from, to),
+            _ => return usage(),
+        },
+        _ => return usage(),
+    };
+    let (words, status) = match outcome {
+        Ok(words) => (words, ExitCode::SUCCESS),
+        Err(words) => (words, ExitCode::from(1)),
+    };
+    if cfg!(feature = "standin") {
+        eprintln!("harness: over the oracle's stand-in, not the proved library");
+    }
+    // Nothing is left to be done if standard output is closed.
+    let _ = writeln!(std::io::stdout(), "{words}");
+    status
+}
+
+fn usage() -> ExitCode {
+    eprintln!("harness: what is asked for?\n{USAGE}");
+    ExitCode::from(2)
+}
+
+/// What stands in a tag's place before a call, to see that a refusal leaves it.
+const UNTOUCHED: [u64; 2] = [0x5555_5555_5555_5555, 0xaaaa_aaaa_aaaa_aaaa];
+
+/// A clock's numbers, a tag, and what must come out: the number, and the tag if it is 0.
+fn one_map(
+    case: usize,
+    to_local: bool,
+    clock: &[u64],
+    tag: (u64, u32),
+    expected: (u8, [u64; 2]),
+) -> Result<(), String> {
+    let mut mapped = UNTOUCHED;
+    let number = slices::map(to_local, clock, tag.0, tag.1, &mut mapped);
+    if (number, mapped) == expected {
+        return Ok(());
+    }
+    let way = if to_local {
+        "global to local"
+    } else {
+        "local to global"
+    };
+    Err(format!(
+        "map {case}: clock {clock:?} (G, L, allowed, S), {way} of {tag:?}: expected {expected:?}, got {:?}",
+        (number, mapped)
+    ))
+}
+
+/// Case bytes as scripts/map.rs lays them out: way 1, G 12, L 12, allowed 1, S 12, tag 12.
+const MAP_CASE: usize = 50;
+const MAP_ANSWER: usize = 13;
+
+fn maps(seed: u64, count: u64) -> Result<String, String> {
+    let written = scripts::map::write(seed, count as usize)?;
+    let cases = written
+        .script
+        .chunks(MAP_CASE)
+        .zip(written.answers.chunks(MAP_ANSWER));
+    let (mut calls, mut refused) = (0, [0usize; 12]);
+    for (index, (case, answer)) in cases.enumerate() {
+        let tag = |at: usize| [number(&case[at..at + 8]), number(&case[at + 8..at + 12])];
+        let to_local = case[0] == 1;
+        let (given, mut clock) = (tag(38), Vec::new());
+        clock.extend(tag(1));
+        clock.extend(tag(13));
+        clock.push(u64::from(case[25]));
+        clock.extend(tag(26));
+        let given = (given[0], given[1] as u32);
+        let expected = match answer[0] {
+            0 => (0, [number(&answer[1..9]), number(&answer[9..13])]),
+            number => (number, UNTOUCHED),
+        };
+        one_map(index + 1, to_local, &clock, given, expected)?;
+        refused[usize::from(expected.0)] += 1;
+        // The same clock in a form that is none: other lengths, an allowed that is no flag, a microstep of over 32 bits.
+        let mut wrong = clock.clone();
+        match index % 4 {
+            0 => wrong.truncate(index / 4 % 7),
+            1 => wrong.push(0),
+            2 => wrong[4] = 2 + number(&case[38..46]) % 1000,
+            _ => wrong[[1, 3, 6][index / 4 % 3]] += 1 << (32 + index / 12 % 31),
+        }
+        one_map(index + 1, to_local, &wrong, given, (11, UNTOUCHED))?;
+        calls += 2;
+    }
+    Ok(format!(
+        "{calls} maps, {} of them mapped, {} refused 6, {} refused 7, {} with clocks that are none: no difference",
+        refused[0], refused[6], refused[7], refused[11] + calls / 2
+    ))
+}
+
+fn tables(seed: u64, count: u64) -> Result<String, String> {
+    let written = scripts::table::write(seed, count as usize)?;
+    let mut script = &written.script[..];
+    let mut answers = written.answers.chunks(5);
+    let (mut images, mut accepted) = (0, 0);
+    while !script.is_empty() {
+        let (length, rest) = script.split_at(4);
+        let (image, rest) = rest.split_at(number(length) as usize);
+        script = rest;
+        let answer = answers.next().ok_or("an answer is missing")?;
+        let expected = (answer[0], number(&answer[1..]));
+        images += 1;
+        accepted += usize::from(expected.0 == 0);
+        if let Some(words) = one_table(image, expected) {
+            let differs = |image: &[u8]| {
+                let expected = match image::check(image) {
+                    Ok(_) => (0, 0),
+                    Err(refused) => (refused.number, refused.place as u64),
+                };
+                one_table(image, expected)
+            };
+            return Err(shrink::shown(
+                &format!("image {images}"),
+                &words,
+                image,
+                differs,
+            ));
+        }
+    }
+    Ok(format!(
+        "{images} images, {accepted} accepted: no difference"
+    ))
+}
+
+/// An image, and what must be answered of it; a difference in words.
+fn one_table(image: &[u8], expected: (u8, u64)) -> Option<String> {
+    let got = slices::check_table(image);
+    (got != expected).then(|| format!("expected {expected:?} (number, place), got {got:?}"))
+}
+
+fn days(from: u64, to: u64) -> Result<String, String> {
+    let (next, found) = (AtomicU64::new(from), Mutex::new(Vec::new()));
+    let (states, with_rust) = (AtomicUsize::new(0), AtomicUsize::new(0));
+    let work = || loop {
+        let seed = next.fetch_add(1, Ordering::Relaxed);
+        if seed >= to {
+            return;
+        }
+        for kind in KINDS {
+            let day = make(seed, kind).unwrap_or_default();
+            match one_day(&day) {
+                Ok(counts) => {
+                    states.fetch_add(counts.0, Ordering::Relaxed);
+                    with_rust.fetch_add(counts.1, Ordering::Relaxed);
+                }
+                Err(words) => {
+                    next.store(to, Ordering::Relaxed);
+                    let name = format!("seed {seed} kind {kind}");
+                    let mut found = found.lock().unwrap_or_else(|lock| lock.into_inner());
+                    found.push((seed, name, words, day));
+                    return;
+                }
+            }
+        }
+    };
+    let workers = std::thread::available_parallelism().map_or(2, |count| count.get());
+    std::thread::scope(|scope| {
+        for _ in 0..workers {
+            scope.spawn(work);
+        }
+    });
+    let mut found = found.into_inner().unwrap_or_else(|lock| lock.into_inner());
+    found.sort();
+    if let Some((_, name, words, day)) = found.first() {
+        return Err(shrink::shown(name, words, day, |day| one_day(day).err()));
+    }
+    Ok(format!(
+        "{} days of every kind, seeds {from} to {to} - 1; {} states like the plain machine's, {} of them like the Rust's too: \
+         no difference",
+        (to.saturating_sub(from)) * KINDS.len() as u64,
+        states.into_inner(),
+        with_rust.into_inner()
+    ))
+}
+
+/// A day's lines and its states after every record; how many states, and how many of them the Rust's side has.
+fn one_day(day: &[u8]) -> Result<(usize, usize), String> {
+    lines(day)?;
+    let Ok((table, records)) = image::open(day) else {
+        let mut words = [7; STATE_WORDS];
+        let refused = slices::state_after(day, &mut words);
+        return match (refused, words == [7; STATE_WORDS]) {
+            (1, true) => Ok((0, 0)),
+            _ => Err("a refused image has a state".to_string()),
+        };
+    };
+    let (mut plain_lines, mut rust_lines) = (Vec::new(), Vec::new());
+    deep::print_plain(day, &mut plain_lines).map_err(|error| error.to_string())?;
+    deep::print_rust(day, None, &mut rust_lines).map_err(|error| error.to_string())?;
+    let (plain_lines, rust_lines) = (
+        String::from_utf8_lossy(&plain_lines),
+        String::from_utf8_lossy(&rust_lines),
+    );
+    let (mut plain_lines, mut rust_lines) = (plain_lines.lines(), rust_lines.lines());
+    let mut plain = Plain::new(&table);
+    let mut end = day.len() - records.len();
+    let (mut states, mut with_rust) = (0, 0);
+    let records = split(records);
+    for at in 0..=records.len() {
+        let mut what = "the fresh state".to_string();
+        if let Some(record) = at.checked_sub(1).map(|index| &records[index]) {
+            plain.step(&record.op);
+            end += record.bytes.len();
+            what = format!("after record {at} ({record})");
+        }
+        let ours = barnshiver::state_after(&day[..end]).ok_or(format!("{what}: no state"))?;
+        let line = seen::line(at, &ours, &table);
+        let expected = plain_lines.next().unwrap_or("");
+        if line != expected {
+            return Err(format!("{what}:\n  01   {expected}\n  ours {line}"));
+        }
+        seen::same(&ours, &plain.state).map_err(|words| format!("{what}: {words}"))?;
+        states += 1;
+        match rust_lines.next() {
+            Some(expected) if !expected.contains("left the domain") => {
+                if !seen::same_as_rust(&line, expected) {
+                    return Err(format!("{what}:\n  Rust {expected}\n  ours {line}"));
+                }
+                with_rust += 1;
+            }
+            // Nothing after it is compared.
+            _ => rust_lines = "".lines(),
+        }
+    }
+    Ok((states, with_rust))
+}
+
+/// What stands behind the lines before a call.
+const FILL: u8 = 0xa5;
+/// Pops behind a day, so that its lines take more than the room of one.
+const POPS: usize = 600;
+const POP: [u8; 6] = [0, 0, 0, 2, 1, 6];
+
+/// A day's lines, whole and in rooms too small for them.
+fn lines(day: &[u8]) -> Result<(), String> {
+    let expected = plain::answer(day);
+    let all = barnshiver::run_day(day);
+    if all != expected.as_bytes() {
+        let all = String::from_utf8_lossy(&all);
+        let mut pairs = expected.lines().zip(all.lines()).enumerate();
+        return Err(match pairs.find(|(_, (one, other))| one != other) {
+            Some((at, (one, other))) => {
+                format!("line {}: expected \"{one}\", got \"{other}\"", at + 1)
+            }
+            None => format!(
+                "expected {} lines, got {}",
+                expected.lines().count(),
+                all.lines().count()
+            ),
+        });
+    }
+    let longer = [day, &POP.repeat(POPS)].concat();
+    let expected = plain::answer(&longer).into_bytes();
+    for room in [0, LINE_ROOM - 1, LINE_ROOM, LINE_ROOM + expected.len() / 2] {
+        let mut short = vec![FILL; room + LINE_ROOM];
+        let length = slices::run_day(&longer, &mut short[..room]);
+        let (front, rest) = short.split_at(length.min(room));
+        let whole = front.is_empty() || front.ends_with(b"\n");
+        let enough = length == expected.len() || room - front.len() < LINE_ROOM;
+        if length > room
+            || !expected.starts_with(front)
+            || !whole
+            || !enough
+            || rest.iter().any(|&byte| byte != FILL)
+        {
+            return Err(format!(
+                "with {POPS} pops behind it, in a room of {room} bytes, the lines took {length} of {}: wrong, cut, too few, or \
+                 something is written behind them",
+                expected.len()
+            ));
+        }
+    }
+    Ok(())
+}

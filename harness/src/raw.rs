@@ -1,0 +1,37 @@
+//! The library's functions as barnshiver.h declares them: a slice is a pointer and a length.
+
+extern "C" {
+    pub fn barnshiver_global_to_local(
+        clock: *const u64,
+        clock_length: usize,
+        offset: u64,
+        microstep: u32,
+        tag: *mut u64,
+        tag_length: usize,
+    ) -> u8;
+
+    pub fn barnshiver_local_to_global(
+        clock: *const u64,
+        clock_length: usize,
+        offset: u64,
+        microstep: u32,
+        tag: *mut u64,
+        tag_length: usize,
+    ) -> u8;
+
+    pub fn barnshiver_check_table(image: *const u8, image_length: usize, place: *mut u64) -> u8;
+
+    pub fn barnshiver_run_day(
+        day: *const u8,
+        day_length: usize,
+        lines: *mut u8,
+        lines_length: usize,
+    ) -> usize;
+
+    pub fn barnshiver_state_after(
+        day: *const u8,
+        day_length: usize,
+        state: *mut u64,
+        state_length: usize,
+    ) -> u8;
+}

@@ -1,0 +1,198 @@
+//! The library's functions from the oracle's plain machine, which nothing proves: to test the harness and the wrapper
+//! without the archive.
+
+use std::slice;
+
+use oracle::image::{self, RawTag};
+use oracle::plain::{self, Clock, Plain};
+use oracle::records::split;
+
+use crate::state::STATE_WORDS;
+use crate::LINE_ROOM;
+
+/// SAFETY of all below: a caller hands over pointers and lengths of slices that live through the call.
+unsafe fn map(to_local: bool, clock: &[u64], offset: u64, microstep: u32, tag: &mut [u64]) -> u8 {
+    let [g_offset, g_step, l_offset, l_step, allowed, s_offset, s_step] = clock[..] else {
+        return 11;
+    };
+    let within = |offset: u64, step: u64| {
+        let tag = RawTag::new(offset, u32::try_from(step).ok()?);
+        tag.within_limits().then_some(tag)
+    };
+    let (Some(global), Some(local), Some(suspended), 0 | 1) = (
+        within(g_offset, g_step),
+        within(l_offset, l_step),
+        within(s_offset, s_step),
+        allowed,
+    ) else {
+        return 11;
+    };
+    let clock = Clock {
+        global,
+        local,
+        allowed: allowed == 1,
+        suspended,
+    };
+    let Some(given) = within(offset, u64::from(microstep)) else {
+        return 6;
+    };
+    let mapped = if to_local {
+        clock.to_local(given)
+    } else {
+        clock.to_global(given)
+    };
+    match mapped {
+        Ok(mapped) => {
+            tag[0] = mapped.offset;
+            tag[1] = u64::from(mapped.microstep);
+            0
+        }
+        Err(number) => number,
+    }
+}
+
+#[no_mangle]
+unsafe extern "C" fn barnshiver_global_to_local(
+    clock: *const u64,
+    clock_length: usize,
+    offset: u64,
+    microstep: u32,
+    tag: *mut u64,
+    tag_length: usize,
+) -> u8 {
+    let clock = slice::from_raw_parts(clock, clock_length);
+    let tag = slice::from_raw_parts_mut(tag, tag_length);
+    map(true, clock, offset, microstep, tag)
+}
+
+#[no_mangle]
+unsafe extern "C" fn barnshiver_local_to_global(
+    clock: *const u64,
+    clock_length: usize,
+    offset: u64,
+    microstep: u32,
+    tag: *mut u64,
+    tag_length: usize,
+) -> u8 {
+    let clock = slice::from_raw_parts(clock, clock_length);
+    let tag = slice::from_raw_parts_mut(tag, tag_length);
+    map(false, clock, offset, microstep, tag)
+}
+
+#[no_mangle]
+unsafe extern "C" fn barnshiver_check_table(
+    image: *const u8,
+    image_length: usize,
+    place: *mut u64,
+) -> u8 {
+    let (number, at) = match image::check(slice::from_raw_parts(image, image_length)) {
+        Ok(_) => (0, 0),
+        Err(refused) => (refused.number, refused.place),
+    };
+    *place = at as u64;
+    number
+}
+
+#[no_mangle]
+unsafe extern "C" fn barnshiver_run_day(
+    day: *const u8,
+    day_length: usize,
+    lines: *mut u8,
+    lines_length: usize,
+) -> usize {
+    let answers = plain::answer(slice::from_raw_parts(day, day_length));
+    let lines = slice::from_raw_parts_mut(lines, lines_length);
+    let mut written = 0;
+    for line in answers.split_inclusive('\n') {
+        if lines.len() - written < LINE_ROOM {
+            break;
+        }
+        lines[written..written + line.len()].copy_from_slice(line.as_bytes());
+        written += line.len();
+    }
+    written
+}
+
+#[no_mangle]
+unsafe extern "C" fn barnshiver_state_after(
+    day: *const u8,
+    day_length: usize,
+    state: *mut u64,
+    state_length: usize,
+) -> u8 {
+    let state = slice::from_raw_parts_mut(state, state_length);
+    match words(slice::from_raw_parts(day, day_length)) {
+        Some(words) if state.len() >= STATE_WORDS => {
+            state[..STATE_WORDS].copy_from_slice(&words);
+            0
+        }
+        _ => 1,
+    }
+}
+
+/// The words of the state after a day's records, as barnshiver.h lays them out.
+fn words(day: &[u8]) -> Option<Vec<u64>> {
+    let (table, records) = image::open(day).ok()?;
+    let mut plain = Plain::new(&table);
+    for record in split(records) {
+        plain.step(&record.op);
+    }
+    let state = &plain.state;
+    let key = |key: Option<usize>| key.map_or(65535, |key| key as u64);
+    let peek = plain.peek().unwrap_or(RawTag::ZERO);
+    let mut words = vec![
+        u64::from(plain.peek().is_some()),
+        peek.offset,
+        u64::from(peek.microstep),
+        u64::from(plain.control_only()),
+        state.work as u64,
+        state.events.len() as u64,
+        state.store.values.len() as u64,
+        state.store.buckets.len() as u64,
+    ];
+    words.extend(state.modes.iter().map(|&mode| key(mode)));
+    words.resize(24, 65535);
+    for (scope, clock) in state.clocks.iter().enumerate() {
+        let (active, ever) = (state.active[scope], state.ever[scope]);
+        words.push(u64::from(clock.allowed) + 2 * u64::from(active) + 4 * u64::from(ever));
+        for tag in [clock.global, clock.local, clock.suspended] {
+            words.extend([tag.offset, u64::from(tag.microstep)]);
+        }
+    }
+    words.resize(248, 0);
+    for event in &state.events {
+        let stored = event.action.map_or(RawTag::ZERO, |(_, stored)| stored);
+        let action = key(event.action.map(|(action, _)| action));
+        let mut reactions = [0; 2];
+        for &reaction in &event.reactions {
+            reactions[reaction / 64] |= 1 << (reaction % 64);
+        }
+        words.extend([
+            key(event.scope)
+                | action << 16
+                | u64::from(event.terminal) << 32
+                | u64::from(event.control) << 33
+                | u64::from(event.network) << 34,
+            event.tag.offset,
+            u64::from(event.tag.microstep) | u64::from(stored.microstep) << 32,
+            stored.offset,
+        ]);
+        words.extend(reactions);
+    }
+    words.resize(1784, 0);
+    for held in &state.store.values {
+        let tag = held.tag;
+        words.extend([
+            held.action as u64,
+            tag.offset,
+            u64::from(tag.microstep),
+            held.value,
+        ]);
+    }
+    words.resize(2808, 0);
+    for bucket in &state.store.buckets {
+        words.extend([bucket.action as u64, bucket.offset, u64::from(bucket.next)]);
+    }
+    words.resize(STATE_WORDS, 0);
+    Some(words)
+}

@@ -1,0 +1,432 @@
+//! `oracle beside FROM TO DAMAGED FOLDER PROGRAM WORD..`: another program's answers on many days.
+//!
+//! The program gets a day on standard input and writes its lines to standard output, as the bench program does. Days: the
+//! recorded ones of the folder and the texts in its folder `small`; made ones of every kind, seeds FROM to TO - 1; one
+//! long day of each kind; and so many damaged copies, a byte dropped, changed, doubled, or the day cut there, at places
+//! spread over all bytes of some fifty short days.
+//!
+//! Each must be answered in time and with exit status 0. `compare` and `judge` must find nothing, recorded answers must
+//! come byte for byte, and so must the plain machine's (that settles the order of actions and what lies outside the
+//! Rust's domain, damaged days above all). A difference is shown on the smallest day that has one.
+
+use std::io::{Read, Write};
+use std::path::{Path, PathBuf};
+use std::process::{Command, Stdio};
+use std::sync::atomic::{AtomicUsize, Ordering};
+use std::sync::{mpsc, Mutex};
+use std::thread;
+use std::time::{Duration, Instant};
+
+use crate::answers::lines;
+use crate::compare::{compare, difference, table_line, Outcome, NO_LINE};
+use crate::judge::judge;
+use crate::make::{make, KINDS, LONG_KINDS};
+use crate::plain::answer;
+use crate::rng::Rng;
+use crate::shrink::shown;
+use crate::text::assemble;
+
+/// Time for one day; and for one that is tried while a day is made smaller.
+const LIMIT: Duration = Duration::from_secs(20);
+const SHORT_LIMIT: Duration = Duration::from_secs(3);
+/// Most bytes of answers that are read: far more than any day here has.
+const MOST_BYTES: u64 = 64 << 20;
+/// Longest recorded day, and seeds of made days, that damaged copies are made of.
+const SHORT: usize = 4000;
+const DAMAGED_SEEDS: u64 = 4;
+
+/// Runs a program on a day in a time; its lines, or in words why there are none.
+pub type Runner<'r> = dyn Fn(&[u8], Duration) -> Result<Vec<u8>, String> + Sync + 'r;
+
+/// A child process for each day.
+pub fn child(words: &[&str], day: &[u8], limit: Duration) -> Result<Vec<u8>, String> {
+    let end = Instant::now() + limit;
+    let (program, rest) = words.split_first().ok_or("no program is named")?;
+    let mut child = Command::new(program)
+        .args(rest)
+        .stdin(Stdio::piped())
+        .stdout(Stdio::piped())
+        .spawn()
+        .map_err(|error| format!("cannot run {program}: {error}"))?;
+    let (input, output) = (child.stdin.take(), child.stdout.take());
+    let day = day.to_vec();
+    thread::spawn(move || {
+        // A program need not read a day to its end.
+        let _ = input.map(|mut input| input.write_all(&day));
+    });
+    let (sender, receiver) = mpsc::channel();
+    thread::spawn(move || {
+        let mut lines = Vec::new();
+        let read = output.map(|output| output.take(MOST_BYTES).read_to_end(&mut lines));
+        let _ = sender.send((lines, read));
+    });
+    let mut ended = Ok(None);
+    let read = receiver.recv_timeout(limit);
+    while read.is_ok() && matches!(ended, Ok(None)) && Instant::now() < end {
+        ended = child.try_wait();
+        if matches!(ended, Ok(None)) {
+            thread::sleep(Duration::from_millis(1));
+        }
+    }
+    // It has ended, or is to be ended: in either case nothing is left to be done if that fails.
+    let _ = child.kill();
+    let _ = child.wait();
+    match (read, ended) {
+        (Ok((lines, Some(Ok(_)))), Ok(Some(status))) if status.success() => Ok(lines),
+        (_, Ok(Some(status))) => Err(format!("the program ended badly: {status}")),
+        _ => Err(format!("the program did not end within {limit:?}")),
+    }
+}
+
+/// Holds what a program gave for a day to everything that is known; how the comparison with the Rust ended, or the
+/// first difference in words.
+pub fn check(day: &[u8], given: Result<Vec<u8>, String>) -> Result<Outcome, String> {
+    let given = given?;
+    let outcome = match compare(day, &given).map_err(|words| format!("compare: {words}"))? {
+        Outcome::Differ(words) => return Err(format!("compare: {words}")),
+        outcome => outcome,
+    };
+    if let Outcome::Differ(words) = judge(day, &given).map_err(|words| format!("judge: {words}"))? {
+        return Err(format!("judge: {words}"));
+    }
+    match first_difference(day, answer(day).as_bytes(), &given)? {
+        Some(words) => Err(format!("01: {words}")),
+        None => Ok(outcome),
+    }
+}
+
+/// The first line in which answers to a day differ, in words.
+fn first_difference(day: &[u8], expected: &[u8], got: &[u8]) -> Result<Option<String>, String> {
+    if expected == got {
+        return Ok(None);
+    }
+    let (expected, got) = (lines(expected)?, lines(got)?);
+    let line = |lines: &[&str], at: usize| lines.get(at).copied().unwrap_or(NO_LINE).to_string();
+    let at = (0..)
+        .find(|&at| line(&expected, at) != line(&got, at))
+        .unwrap_or(0);
+    let records = table_line(day, &got).map_or(Vec::new(), |(_, records)| records);
+    let (expected, got) = (line(&expected, at), line(&got, at));
+    Ok(Some(
+        match at.checked_sub(1).and_then(|index| records.get(index)) {
+            Some(record) => match difference(at, record, &expected, &got) {
+                Outcome::Differ(words) => words,
+                _ => String::new(),
+            },
+            None => format!("line {}: expected \"{expected}\", got \"{got}\"", at + 1),
+        },
+    ))
+}
+
+/// A day to be run, with its name and perhaps its recorded answers.
+struct Case {
+    name: String,
+    day: Vec<u8>,
+    recorded: Option<Vec<u8>>,
+}
+
+/// A day made worse at one byte.
+fn damaged(day: &[u8], at: usize, way: usize, rng: &mut Rng) -> (&'static str, Vec<u8>) {
+    let mut copy = day.to_vec();
+    match way {
+        0 => {
+            copy.remove(at);
+            ("dropped", copy)
+        }
+        1 => {
+            copy[at] ^= 1 + rng.below(255) as u8;
+            ("changed", copy)
+        }
+        2 => {
+            copy.truncate(at);
+            ("cut", copy)
+        }
+        _ => {
+            copy.insert(at, day[at]);
+            ("doubled", copy)
+        }
+    }
+}
+
+const WAYS: usize = 4;
+
+/// Files of a folder with this ending, in order.
+fn files(folder: &Path, ending: &str) -> Result<Vec<PathBuf>, String> {
+    let mut files: Vec<PathBuf> = std::fs::read_dir(folder)
+        .map_err(|error| format!("cannot read {}: {error}", folder.display()))?
+        .filter_map(|entry| entry.ok().map(|entry| entry.path()))
+        .filter(|path| path.extension().is_some_and(|end| end == ending))
+        .collect();
+    files.sort();
+    Ok(files)
+}
+
+fn recorded(folder: &Path) -> Result<Vec<Case>, String> {
+    let read = |path: &Path| {
+        std::fs::read(path).map_err(|error| format!("cannot read {}: {error}", path.display()))
+    };
+    let mut cases = Vec::new();
+    for path in files(folder, "day")? {
+        cases.push(Case {
+            name: path.display().to_string(),
+            day: read(&path)?,
+            recorded: Some(read(&path.with_extension("answers"))?),
+        });
+    }
+    let small = folder.join("small");
+    for path in if small.is_dir() {
+        files(&small, "txt")?
+    } else {
+        Vec::new()
+    } {
+        let text = String::from_utf8_lossy(&read(&path)?).into_owned();
+        cases.push(Case {
+            name: path.display().to_string(),
+            day: assemble(&text).map_err(|words| format!("{}: {words}", path.display()))?,
+            recorded: None,
+        });
+    }
+    Ok(cases)
+}
+
+fn made(seed: u64, kind: &str) -> Case {
+    Case {
+        name: format!("seed {seed} kind {kind}"),
+        day: make(seed, kind).unwrap_or_default(),
+        recorded: None,
+    }
+}
+
+/// Damaged copies of short days: places and ways spread evenly, each drawn within its stretch.
+fn damaged_cases(seed: u64, count: usize, bases: &[Case]) -> Vec<Case> {
+    let total: usize = bases.iter().map(|base| base.day.len() * WAYS).sum();
+    let count = count.min(total);
+    let mut rng = Rng::new(seed);
+    let mut cases = Vec::new();
+    let (mut base, mut before) = (0, 0);
+    for index in 0..count {
+        let stretch = index * total / count..(index + 1) * total / count;
+        let drawn = stretch.start + rng.below(stretch.len() as u64) as usize;
+        while drawn - before >= bases[base].day.len() * WAYS {
+            before += bases[base].day.len() * WAYS;
+            base += 1;
+        }
+        let (at, way) = ((drawn - before) / WAYS, (drawn - before) % WAYS);
+        let (how, day) = damaged(&bases[base].day, at, way, &mut rng);
+        cases.push(Case {
+            name: format!("{}, byte {at} {how}", bases[base].name),
+            day,
+            recorded: None,
+        });
+    }
+    cases
+}
+
+#[derive(Default)]
+struct Counts {
+    records: usize,
+    compared: usize,
+    left: usize,
+    refused_tables: usize,
+}
+
+impl Counts {
+    fn add(&mut self, day: &[u8], outcome: &Outcome) {
+        let records =
+            crate::image::open(day).map(|(_, records)| crate::records::split(records).len());
+        self.refused_tables += usize::from(records.is_err());
+        self.records += records.unwrap_or(0);
+        match outcome {
+            Outcome::LeftDomain { record, .. } => {
+                self.left += 1;
+                self.compared += record - 1;
+            }
+            Outcome::Agree { records } => self.compared += records,
+            Outcome::Differ(_) => {}
+        }
+    }
+}
+
+/// All days of a run; `Err` if a file cannot be read.
+pub fn beside(
+    (from, to): (u64, u64),
+    damaged: usize,
+    folder: &Path,
+    runner: &Runner<'_>,
+) -> Result<Result<String, String>, String> {
+    let mut cases = recorded(folder)?;
+    let stored = cases.len();
+    let mut bases = recorded(folder)?;
+    bases.retain(|base| base.day.len() <= SHORT);
+    let seeds = to..to.saturating_add(DAMAGED_SEEDS);
+    bases.extend(seeds.flat_map(|seed| KINDS.iter().map(move |kind| made(seed, kind))));
+    let long = LONG_KINDS.iter().filter(|kind| kind.contains('-'));
+    cases.extend(long.map(|kind| made(from, kind)));
+    let made_days = (from..to).flat_map(|seed| KINDS.iter().map(move |kind| made(seed, kind)));
+    cases.extend(made_days);
+    let whole = cases.len();
+    cases.extend(damaged_cases(from, damaged, &bases));
+    Ok(run(&cases, runner).map(|counts| {
+        format!(
+            "{} days: {stored} recorded, {} made, {} damaged ({} refused tables in all); {} records, {} of them compared \
+             with the Rust; {} days left its domain\nno difference",
+            cases.len(),
+            whole - stored,
+            cases.len() - whole,
+            counts.refused_tables,
+            counts.records,
+            counts.compared,
+            counts.left
+        )
+    }))
+}
+
+/// Runs all cases, several at a time; the first that differs is shown on the smallest day.
+fn run(cases: &[Case], runner: &Runner<'_>) -> Result<Counts, String> {
+    let workers = thread::available_parallelism().map_or(2, |count| count.get());
+    let (next, counts) = (AtomicUsize::new(0), Mutex::new(Counts::default()));
+    let worst: Mutex<Option<(usize, String)>> = Mutex::new(None);
+    let work = || loop {
+        let index = next.fetch_add(1, Ordering::Relaxed);
+        let Some(case) = cases.get(index) else {
+            return;
+        };
+        match check_case(case, runner) {
+            Ok(outcome) => locked(&counts).add(&case.day, &outcome),
+            Err(words) => {
+                // Those before it are being worked on; none after it is begun.
+                next.store(cases.len(), Ordering::Relaxed);
+                let mut worst = locked(&worst);
+                if worst.as_ref().map_or(true, |(first, _)| index < *first) {
+                    *worst = Some((index, words));
+                }
+            }
+        }
+    };
+    thread::scope(|scope| {
+        for _ in 0..workers {
+            scope.spawn(work);
+        }
+    });
+    let found = locked(&worst).take();
+    match found {
+        Some((index, words)) => {
+            let differs = |day: &[u8]| check(day, runner(day, SHORT_LIMIT)).err();
+            Err(shown(
+                &cases[index].name,
+                &words,
+                &cases[index].day,
+                differs,
+            ))
+        }
+        None => {
+            let counted = std::mem::take(&mut *locked(&counts));
+            Ok(counted)
+        }
+    }
+}
+
+/// Nobody panics while holding a lock; if one did, what it left is still to be reported.
+fn locked<T>(mutex: &Mutex<T>) -> std::sync::MutexGuard<'_, T> {
+    mutex
+        .lock()
+        .unwrap_or_else(|poisoned| poisoned.into_inner())
+}
+
+fn check_case(case: &Case, runner: &Runner<'_>) -> Result<Outcome, String> {
+    let given = runner(&case.day, LIMIT)?;
+    if let Some(recorded) = &case.recorded {
+        if let Some(words) = first_difference(&case.day, recorded, &given)? {
+            return Err(format!("the recorded answers: {words}"));
+        }
+    }
+    check(&case.day, Ok(given))
+}
+
+#[cfg(test)]
+mod tests {
+    use super::*;
+    use crate::text::lines_of;
+
+    /// The plain machine, with each line put through a change.
+    fn wrong<'r>(change: impl Fn(&str) -> String + Sync + 'r) -> Box<Runner<'r>> {
+        Box::new(move |day: &[u8], _: Duration| {
+            let lines: Vec<String> = answer(day).lines().map(&change).collect();
+            Ok((lines.join("\n") + "\n").into_bytes())
+        })
+    }
+
+    fn cases() -> Vec<Case> {
+        let kinds = KINDS
+            .iter()
+            .flat_map(|kind| (0..6).map(move |seed| made(seed, kind)));
+        let mut cases: Vec<Case> = kinds.collect();
+        let more = damaged_cases(1, 60, &cases);
+        cases.extend(more);
+        cases
+    }
+
+    fn report(change: impl Fn(&str) -> String + Sync) -> String {
+        run(&cases(), &*wrong(change)).map(|_| ()).unwrap_err()
+    }
+
+    #[test]
+    fn right_answers_agree() {
+        let counts = run(&cases(), &*wrong(str::to_string)).map_err(|words| panic!("{words}"));
+        assert!(counts.unwrap().records > 1000);
+    }
+
+    #[test]
+    fn a_lost_flag_is_shown_on_a_day_of_four_lines() {
+        let report = report(|line| line.replace("terminal 1", "terminal 0"));
+        let smallest = "scope - 0 -\nreactor 0 -\nplain 0 0 1 -\npop\nthere: compare: record 2 (pop): expected";
+        assert!(report.contains(smallest), "{report}");
+    }
+
+    #[test]
+    fn a_wrong_refusal_and_a_wrong_place_are_shown() {
+        let numbers = report(|line| line.replace("refused 10", "refused 5"));
+        assert!(
+            numbers.contains("expected \"refused 10\", got \"refused 5\""),
+            "{numbers}"
+        );
+        let places = report(|line| line.replace("table refused 3 5", "table refused 3 6"));
+        assert!(
+            places.contains("expected \"table refused 3 5\""),
+            "{places}"
+        );
+    }
+
+    #[test]
+    fn a_lost_line_and_a_wrong_order_of_actions_are_shown() {
+        let lost = report(|line| line.replace("nothing", "nothing\nnothing"));
+        assert!(lost.contains("\npop\nthere: "), "{lost}");
+        let order = report(|line| match line.split_once(" actions ") {
+            Some((front, list)) => {
+                let turned: Vec<&str> = list.split(',').rev().collect();
+                format!("{front} actions {}", turned.join(","))
+            }
+            None => line.to_string(),
+        });
+        assert!(order.contains("there: 01: record"), "{order}");
+    }
+
+    #[test]
+    fn a_program_that_is_stuck_or_fails_is_found() {
+        let short = Duration::from_millis(200);
+        let stuck = child(&["sleep", "30"], b"", short);
+        assert!(stuck.unwrap_err().contains("did not end"));
+        assert!(child(&["false"], b"day", LIMIT)
+            .unwrap_err()
+            .contains("ended badly"));
+        assert_eq!(child(&["cat"], &[7; 300_000], LIMIT), Ok(vec![7; 300_000]));
+    }
+
+    #[test]
+    fn every_day_has_a_text_that_gives_it_again() {
+        for case in cases() {
+            let text = lines_of(&case.day).join("\n");
+            assert_eq!(assemble(&text), Ok(case.day), "{}\n{text}", case.name);
+        }
+    }
+}

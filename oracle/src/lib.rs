@@ -1,0 +1,30 @@
+//! The oracle: the published Rust, unchanged over stand-ins, and a plain reading of 01, to hold gate days against.
+//! `main.rs` has its programs; the harness uses it as a library.
+
+pub mod answers;
+pub mod antt;
+pub mod beside;
+pub mod compare;
+pub mod deep;
+pub mod image;
+pub mod judge;
+pub mod make;
+pub mod picture;
+pub mod plain;
+mod published;
+pub mod records;
+pub mod rng;
+mod sched;
+mod schedule;
+pub mod scripts;
+pub mod selftest;
+pub mod shrink;
+mod storage;
+pub mod sweep;
+#[cfg(test)]
+mod tests;
+pub mod text;
+pub mod timing;
+
+// The published files name these at the crate's root.
+use published::*;
