@@ -9,9 +9,10 @@ use Rattle.scopes.specs.Scopes.{Scope, mostScopes, scopesOf}
 use Rattle.lists.specs.Held as H
 use Rattle.entries.specs.Entries.{mostHeld, blankValue, blankBucket}
 use Rattle.entries.specs.Words.{valueWords, bucketWords, decodeValue, encodeValue, long-value, decodeBucket, encodeBucket, long-bucket, HeldValues, HeldBuckets, zero-values, zero-buckets}
-use Rattle.lens.specs.Padded.{padded, fill-none, fill-more}
+use Rattle.lens.specs.Padded.{padded}
 use Rattle.lens.specs.Lens.{Scoped}
 use Rattle.unpacked.specs.Unpacked.{mostReactors}
+use Rattle.fresh.specs.Filled.{fill-none, fill-more}
 
 module _ (f : ℕ → ℕ) where
   pub modes-none : replicate mostReactors 0 ≡ padded 0 mostReactors (map f (from 0 0))

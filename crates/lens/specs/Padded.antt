@@ -1,13 +1,10 @@
 -- A list at the front of an array of n places, blanks behind it: what an array holds whose unused places are blank. Assumes nothing.
 use mathlib.Core.Path.{_≡_, refl, ap, _∙_, sym}
 use mathlib.Core.List.{List, [], _∷_, _++_, map}
-use Prim.Native.Nat.{ℕ, zero, suc, _+_, _≤_, _<_}
+use Prim.Native.Nat.{ℕ, zero, suc, _≤_, _<_}
 use native.Mathlib.Omega.{arith}
-use native.Mathlib.Numerals.{add-one}
-use lib.ListN.{length, take, getD, set, replicate, length-map}
+use lib.ListN.{length, take, getD, set, replicate}
 use Rattle.lists.specs.Lay.{lay}
-use Rattle.lists.specs.Lists.{from}
-use Rattle.lists.specs.Every.{length-from}
 
 module _ {A : Type 0} (b : A) where
   unfoldable pub padded : ℕ → List A → List A
@@ -72,24 +69,3 @@ unfolding padded
 padded-map f b zero l = refl
 padded-map f b (suc n) [] = ap (f b ∷_) (padded-map f b n [])
 padded-map f b (suc n) (x ∷ l) = ap (f x ∷_) (padded-map f b n l)
-
--- ---- filled one by one, by the places' numbers
-
-module _ {A : Type 0} (b : A) (n : ℕ) (f : ℕ → A) where
-  more : (i k : ℕ) → map f (from k (suc i)) ≡ map f (from k i) ++ (f (k + i) ∷ [])
-  unfolding from
-  more zero k = ap (λ x. f x ∷ []) (omega arith)
-  more (suc i) k = ap (f k ∷_) (more i (suc k) ∙ ap (λ x. map f (from (suc k) i) ++ (f x ∷ [])) (omega arith))
-
-  long : (i : ℕ) → length (map f (from 0 i)) ≡ i
-  long i = rw (length-map, length-from)
-
-  pub fill-none : replicate n b ≡ padded b n (map f (from 0 0))
-  unfolding from
-  fill-none = sym (padded-none b n)
-
-  pub fill-more : (i : ℕ) → set (padded b n (map f (from 0 i))) i (f i) ≡ padded b n (map f (from 0 (i + 1)))
-  fill-more i =
-      let p = padded-more b n (map f (from 0 i)) (f i) in
-      let z : 0 + i ≡ i = omega arith in
-      rw (add-one, more i 0, z) (rw (long i) at p)

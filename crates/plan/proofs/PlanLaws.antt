@@ -27,7 +27,7 @@ use Rattle.tags.specs.Views.{ofGlobal}
 use Rattle.key_set.specs.Sets.{has, insertKey, wordCount, noKeys}
 use Rattle.key_set.proofs.Laws.{has-empty, has-insert-same, has-insert-other, length-insert}
 use Rattle.schedule.specs.Schedule.{isActive}
-use Rattle.scopes.specs.Scopes.{mostScopes}
+use Rattle.scopes.specs.Scopes.{Scope, mostScopes, blank}
 use Rattle.lens.specs.Padded.{padded, padded-none, padded-more, padded-take, padded-length}
 use Rattle.lens.specs.declared.Counts as lens
 use Rattle.store_calls.specs.declared.Counts as store
@@ -133,6 +133,16 @@ module _ (test : ℕ → Bool) where
 
 pub marks-same : (f g : ℕ → Bool) (n : ℕ) (ws : List ℕ) → ((i : ℕ) → f i ≡ g i) → Marks f n ws → Marks g n ws
 marks-same f g n ws h m = record { long = m .long; is = λ i. m .is i ∙ ap (ltb i n &&_) (h i) }
+
+-- a part of a scope, read by its number
+pub map-get : {B : Type 0} (f : Scope → B) (l : List Scope) (k : ℕ) → getD (map f l) k (f blank) ≡ f (getD l k blank)
+map-get f [] k = refl
+map-get f (x ∷ l) zero = refl
+map-get f (x ∷ l) (suc k) = map-get f l k
+
+-- a row's key, as the code reads it
+pub row-has : (ws : List ℕ) {x y : ℕ} {b v : Bool} → x ≡ y → b ≡ has ws x → b ≡ v → has ws y ≡ v
+row-has ws e f g = rw (← e) (sym f ∙ g)
 
 -- ---- modes
 

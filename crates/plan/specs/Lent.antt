@@ -22,7 +22,7 @@ use Rattle.store_calls.specs.declared.Changed.{Changed}
 use Rattle.store_calls.specs.declared.Outcome.{Outcome}
 use Rattle.store_calls.specs.declared.Outcome.the-variants as O
 use Rattle.store_calls.specs.Lent.{storeOf, Lent, Laid, Did, told, after}
-use Rattle.machine.specs.State.{Event, State, mostWaiting, ordinary, withQueue, withStore, tally, accepted}
+use Rattle.machine.specs.State.{Event, State, mostWaiting, ordinary, withQueue, withStore, withModes, tally, accepted}
 use Rattle.machine.specs.Transition.{Step, held}
 use Rattle.slots.specs.Slots as slot
 use Rattle.slots.specs.Slots.{eventsOf}
@@ -60,6 +60,10 @@ abbrev pub onward : Outcome → State → (State → Step) → Step
 onward o t f = finished o t >>= f
 
 -- ---- a state that the rows hold
+
+-- modes play no part in them: what a step on rows says of every state, it says of that state with other modes
+pub rows-modes : (s : State) (ms : List ℕ) (es vs bs : List ℕ) (c : Counts) (h : store.Counts) → rowsIn (withModes s ms) es vs bs c h ≡ withModes (rowsIn s es vs bs c h) ms
+rows-modes s ms es vs bs c h = refl
 
 module _ (s : State) (es vs bs : List ℕ) (c : Counts) (h : store.Counts) where
   pub rows-are : Queued (s .waiting) (s .work) es c → length (s .waiting) ≤ mostWaiting → Stored (s .store) vs bs h → Fits (s .store) → rowsIn s es vs bs c h ≡ s

@@ -9,12 +9,6 @@ use Rattle.plan.proofs.PlanLaws.{few-scopes, marks-none, marks-more, ma
 use borrow.Author.Needs.{needs}
 use Rattle.plan.proofs.active_scopes.Statement.{statement}
 use Rattle.plan.proofs.active_scopes.Tie as tie
-use Rattle.plan.proofs.active_scopes.Reads as reads
-use Rattle.plan.proofs.active_scopes.Lts as lts
-use Rattle.key_set.proofs.KeySet.empty.Reads as empty-reads
-use Rattle.plan.proofs.mark.Reads as mark-reads
-use Rattle.rows.proofs.count.Reads as count-reads
-use Rattle.schedule.proofs.is_active.Reads as is-active-reads
 
 abbrev Inv-loop : tie.InvT-loop
 Inv-loop image modes n set₀ i₀ set i = (i ≤ n) × (n ≤ mostScopes) × (n ≡ scopes image) × Marks (isActive image modes) i (set .words)

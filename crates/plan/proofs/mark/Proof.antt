@@ -2,9 +2,6 @@
 use borrow.Author.Needs.{needs}
 use Rattle.plan.proofs.mark.Statement.{statement}
 use Rattle.plan.proofs.mark.Tie as tie
-use Rattle.plan.proofs.mark.Reads as reads
-use Rattle.plan.proofs.mark.Lts as lts
-use Rattle.key_set.proofs.KeySet.insert.Reads as insert-reads
 
 insert-requires : tie.Need-insert-requires
 insert-requires c κs = search needs

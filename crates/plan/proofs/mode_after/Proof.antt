@@ -3,12 +3,6 @@ use Rattle.plan.proofs.PlanLaws.{modeCases}
 use borrow.Author.Needs.{needs}
 use Rattle.plan.proofs.mode_after.Statement.{statement}
 use Rattle.plan.proofs.mode_after.Tie as tie
-use Rattle.plan.proofs.mode_after.Reads as reads
-use Rattle.plan.proofs.mode_after.Lts as lts
-use Rattle.rows.proofs.initial_mode.Reads as initial-mode-reads
-use Rattle.rows.proofs.mode_scope.Reads as mode-scope-reads
-use Rattle.rows.proofs.root_scope.Reads as root-scope-reads
-use Rattle.rows.proofs.under.Reads as under-reads
 
 returns : tie.Need-returns
 returns c = search modeCases

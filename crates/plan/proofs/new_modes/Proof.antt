@@ -9,9 +9,6 @@ use Rattle.plan.proofs.PlanLaws.{filled-none, filled-more}
 use borrow.Author.Needs.{needs}
 use Rattle.plan.proofs.new_modes.Statement.{statement}
 use Rattle.plan.proofs.new_modes.Tie as tie
-use Rattle.plan.proofs.new_modes.Reads as reads
-use Rattle.plan.proofs.new_modes.Lts as lts
-use Rattle.plan.proofs.mode_after.Reads as mode-after-reads
 
 abbrev Inv-loop : tie.InvT-loop
 Inv-loop image modes request n out₀ i₀ out i = (i ≤ n) × (out ≡ padded 0 mostReactors (map (modeAfter image modes request) (from 0 i)))

@@ -7,13 +7,6 @@ use Rattle.plan.proofs.PlanLaws.{few-reactors, filled-long, filled-take
 use borrow.Author.Needs.{needs}
 use Rattle.plan.proofs.plan_of.Statement.{statement}
 use Rattle.plan.proofs.plan_of.Tie as tie
-use Rattle.plan.proofs.plan_of.Reads as reads
-use Rattle.plan.proofs.plan_of.Lts as lts
-use Rattle.plan.proofs.active_scopes.Reads as active-scopes-reads
-use Rattle.plan.proofs.new_modes.Reads as new-modes-reads
-use Rattle.plan.proofs.subtree_if.Reads as subtree-if-reads
-use Rattle.rows.proofs.count.Reads as count-reads
-use Rattle.rows.proofs.mode_scope.Reads as mode-scope-reads
 
 mode-scope-requires : tie.Need-mode-scope-requires
 mode-scope-requires c κs = search needs

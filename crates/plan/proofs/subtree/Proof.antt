@@ -9,12 +9,6 @@ use Rattle.plan.proofs.PlanLaws.{few-scopes, marks-none, marks-more, ma
 use borrow.Author.Needs.{needs}
 use Rattle.plan.proofs.subtree.Statement.{statement}
 use Rattle.plan.proofs.subtree.Tie as tie
-use Rattle.plan.proofs.subtree.Reads as reads
-use Rattle.plan.proofs.subtree.Lts as lts
-use Rattle.key_set.proofs.KeySet.empty.Reads as empty-reads
-use Rattle.plan.proofs.mark.Reads as mark-reads
-use Rattle.rows.proofs.count.Reads as count-reads
-use Rattle.rows.proofs.in_subtree.Reads as in-subtree-reads
 
 abbrev Inv-loop : tie.InvT-loop
 Inv-loop image target n set₀ i₀ set i = (i ≤ n) × (n ≤ mostScopes) × (n ≡ scopes image) × Marks (inSubtree image target) i (set .words)

@@ -3,10 +3,6 @@ use Rattle.plan.proofs.PlanLaws.{marks-never}
 use borrow.Author.Needs.{needs}
 use Rattle.plan.proofs.subtree_if.Statement.{statement}
 use Rattle.plan.proofs.subtree_if.Tie as tie
-use Rattle.plan.proofs.subtree_if.Reads as reads
-use Rattle.plan.proofs.subtree_if.Lts as lts
-use Rattle.key_set.proofs.KeySet.empty.Reads as empty-reads
-use Rattle.plan.proofs.subtree.Reads as subtree-reads
 
 subtree-requires : tie.Need-subtree-requires
 subtree-requires c κs = search needs

@@ -1,20 +1,15 @@
+-- `records::control` meets its contract. Assumes nothing.
 use Rattle.records.proofs.Laws.{control-yes, control-long}
 use borrow.Author.Needs.{needs}
 use Rattle.records.proofs.control.Statement.{statement}
 use Rattle.records.proofs.control.Tie as tie
-use Rattle.records.proofs.control.Reads as reads
-use Rattle.records.proofs.control.Lts as lts
-use Rattle.records.proofs.tag_at.Reads as tag-at-reads
 
--- src/lib.rt:147:13
 tag-at-requires : tie.Need-tag-at-requires
 tag-at-requires c κs = search needs
 
--- src/lib.rt:148:9
 returns : tie.Need-returns
 returns c = λ keys. control-yes _ (c .before .if1 .taken) (c .tag-at .ensures)
 
--- src/lib.rt:143:1
 returns-2 : tie.Need-returns-2
 returns-2 c = λ keys. control-long _ (c .if1 .left)
 

@@ -1,3 +1,4 @@
+-- `records::read_keys` meets its contract: one key more a turn, over the front of the array. Assumes nothing.
 use Prim.Native.Nat.{_-_, _≤_}
 use mathlib.Core.Path.{_≡_}
 use borrow.Author.Needs.{needs}
@@ -8,9 +9,6 @@ use Rattle.records.specs.Records.{keyAt}
 use Rattle.records.proofs.Laws.{keys-none, keys-more, keys-all, fill-few}
 use Rattle.records.proofs.read_keys.Statement.{statement}
 use Rattle.records.proofs.read_keys.Tie as tie
-use Rattle.records.proofs.read_keys.Reads as reads
-use Rattle.records.proofs.read_keys.Lts as lts
-use Rattle.rows.proofs.two_bytes.Reads as two-bytes-reads
 
 abbrev Inv-loop : tie.InvT-loop
 Inv-loop body at keys₀ i count n k₀ keys k = (k ≤ n) × (keys ≡ over (tab (keyAt body at) 0 k) keys₀)
@@ -18,55 +16,42 @@ Inv-loop body at keys₀ i count n k₀ keys k = (k ≤ n) × (keys ≡ over (ta
 abbrev μ-loop : tie.MeasureT-loop
 μ-loop body at keys₀ i count n k₀ keys k = n - k
 
--- src/lib.rt:103:9
 two-bytes-requires : tie.Need-two-bytes-requires Inv-loop μ-loop
 two-bytes-requires c κs = search needs
 
--- src/lib.rt:104:13
 cast-n : tie.Need-cast-n Inv-loop μ-loop
 cast-n c = search needs
 
--- src/lib.rt:106:5
 loop-holds : tie.Need-loop-holds Inv-loop μ-loop
 loop-holds c = (search needs, keys-none _ _)
 
--- src/lib.rt:107:41
 add-two-bytes : tie.Need-add-two-bytes Inv-loop μ-loop
 add-two-bytes c = search needs
 
--- src/lib.rt:107:49
 mul-two-bytes : tie.Need-mul-two-bytes Inv-loop μ-loop
 mul-two-bytes c = search needs
 
--- src/lib.rt:107:41
 add-two-bytes-2 : tie.Need-add-two-bytes-2 Inv-loop μ-loop
 add-two-bytes-2 c = search needs
 
--- src/lib.rt:107:13
 two-bytes-requires-2 : tie.Need-two-bytes-requires-2 Inv-loop μ-loop
 two-bytes-requires-2 c κs = search needs
 
--- src/lib.rt:108:9
 mul-keys : tie.Need-mul-keys Inv-loop μ-loop
 mul-keys c = search needs
 
--- src/lib.rt:108:9
 element-write-keys : tie.Need-element-write-keys Inv-loop μ-loop
 element-write-keys c = omega (arith, fill-few _ _ (c .before .before .before .two-bytes .ensures) (c .before .before .before .before .before .pre .1))
 
--- src/lib.rt:109:9
 add-k : tie.Need-add-k Inv-loop μ-loop
 add-k c = search needs
 
--- src/lib.rt:106:5
 loop-less : tie.Need-loop-less Inv-loop μ-loop
 loop-less c = search needs
 
--- src/lib.rt:106:5
 loop-again : tie.Need-loop-again Inv-loop μ-loop
 loop-again c = (search needs, keys-more _ _ _ (omega (arith, fill-few _ _ (c .before .before .before .two-bytes .ensures) (c .before .before .before .before .before .pre .1), c .before .before .before .before .before .pre .0)) (c .before .before .loop .inv .1) (c .two-bytes2 .ensures))
 
--- src/lib.rt:97:1
 returns : tie.Need-returns Inv-loop μ-loop
 returns c = keys-all _ _ _ _ _ _ (c .before .before .two-bytes .ensures) (fill-few _ _ (c .before .before .two-bytes .ensures) (c .before .before .before .before .pre .1)) (search needs) (search needs) (c .before .loop .inv .1)
 

@@ -1,0 +1,93 @@
+-- Laws of what is written one behind the other, and of decimal numbers. Assumes nothing.
+use mathlib.Core.Path.{_≡_, refl, sym, ap, _∙_}
+use mathlib.Core.Logic.{_⊎_, inl, inr, ⊎-elim}
+use mathlib.Core.Bool.{Bool, true, false, cond, _||_}
+use mathlib.Core.List.{List, [], _∷_, _++_, append-assoc, append-nil}
+use Prim.Native.Nat.{ℕ, zero, suc, _+_, _-_, _/_, _%_, _≤_, _<_, min}
+use native.Mathlib.Omega.{arith}
+use native.Mathlib.Numerals.{add-one}
+use lib.ListN.{length, take, drop, getD, set, length-append, length-set}
+use lib.Seq.{sets, length-sets, set-out, take-suc, take-all}
+use Rattle.lists.specs.Tests.{below?}
+use Rattle.lists.specs.Rows.{sets-out}
+use Rattle.lines.specs.Text.{text, digit, rest, decimalIn, decimal, joined, some}
+use Rattle.lines.specs.Written.{Written, Listed}
+
+sets-append : (l : List ℕ) (i : ℕ) (x y : List ℕ) → sets l i (x ++ y) ≡ sets (sets l i x) (i + length x) y
+sets-append l i [] y = let e : i + 0 ≡ i = omega arith in rw e
+sets-append l i (a ∷ x) y =
+    let e : i + suc (length x) ≡ suc i + length x = omega arith in
+    rw e (sets-append (set l i a) (suc i) x y)
+
+module _ {old : List ℕ} {at : ℕ} {x new : List ℕ} {end : ℕ} (w : Written old at x new end) where
+  pub written-long : length new ≡ length old
+  written-long = rw (w .all) (length-sets old at x)
+
+  -- there is room for the next, or none at all
+  pub written-room : end ≤ length new
+  written-room = let l = written-long in omega (arith, w .end-is)
+
+pub written-none : (old : List ℕ) (at : ℕ) → at ≤ length old → Written old at [] old at
+written-none old at h = record { all = refl; end-is = omega arith }
+
+-- one more behind what is written
+pub written-then : {old : List ℕ} {at : ℕ} {x mid : List ℕ} {m : ℕ} {y new : List ℕ} {end : ℕ}
+    → Written old at x mid m → Written mid m y new end → Written old at (x ++ y) new end
+written-then {old} {at} {x} {mid} {m} {y} {new} {end} v w =
+    let l : length mid ≡ length old = written-long v in
+    record { all = w .all ∙ seam (below? (at + length x) (length old)); end-is = rw length-append (omega (arith, v .end-is, w .end-is)) }
+  where
+    seam : (at + length x < length old) ⊎ (length old ≤ at + length x) → sets mid m y ≡ sets old at (x ++ y)
+    seam (inl h) =
+        let e : m ≡ at + length x = omega (arith, v .end-is) in
+        rw (e, v .all) (sym (sets-append old at x y))
+    seam (inr h) =
+        let l : length (sets old at x) ≡ length old = length-sets old at x in
+        let e : length (sets old at x) ≤ m = omega (arith, v .end-is) in
+        let g : length (sets old at x) ≤ at + length x = omega arith in
+        rw (v .all, sets-out (sets old at x) m y e, sets-append old at x y) (sym (sets-out (sets old at x) (at + length x) y g))
+
+-- one byte: there is room, or not
+module _ (old : List ℕ) (at a : ℕ) where
+  pub put-in : at < length old → Written old at (a ∷ []) (set old at a) (at + 1)
+  put-in h = record { all = refl; end-is = omega arith }
+
+  pub put-past : at ≤ length old → length old ≤ at → Written old at (a ∷ []) old at
+  put-past h g = record { all = sym (set-out old at a g); end-is = omega arith }
+
+-- the same bytes, said otherwise
+pub written-as : {old : List ℕ} {at : ℕ} {x y new : List ℕ} {end : ℕ} → Written old at x new end → x ≡ y → Written old at y new end
+written-as w e = rw (← e) w
+
+-- the first i of a text, and one more
+pub written-next : {old : List ℕ} {at : ℕ} {mid : List ℕ} {m : ℕ} {new : List ℕ} {end : ℕ} (t : List ℕ) (i a : ℕ)
+    → i < length t → a ≡ getD t i 0 → Written old at (take i t) mid m → Written mid m (a ∷ []) new end → Written old at (take (i + 1) t) new end
+written-next t i a h e v w = written-as (written-then v w) (rw (e, add-one) (sym (take-suc t i 0 h)))
+
+pub written-whole : {old : List ℕ} {at : ℕ} {new : List ℕ} {end : ℕ} (t : List ℕ) (i : ℕ) → length t ≤ i → Written old at (take i t) new end → Written old at t new end
+written-whole t i h w = written-as w (take-all i t h)
+
+-- ---- decimal numbers
+
+decimal-enough : (f g n : ℕ) → n < f → n < g → decimalIn f n ≡ decimalIn g n
+unfolding decimalIn
+decimal-enough zero g n h k = absurd (omega arith)
+decimal-enough (suc f) zero n h k = absurd (omega arith)
+decimal-enough (suc f) (suc g) n h k = ap (λ l. l ++ (digit (n % 10) ∷ [])) (go (n / 10) refl λ q e. decimal-enough f g (suc q) (omega arith) (omega arith))
+  where
+    go : (q : ℕ) → n / 10 ≡ q → ((p : ℕ) → n / 10 ≡ suc p → decimalIn f (suc p) ≡ decimalIn g (suc p)) → rest (decimalIn f) q ≡ rest (decimalIn g) q
+    go zero e r = refl
+    go (suc q) e r = r q e
+
+module _ (n : ℕ) where
+  pub decimal-one : {a : ℕ} → n < 10 → a ≡ digit (n % 10) → a ∷ [] ≡ decimal n
+  unfolding decimal decimalIn
+  decimal-one h e = let z : n / 10 ≡ 0 = omega arith in rw (e, z)
+
+  pub decimal-more : {a : ℕ} → 10 ≤ n → a ≡ digit (n % 10) → decimal (n / 10) ++ (a ∷ []) ≡ decimal n
+  unfolding decimal decimalIn
+  decimal-more h e = rw e (ap (λ l. l ++ (digit (n % 10) ∷ [])) (go (n / 10) refl))
+    where
+      go : (q : ℕ) → n / 10 ≡ q → decimalIn (suc q) q ≡ rest (decimalIn n) q
+      go zero z = absurd (omega arith)
+      go (suc q) z = decimal-enough (suc (suc q)) n (suc q) (omega arith) (omega arith)

@@ -1,0 +1,33 @@
+use Rattle.lines.proofs.WrittenLaws.{written-then}
+use borrow.Author.Needs.{needs}
+use Rattle.lines.proofs.write_acted.Statement.{statement}
+use Rattle.lines.proofs.write_acted.Tie as tie
+
+slice-aggregate-write-text : tie.Need-slice-aggregate-write-text
+slice-aggregate-write-text c = search needs
+
+write-text-requires : tie.Need-write-text-requires
+write-text-requires c κs = search needs
+
+write-actions-requires : tie.Need-write-actions-requires
+write-actions-requires c κs = search needs
+
+put-requires : tie.Need-put-requires
+put-requires c κs = search needs
+
+same-length : tie.Need-same-length
+same-length c = search needs
+
+returns : tie.Need-returns
+returns c = written-then (c .before .before .before .before .before .before .before .before .before .before .write-text .ensures) (written-then (c .before .before .before .before .before .before .write-actions .ensures) (c .before .before .put .ensures))
+
+pub write-acted-spec : {M : Type 1} → statement M
+write-acted-spec =
+    tie.close
+    (tie.spec
+    slice-aggregate-write-text
+    write-text-requires
+    write-actions-requires
+    put-requires
+    same-length
+    returns)

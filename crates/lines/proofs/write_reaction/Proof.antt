@@ -1,0 +1,34 @@
+use Rattle.lines.proofs.WrittenLaws.{written-then}
+use Rattle.lines.proofs.ListLaws.{listed-one}
+use borrow.Author.Needs.{needs}
+use Rattle.lines.proofs.write_reaction.Statement.{statement}
+use Rattle.lines.proofs.write_reaction.Tie as tie
+
+separate-requires : tie.Need-separate-requires
+separate-requires c κs = search needs
+
+write-decimal-requires : tie.Need-write-decimal-requires
+write-decimal-requires c κs = search needs
+
+put-requires : tie.Need-put-requires
+put-requires c κs = search needs
+
+write-decimal-requires-2 : tie.Need-write-decimal-requires-2
+write-decimal-requires-2 c κs = search needs
+
+same-length : tie.Need-same-length
+same-length c = search needs
+
+returns : tie.Need-returns
+returns c = listed-one _ (c .before .before .before .before .before .before .before .before .before .before .before .before .before .before .separate .ensures) (written-then (c .before .before .before .before .before .before .before .before .before .before .write-decimal .ensures) (written-then (c .before .before .before .before .before .before .put .ensures) (c .before .before .write-decimal2 .ensures)))
+
+pub write-reaction-spec : {M : Type 1} → statement M
+write-reaction-spec =
+    tie.close
+    (tie.spec
+    separate-requires
+    write-decimal-requires
+    put-requires
+    write-decimal-requires-2
+    same-length
+    returns)

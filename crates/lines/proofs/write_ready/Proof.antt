@@ -1,0 +1,28 @@
+use Rattle.tags.specs.Views.{ofGlobal}
+use Rattle.ready.specs.Gathering.{gatheringOf, readyAt}
+use Rattle.lines.proofs.ListLaws.{ready-line}
+use borrow.Author.Needs.{needs}
+use Rattle.lines.proofs.write_ready.Statement.{statement}
+use Rattle.lines.proofs.write_ready.Tie as tie
+
+write-head-requires : tie.Need-write-head-requires
+write-head-requires c κs = search needs
+
+write-reacted-requires : tie.Need-write-reacted-requires
+write-reacted-requires c κs = search needs
+
+write-acted-requires : tie.Need-write-acted-requires
+write-acted-requires c κs = search needs
+
+same-length : tie.Need-same-length
+same-length c = search needs
+
+returns : tie.Need-returns
+returns c = 
+    let a = c .before .before .before .before .before .before .before .before .before .before .before .before .before .before .before .before .args in
+    ready-line (a .image .now) (readyAt (ofGlobal (a .tag)) (gatheringOf (a .g) (a .actions .now))) (c .before .before .before .before .before .before .before .before .before .before .before .write-head .ensures) (c .before .before .before .before .before .before .write-reacted .ensures) (c .before .before .write-acted .ensures)
+
+pub write-ready-spec : {M : Type 1} → statement M
+write-ready-spec =
+    tie.close
+    (tie.spec write-head-requires write-reacted-requires write-acted-requires same-length returns)

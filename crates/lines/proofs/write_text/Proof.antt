@@ -1,0 +1,54 @@
+use mathlib.Core.Path.{refl}
+use Prim.Native.Nat.{_-_, _≤_}
+use lib.ListN.{length, take}
+use borrow.Author.Needs.{needs}
+use native.Mathlib.Omega.{arith}
+use Rattle.lines.specs.Written.{Written}
+use Rattle.lines.proofs.WrittenLaws.{written-none, written-room, written-long, written-next, written-whole}
+use Rattle.lines.proofs.write_text.Statement.{statement}
+use Rattle.lines.proofs.write_text.Tie as tie
+
+abbrev Inv-loop : tie.InvT-loop
+Inv-loop buffer₀ at text end₀ i₀ buffer end i = (i ≤ length text) × Written buffer₀ end₀ (take i text) buffer end
+
+abbrev μ-loop : tie.MeasureT-loop
+μ-loop buffer₀ at text end₀ i₀ buffer end i = length text - i
+
+loop-holds : tie.Need-loop-holds Inv-loop μ-loop
+loop-holds c = (search needs, written-none _ _ (c .before .before .pre))
+
+shared-slice-read-byte : tie.Need-shared-slice-read-byte Inv-loop μ-loop
+shared-slice-read-byte c = search needs
+
+put-requires : tie.Need-put-requires Inv-loop μ-loop
+put-requires c κs = written-room (c .before .before .before .loop .inv .1)
+
+add-i : tie.Need-add-i Inv-loop μ-loop
+add-i c = search needs
+
+loop-less : tie.Need-loop-less Inv-loop μ-loop
+loop-less c = search needs
+
+loop-again : tie.Need-loop-again Inv-loop μ-loop
+loop-again c = (search needs, written-next _ _ _ (c .before .before .before .before .before .loop-test .taken) refl (c .before .before .before .before .before .before .loop .inv .1) (c .before .before .put .ensures))
+
+same-length : tie.Need-same-length Inv-loop μ-loop
+same-length c = written-long (c .before .loop .inv .1)
+
+returns : tie.Need-returns Inv-loop μ-loop
+returns c = written-whole _ _ (c .loop-test .left) (c .before .loop .inv .1)
+
+pub write-text-spec : {M : Type 1} → statement M
+write-text-spec =
+    tie.close
+    (tie.spec
+    Inv-loop
+    μ-loop
+    loop-holds
+    shared-slice-read-byte
+    put-requires
+    add-i
+    loop-less
+    loop-again
+    same-length
+    returns)

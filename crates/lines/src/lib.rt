@@ -1,0 +1,390 @@
+// The lines that answer a gate day: document 01, "The bench program". Each is written into a lent buffer, and how many bytes it has is answered.
+// Total: past the buffer's end nothing is written.
+ghost use mathlib.Core.Path.{_≡_};
+ghost use mathlib.Core.Bool.{cond, true};
+ghost use mathlib.Core.List.{_∷_, [], _++_, map};
+ghost use Prim.Native.Nat.{ℕ, _≤_, _%_};
+ghost use lib.Dec.{eqb, leb};
+ghost use lib.ListN.{length, getD, take, drop};
+ghost use Rattle.lists.specs.Lists.{keep, every};
+ghost use Rattle.key_set.specs.Sets.{keysOf};
+ghost use Rattle.rows.specs.Rows as R;
+ghost use Rattle.machine.specs.Machine as M;
+ghost use Rattle.tags.specs.Views.{ofGlobal};
+ghost use Rattle.ready.specs.Gathering.{gatheringOf, readyAt};
+ghost use Rattle.lines.specs.Text.{text, digit, decimal};
+ghost use Rattle.lines.specs.Written.{Written, Listed};
+ghost use Rattle.lines.specs.Lines.{levelIn, levelCount, byLevel, entryOf, reactionList, actionList, yes, tagText, headText, refusedLine, tableRefused, tableLine, lineOf};
+use key_set::Found;
+use key_set::KeySet;
+use ready::Gathered;
+use table::Checked;
+use table::ImageRefusal;
+use tags::GlobalTag;
+
+// A buffer of so many bytes holds every line; `longest` of specs/ says the same.
+pub const LINE: usize = 2648;
+
+// The place in the buffer, and whether the list that is being written has an entry yet.
+struct Pen {
+    at: usize,
+    started: bool,
+}
+
+fn put(buffer: &mut [u8], at: usize, byte: u8) -> usize
+    requires { ⌜ at ≤ length (now buffer) ⌝ }
+    ensures { λ r. ⌜ Written (now (buffer .entry)) at (byte ∷ []) (now (buffer .exit)) r ⌝ }
+{
+    if at < buffer.len() {
+        buffer[at] = byte;
+        return at + 1;
+    }
+    at
+}
+
+fn write_text(buffer: &mut [u8], at: usize, text: &[u8]) -> usize
+    requires { ⌜ at ≤ length (now buffer) ⌝ }
+    ensures { λ r. ⌜ Written (now (buffer .entry)) at (now (text .entry)) (now (buffer .exit)) r ⌝ }
+{
+    let mut end = at;
+    let mut i: usize = 0;
+    while i < text.len() {
+        let byte = text[i];
+        end = put(buffer, end, byte);
+        i += 1;
+    }
+    end
+}
+
+// The byte of a number's last digit.
+fn last_digit(n: u64) -> u8
+    ensures { λ r. ⌜ r ≡ digit (n % 10) ⌝ }
+{
+    (n % 10) as u8 + 48
+}
+
+fn write_decimal(buffer: &mut [u8], at: usize, n: u64) -> usize
+    requires { ⌜ at ≤ length (now buffer) ⌝ }
+    ensures { λ r. ⌜ Written (now (buffer .entry)) at (decimal n) (now (buffer .exit)) r ⌝ }
+{
+    let last = last_digit(n);
+    if n < 10 {
+        return put(buffer, at, last);
+    }
+    let end = write_decimal(buffer, at, n / 10);
+    put(buffer, end, last)
+}
+
+// ---- lists, an entry at a time
+
+// A comma, where the list has an entry.
+fn separate(buffer: &mut [u8], pen: Pen) -> usize
+    requires { ⌜ pen .at ≤ length (now buffer) ⌝ }
+    ensures { λ r. ⌜ Written (now (buffer .entry)) (pen .at) (cond (pen .started) (text ",") []) (now (buffer .exit)) r ⌝ }
+{
+    let at = pen.at;
+    if pen.started {
+        return put(buffer, at, b',');
+    }
+    at
+}
+
+// A dash, where the list has no entry.
+fn finish(buffer: &mut [u8], pen: Pen) -> usize
+    requires { ⌜ pen .at ≤ length (now buffer) ⌝ }
+    ensures { λ r. ⌜ Written (now (buffer .entry)) (pen .at) (cond (pen .started) [] (text "-")) (now (buffer .exit)) r ⌝ }
+{
+    let at = pen.at;
+    if pen.started {
+        return at;
+    }
+    put(buffer, at, b'-')
+}
+
+fn write_key(buffer: &mut [u8], pen: Pen, key: u16) -> Pen
+    requires { ⌜ pen .at ≤ length (now buffer) ⌝ }
+    ensures { λ r. ⌜ Listed (now (buffer .entry)) pen (decimal key ∷ []) (now (buffer .exit)) r ⌝ }
+{
+    let at = separate(buffer, pen);
+    let end = write_decimal(buffer, at, key as u64);
+    Pen {
+        at: end,
+        started: true,
+    }
+}
+
+fn write_reaction(buffer: &mut [u8], pen: Pen, level: u8, key: u16) -> Pen
+    requires { ⌜ pen .at ≤ length (now buffer) ⌝ }
+    ensures { λ r. ⌜ Listed (now (buffer .entry)) pen ((decimal level ++ (text ":" ++ decimal key)) ∷ []) (now (buffer .exit)) r ⌝ }
+{
+    let at = separate(buffer, pen);
+    let colon = write_decimal(buffer, at, level as u64);
+    let next = put(buffer, colon, b':');
+    let end = write_decimal(buffer, next, key as u64);
+    Pen {
+        at: end,
+        started: true,
+    }
+}
+
+// ---- reactions by level. The levels are lent: byte k is the level of key k, as the image's reaction rows lie.
+
+fn level_of(levels: &[u8], key: u16) -> u8
+    ensures { λ r. ⌜ r ≡ levelIn (now (levels .entry)) key ⌝ }
+{
+    let k = key as usize;
+    if k < levels.len() {
+        return levels[k];
+    }
+    0
+}
+
+fn larger(a: u8, b: u8) -> u8
+    ensures { λ r. ⌜ (a ≤ r) × (b ≤ r) ⌝ }
+{
+    if a < b {
+        return b;
+    }
+    a
+}
+
+// No key has a higher level.
+fn highest(levels: &[u8], keys: &[u16]) -> u8
+    ensures { λ r. ⌜ every (λ k. leb (levelIn (now (levels .entry)) k) r) (now (keys .entry)) ≡ true ⌝ }
+{
+    let mut top: u8 = 0;
+    let mut i: usize = 0;
+    while i < keys.len() {
+        let key = keys[i];
+        let level = level_of(levels, key);
+        top = larger(top, level);
+        i += 1;
+    }
+    top
+}
+
+// The keys at one level.
+fn write_level(buffer: &mut [u8], pen: Pen, levels: &[u8], keys: &[u16], v: u16) -> Pen
+    requires { ⌜ pen .at ≤ length (now buffer) ⌝ }
+    ensures { λ r. ⌜ Listed (now (buffer .entry)) pen (map (entryOf (levelIn (now (levels .entry)))) (keep (λ k. eqb (levelIn (now (levels .entry)) k) v) (now (keys .entry)))) (now (buffer .exit)) r ⌝ }
+{
+    let mut out = pen;
+    let mut i: usize = 0;
+    while i < keys.len() {
+        let key = keys[i];
+        let level = level_of(levels, key);
+        i += 1;
+        if level as u16 == v {
+            out = write_reaction(buffer, out, level, key);
+        }
+    }
+    out
+}
+
+// Level by level, up to the highest.
+fn write_levels(buffer: &mut [u8], pen: Pen, levels: &[u8], keys: &[u16]) -> Pen
+    requires { ⌜ pen .at ≤ length (now buffer) ⌝ }
+    ensures { λ r. ⌜ Listed (now (buffer .entry)) pen (map (entryOf (levelIn (now (levels .entry)))) (byLevel (levelIn (now (levels .entry))) (now (keys .entry)) 0 levelCount)) (now (buffer .exit)) r ⌝ }
+{
+    let top = highest(levels, keys);
+    let end = top as u16 + 1;
+    let mut out = pen;
+    let mut v: u16 = 0;
+    while v < end {
+        out = write_level(buffer, out, levels, keys, v);
+        v += 1;
+    }
+    out
+}
+
+fn put_key(keys: &mut [u16], n: usize, key: u16) -> usize
+    requires { ⌜ n ≤ length (now keys) ⌝ }
+    ensures { λ r. ⌜ Written (now (keys .entry)) n (key ∷ []) (now (keys .exit)) r ⌝ }
+{
+    if n < keys.len() {
+        keys[n] = key;
+        return n + 1;
+    }
+    n
+}
+
+// The keys of a set, ascending; how many they are.
+fn collect(set: KeySet, keys: &mut [u16]) -> usize
+    ensures { λ r. ⌜ Written (now (keys .entry)) 0 (keysOf (set .words)) (now (keys .exit)) r ⌝ }
+{
+    let mut n: usize = 0;
+    let mut k: usize = 0;
+    loop {
+        let f = set.lowest_from(k);
+        let Found::Key(j) = f else {
+            return n;
+        };
+        n = put_key(keys, n, j as u16);
+        k = j + 1;
+    }
+}
+
+fn write_reactions(buffer: &mut [u8], at: usize, levels: &[u8], set: KeySet) -> usize
+    requires { ⌜ at ≤ length (now buffer) ⌝ }
+    ensures { λ r. ⌜ Written (now (buffer .entry)) at (reactionList (levelIn (now (levels .entry))) (keysOf (set .words))) (now (buffer .exit)) r ⌝ }
+{
+    let mut keys: [u16; key_set::KEYS] = [0; key_set::KEYS];
+    let n = collect(set, &mut keys);
+    let pen = Pen {
+        at,
+        started: false,
+    };
+    let out = write_levels(buffer, pen, levels, &keys[0..n]);
+    finish(buffer, out)
+}
+
+// The first n keys, in their order.
+fn write_actions(buffer: &mut [u8], at: usize, keys: &[u16], n: usize) -> usize
+    requires { ⌜ (at ≤ length (now buffer)) × (n ≤ length (now keys)) ⌝ }
+    ensures { λ r. ⌜ Written (now (buffer .entry)) at (actionList (take n (now (keys .entry)))) (now (buffer .exit)) r ⌝ }
+{
+    let mut pen = Pen {
+        at,
+        started: false,
+    };
+    let mut i: usize = 0;
+    while i < n {
+        let key = keys[i];
+        pen = write_key(buffer, pen, key);
+        i += 1;
+    }
+    finish(buffer, pen)
+}
+
+// ---- the parts of a ready line
+
+fn bit(flag: bool) -> u64
+    ensures { λ r. ⌜ r ≡ yes flag ⌝ }
+{
+    if flag {
+        return 1;
+    }
+    0
+}
+
+fn write_flag(buffer: &mut [u8], at: usize, name: &[u8], flag: bool) -> usize
+    requires { ⌜ at ≤ length (now buffer) ⌝ }
+    ensures { λ r. ⌜ Written (now (buffer .entry)) at (now (name .entry) ++ decimal (yes flag)) (now (buffer .exit)) r ⌝ }
+{
+    let end = write_text(buffer, at, name);
+    let n = bit(flag);
+    write_decimal(buffer, end, n)
+}
+
+fn write_tag(buffer: &mut [u8], at: usize, tag: GlobalTag) -> usize
+    requires { ⌜ at ≤ length (now buffer) ⌝ }
+    ensures { λ r. ⌜ Written (now (buffer .entry)) at (tagText (ofGlobal tag)) (now (buffer .exit)) r ⌝ }
+{
+    let end = write_decimal(buffer, at, tag.0);
+    let next = put(buffer, end, b' ');
+    write_decimal(buffer, next, tag.1 as u64)
+}
+
+// The tag and the three flags.
+fn write_head(buffer: &mut [u8], at: usize, tag: GlobalTag, terminal: bool, work: bool, network: bool) -> usize
+    requires { ⌜ at ≤ length (now buffer) ⌝ }
+    ensures { λ r. ⌜ Written (now (buffer .entry)) at (headText (ofGlobal tag) terminal work network) (now (buffer .exit)) r ⌝ }
+{
+    let name = write_text(buffer, at, b"ready ");
+    let tagged = write_tag(buffer, name, tag);
+    let first = write_flag(buffer, tagged, b" terminal ", terminal);
+    let second = write_flag(buffer, first, b" work ", work);
+    write_flag(buffer, second, b" network ", network)
+}
+
+// Where the image's reaction rows begin; its end, where it is too short for that.
+fn first_level(image: &[u8]) -> usize
+    ensures { λ r. ⌜ (r ≤ length (now (image .entry))) × ((k : ℕ) → levelIn (drop r (now (image .entry))) k ≡ R.level (now (image .entry)) k) ⌝ }
+{
+    let start = rows::place(image, rows::REACTION);
+    if start <= image.len() {
+        return start;
+    }
+    image.len()
+}
+
+fn write_reacted(buffer: &mut [u8], at: usize, image: &[u8], set: KeySet) -> usize
+    requires { ⌜ at ≤ length (now buffer) ⌝ }
+    ensures { λ r. ⌜ Written (now (buffer .entry)) at (text " reactions " ++ reactionList (R.level (now (image .entry))) (keysOf (set .words))) (now (buffer .exit)) r ⌝ }
+{
+    let next = write_text(buffer, at, b" reactions ");
+    let start = first_level(image);
+    write_reactions(buffer, next, &image[start..], set)
+}
+
+fn write_acted(buffer: &mut [u8], at: usize, keys: &[u16], n: usize) -> usize
+    requires { ⌜ (at ≤ length (now buffer)) × (n ≤ length (now keys)) ⌝ }
+    ensures { λ r. ⌜ Written (now (buffer .entry)) at (text " actions " ++ (actionList (take n (now (keys .entry))) ++ text "\n")) (now (buffer .exit)) r ⌝ }
+{
+    let next = write_text(buffer, at, b" actions ");
+    let end = write_actions(buffer, next, keys, n);
+    put(buffer, end, b'\n')
+}
+
+// ---- the lines
+
+// The reactions by the image's levels, and the first of the action keys.
+pub fn write_ready(buffer: &mut [u8], at: usize, image: &[u8], tag: GlobalTag, g: Gathered, actions: &[u16]) -> usize
+    requires { ⌜ at ≤ length (now buffer) ⌝ }
+    requires { ⌜ g .actions ≤ length (now actions) ⌝ }
+    ensures { λ r. ⌜ Written (now (buffer .entry)) at (lineOf (now (image .entry)) (M.ready (readyAt (ofGlobal tag) (gatheringOf g (now (actions .entry)))))) (now (buffer .exit)) r ⌝ }
+{
+    let head = write_head(buffer, at, tag, g.terminal, g.work, g.network);
+    let set = g.reactions;
+    let reacted = write_reacted(buffer, head, image, set);
+    let n = g.actions;
+    write_acted(buffer, reacted, actions, n)
+}
+
+pub fn write_ok(buffer: &mut [u8], at: usize) -> usize
+    requires { ⌜ at ≤ length (now buffer) ⌝ }
+    ensures { λ r. ⌜ Written (now (buffer .entry)) at (lineOf [] M.ok) (now (buffer .exit)) r ⌝ }
+{
+    write_text(buffer, at, b"ok\n")
+}
+
+pub fn write_nothing(buffer: &mut [u8], at: usize) -> usize
+    requires { ⌜ at ≤ length (now buffer) ⌝ }
+    ensures { λ r. ⌜ Written (now (buffer .entry)) at (lineOf [] M.nothing) (now (buffer .exit)) r ⌝ }
+{
+    write_text(buffer, at, b"nothing\n")
+}
+
+// By the refusal's number; 1 for a record that is malformed or cut off.
+pub fn write_refused(buffer: &mut [u8], at: usize, number: u8) -> usize
+    requires { ⌜ at ≤ length (now buffer) ⌝ }
+    ensures { λ r. ⌜ Written (now (buffer .entry)) at (refusedLine number) (now (buffer .exit)) r ⌝ }
+{
+    let name = write_text(buffer, at, b"refused ");
+    let end = write_decimal(buffer, name, number as u64);
+    put(buffer, end, b'\n')
+}
+
+fn write_table_refused(buffer: &mut [u8], at: usize, refusal: ImageRefusal) -> usize
+    requires { ⌜ at ≤ length (now buffer) ⌝ }
+    ensures { λ r. ⌜ Written (now (buffer .entry)) at (tableRefused refusal) (now (buffer .exit)) r ⌝ }
+{
+    let number = table::number_of(refusal);
+    let place = table::place_of(refusal);
+    let name = write_text(buffer, at, b"table refused ");
+    let counted = write_decimal(buffer, name, number as u64);
+    let space = put(buffer, counted, b' ');
+    let end = write_decimal(buffer, space, place as u64);
+    put(buffer, end, b'\n')
+}
+
+// Of the image's check.
+pub fn write_table(buffer: &mut [u8], at: usize, checked: Checked) -> usize
+    requires { ⌜ at ≤ length (now buffer) ⌝ }
+    ensures { λ r. ⌜ Written (now (buffer .entry)) at (tableLine checked) (now (buffer .exit)) r ⌝ }
+{
+    match checked {
+        Checked::Accepted => write_text(buffer, at, b"table ok\n"),
+        Checked::Refused(refusal) => write_table_refused(buffer, at, refusal),
+    }
+}

@@ -1,0 +1,57 @@
+-- `pushes::placed` meets its contract. Assumes nothing.
+use mathlib.Core.Path.{sym, ap, _∙_}
+use Rattle.tags.specs.Views.{ofGlobal, mappedLocal}
+use Rattle.scopes.specs.Scopes.{scopesOf}
+use Rattle.pushes.proofs.PushLaws.{placed-root, placed-there, placed-refused}
+use borrow.Author.Needs.{needs}
+use Rattle.pushes.proofs.placed.Statement.{statement}
+use Rattle.pushes.proofs.placed.Tie as tie
+
+to-root-requires : tie.Need-to-root-requires
+to-root-requires c κs = search needs
+
+action-slot-requires : tie.Need-action-slot-requires
+action-slot-requires c κs = search needs
+
+returns : tie.Need-returns
+returns c = placed-root (c .before .before .before .before .before .args .image .now) (scopesOf (c .before .before .before .before .before .args .scopes .now)) (c .before .before .before .before .before .args .p .action) (ofGlobal (c .before .before .before .before .before .args .p .tag)) (c .before .before .before .before .before .args .p .terminal) (c .before .before .before .before .before .args .set .words) (sym (c .before .before .to-root .ensures) ∙ c .before .if1 .taken) (c .action-slot .ensures)
+
+action-scope-requires : tie.Need-action-scope-requires
+action-scope-requires c κs = search needs
+
+local-tag-requires : tie.Need-local-tag-requires
+local-tag-requires c κs = search needs
+
+enum-known-x : tie.Need-enum-known-x
+enum-known-x c = search needs
+
+action-slot-requires-2 : tie.Need-action-slot-requires-2
+action-slot-requires-2 c κs = search needs
+
+enum-known-n : tie.Need-enum-known-n
+enum-known-n c = search needs
+
+refused-requires : tie.Need-refused-requires
+refused-requires c κs = search needs
+
+returns-2 : tie.Need-returns-2
+returns-2 c = let k = c .before .before .before .before .before .action-scope .ensures in placed-there (c .before .before .before .before .before .before .before .before .before .before .args .image .now) (scopesOf (c .before .before .before .before .before .before .before .before .before .before .args .scopes .now)) (c .before .before .before .before .before .before .before .before .before .before .args .p .action) (ofGlobal (c .before .before .before .before .before .before .before .before .before .before .args .p .tag)) (c .before .before .before .before .before .before .before .before .before .before .args .p .terminal) (c .before .before .before .before .before .before .before .before .before .before .args .set .words) (sym (c .before .before .before .before .before .before .before .to-root .ensures) ∙ c .before .before .before .before .before .before .if1 .left) (rw k at (sym (ap mappedLocal (c .before .before .x .given .1)) ∙ c .before .before .before .before .local-tag .ensures)) (rw k at (c .action-slot2 .ensures))
+
+returns-3 : tie.Need-returns-3
+returns-3 c = let k = c .before .before .before .before .before .action-scope .ensures in placed-refused (c .before .before .before .before .before .before .before .before .before .before .args .image .now) (scopesOf (c .before .before .before .before .before .before .before .before .before .before .args .scopes .now)) (c .before .before .before .before .before .before .before .before .before .before .args .p .action) (ofGlobal (c .before .before .before .before .before .before .before .before .before .before .args .p .tag)) (c .before .before .before .before .before .before .before .before .before .before .args .p .terminal) (c .before .before .before .before .before .before .before .before .before .before .args .set .words) (sym (c .before .before .before .before .before .before .before .to-root .ensures) ∙ c .before .before .before .before .before .before .if1 .left) (rw k at (sym (ap mappedLocal (c .before .before .n .given .1)) ∙ c .before .before .before .before .local-tag .ensures)) (c .refused .ensures)
+
+pub placed-spec : {M : Type 1} → statement M
+placed-spec =
+    tie.close
+    (tie.spec
+    to-root-requires
+    action-slot-requires
+    returns
+    action-scope-requires
+    local-tag-requires
+    enum-known-x
+    action-slot-requires-2
+    enum-known-n
+    refused-requires
+    returns-2
+    returns-3)

@@ -1,0 +1,20 @@
+-- `pushes::push_control_event` meets its contract. Assumes nothing.
+use borrow.Author.Needs.{needs}
+use Rattle.pushes.proofs.push_control_event.Statement.{statement}
+use Rattle.pushes.proofs.push_control_event.Tie as tie
+
+empty-requires : tie.Need-empty-requires
+empty-requires c κs = search needs
+
+root-made-requires : tie.Need-root-made-requires
+root-made-requires c κs = search needs
+
+give-requires : tie.Need-give-requires
+give-requires c κs = search needs
+
+returns : tie.Need-returns
+returns c = rw (c .before .before .root-made .ensures, c .before .before .before .empty .ensures) at (c .give .ensures)
+
+pub push-control-event-spec : {M : Type 1} → statement M
+push-control-event-spec =
+    tie.close (tie.spec empty-requires root-made-requires give-requires returns)

@@ -1,0 +1,41 @@
+-- `pushes::to_root` meets its contract. Assumes nothing.
+use mathlib.Core.Path.{sym, ap, _∙_}
+use mathlib.Core.Bool.{not}
+use Rattle.lists.specs.Tests.{flag-no, flag-yes}
+use Rattle.pushes.proofs.PushLaws.{root-physical, root-top, root-plain}
+use borrow.Author.Needs.{needs}
+use Rattle.pushes.proofs.to_root.Statement.{statement}
+use Rattle.pushes.proofs.to_root.Tie as tie
+
+is-logical-requires : tie.Need-is-logical-requires
+is-logical-requires c κs = search needs
+
+returns : tie.Need-returns
+returns c = root-physical _ _ (flag-no (c .before .is-logical .ensures) (c .if1 .taken))
+
+action-scope-requires : tie.Need-action-scope-requires
+action-scope-requires c κs = search needs
+
+parent-requires : tie.Need-parent-requires
+parent-requires c κs = search needs
+
+returns-2 : tie.Need-returns-2
+returns-2 c = root-top _ _ (rw (c .before .before .action-scope .ensures) at (sym (c .before .parent .ensures) ∙ c .if2 .taken))
+
+is-modal-requires : tie.Need-is-modal-requires
+is-modal-requires c κs = search needs
+
+returns-3 : tie.Need-returns-3
+returns-3 c = ap not (c .is-modal .ensures) ∙ root-plain _ _ (flag-yes (c .before .before .before .before .before .is-logical .ensures) (c .before .before .before .before .if1 .left)) (λ e. c .before .if2 .left (c .before .before .parent .ensures ∙ (rw (c .before .before .before .action-scope .ensures) e)))
+
+pub to-root-spec : {M : Type 1} → statement M
+to-root-spec =
+    tie.close
+    (tie.spec
+    is-logical-requires
+    returns
+    action-scope-requires
+    parent-requires
+    returns-2
+    is-modal-requires
+    returns-3)

@@ -1,0 +1,357 @@
+// Pushes over the events and scopes in lent rows: document 01, "Push (plain, network, control)" and "Push of an action".
+// What they mean is in specs/. Refusals in their order: 5, 6, 7, 8.
+ghost use mathlib.Core.Path.{_≡_};
+ghost use mathlib.Core.Bool.{false, true, cond, _&&_};
+ghost use Prim.Native.Nat.{_+_, _<_};
+ghost use lib.ListN.{take};
+ghost use Rattle.lists.specs.Walk as lists;
+ghost use Rattle.tags.specs.Views.{ofGlobal, ofLocal, ofClock, mappedLocal};
+ghost use Rattle.tags.specs.Tags.{toGlobal};
+ghost use Rattle.key_set.specs.Sets.{noKeys, wordCount};
+ghost use Rattle.machine.specs.Table.{setOf};
+ghost use Rattle.machine.specs.Transition.{isTag};
+ghost use Rattle.machine.specs.Machine.{keysOk, toRoot};
+ghost use Rattle.slots.specs.Slots.{eventsOf};
+ghost use Rattle.scopes.specs.Scopes.{scopesOf};
+ghost use Rattle.lens.specs.Lens.{Waits};
+ghost use Rattle.pushes.specs.Pushes.{madeOf, actionOf, rootMade, localTagIn, placedIn, actionMade, pushOf, Pushes};
+use key_set::KeySet;
+use lens::Counts;
+use queue::Accepted;
+use refusals::Refusal;
+use slots::Slot;
+use tags::GlobalTag;
+use tags::LocalTag;
+use tags::MappedGlobal;
+use tags::MappedLocal;
+use tags::ScopeClock;
+
+pub enum Outcome {
+    Done,
+    Refused(Refusal),
+}
+
+// What a push answers, and what waits then.
+pub struct Pushed {
+    pub outcome: Outcome,
+    pub counts: Counts,
+}
+
+// An action's event: its action, the tag given, and whether it is terminal.
+pub struct ActionPush {
+    pub action: u16,
+    pub tag: GlobalTag,
+    pub terminal: bool,
+}
+
+// An event of the root without an action.
+struct RootPush {
+    tag: GlobalTag,
+    terminal: bool,
+    control: bool,
+    network: bool,
+}
+
+// The set of some keys, and whether the table has them all.
+struct Keyed {
+    known: bool,
+    set: KeySet,
+}
+
+// An event that is to wait, or the refusal.
+struct Made {
+    outcome: Outcome,
+    slot: Slot,
+}
+
+// ---- keys
+
+fn both(a: bool, b: bool) -> bool
+    ensures { λ r. ⌜ r ≡ (a && b) ⌝ }
+{
+    if a {
+        return b;
+    }
+    false
+}
+
+fn keys_of(image: &[u8], keys: &[u16]) -> Keyed
+    ensures { λ r. ⌜ (r .known ≡ keysOk (now (image .entry)) (now (keys .entry))) × (r .set .words ≡ setOf (now (keys .entry))) ⌝ }
+{
+    let n = rows::count(image, rows::REACTION);
+    let mut known = true;
+    let mut set = KeySet::empty();
+    let mut i: usize = 0;
+    while i < keys.len() {
+        let k = keys[i];
+        known = both(known, k < n);
+        set = set.insert(k as usize);
+        i += 1;
+    }
+    Keyed { known, set }
+}
+
+// ---- an event of the root
+
+fn refused(n: Refusal) -> Made
+    ensures { λ r. ⌜ madeOf r ≡ lists.refused n ⌝ }
+{
+    let slot = Slot::blank();
+    Made {
+        outcome: Outcome::Refused(n),
+        slot,
+    }
+}
+
+fn root_made(p: RootPush, keyed: Keyed) -> Made
+    ensures { λ r. ⌜ madeOf r ≡ rootMade (keyed .known) (ofGlobal (p .tag)) (keyed .set .words) (p .terminal) (p .control) (p .network) ⌝ }
+{
+    let t = p.tag;
+    let set = keyed.set;
+    if !keyed.known {
+        return refused(Refusal::Key);
+    }
+    if !t.within() {
+        return refused(Refusal::ArgumentTag);
+    }
+    let slot = Slot {
+        queue: slots::NONE,
+        offset: t.0,
+        microstep: t.1,
+        reactions: set,
+        terminal: p.terminal,
+        control: p.control,
+        network: p.network,
+        action: slots::NONE,
+        stored: GlobalTag(0, 0),
+    };
+    Made {
+        outcome: Outcome::Done,
+        slot,
+    }
+}
+
+// ---- an action's event
+
+// A local tag's global image is within the limits.
+fn maps(clock: ScopeClock, x: LocalTag) -> bool
+    ensures { λ r. ⌜ r ≡ isTag (toGlobal (ofClock clock) (ofLocal x)) ⌝ }
+{
+    match clock.to_global(x) {
+        MappedGlobal::Tag(_) => true,
+        MappedGlobal::Refused(_) => false,
+    }
+}
+
+// The scope's local tag; 7 if it overruns, or in an active scope its global image.
+fn local_tag(scopes: &[u64; scopes::ROOM], i: u16, t: GlobalTag) -> MappedLocal
+    ensures { λ r. ⌜ mappedLocal r ≡ localTagIn (scopesOf (now (scopes .entry))) i (ofGlobal t) ⌝ }
+{
+    let s = scopes::scope_at(scopes, i as usize);
+    let clock = s.clock;
+    match clock.to_local(t) {
+        MappedLocal::Refused(n) => MappedLocal::Refused(n),
+        MappedLocal::Tag(x) => {
+            if s.active {
+                if maps(clock, x) {
+                    return MappedLocal::Tag(x);
+                }
+                return MappedLocal::Refused(Refusal::MappedTag);
+            }
+            MappedLocal::Tag(x)
+        }
+    }
+}
+
+// The action's events lie in the root's queue.
+fn to_root(image: &[u8], action: u16) -> bool
+    ensures { λ r. ⌜ r ≡ toRoot (now (image .entry)) action ⌝ }
+{
+    if !rows::is_logical(image, action) {
+        return true;
+    }
+    let scope = rows::action_scope(image, action);
+    let above = rows::parent(image, scope);
+    if above == rows::NONE {
+        return true;
+    }
+    !schedule::is_modal(image)
+}
+
+fn action_slot(p: ActionPush, set: KeySet, queue: u16, x: LocalTag) -> Made
+    ensures { λ r. ⌜ madeOf r ≡ lists.done (actionOf queue (p .action) (ofLocal x) (ofGlobal (p .tag)) (p .terminal) (set .words)) ⌝ }
+{
+    let stored = p.tag;
+    let slot = Slot {
+        queue,
+        offset: x.0,
+        microstep: x.1,
+        reactions: set,
+        terminal: p.terminal,
+        control: false,
+        network: false,
+        action: p.action,
+        stored,
+    };
+    Made {
+        outcome: Outcome::Done,
+        slot,
+    }
+}
+
+// To the root, or to its scope at the local tag.
+fn placed(image: &[u8], scopes: &[u64; scopes::ROOM], p: ActionPush, set: KeySet) -> Made
+    ensures { λ r. ⌜ madeOf r ≡ placedIn (now (image .entry)) (scopesOf (now (scopes .entry))) (p .action) (ofGlobal (p .tag)) (p .terminal) (set .words) ⌝ }
+{
+    let t = p.tag;
+    if to_root(image, p.action) {
+        return action_slot(p, set, slots::NONE, LocalTag(t.0, t.1));
+    }
+    let scope = rows::action_scope(image, p.action);
+    match local_tag(scopes, scope, t) {
+        MappedLocal::Tag(x) => action_slot(p, set, scope, x),
+        MappedLocal::Refused(n) => refused(n),
+    }
+}
+
+fn action_made(image: &[u8], scopes: &[u64; scopes::ROOM], p: ActionPush, keyed: Keyed) -> Made
+    ensures { λ r. ⌜ madeOf r ≡ actionMade (now (image .entry)) (scopesOf (now (scopes .entry))) (p .action) (ofGlobal (p .tag)) (p .terminal) (keyed .known) (keyed .set .words) ⌝ }
+{
+    let t = p.tag;
+    let set = keyed.set;
+    let actions = rows::count(image, rows::ACTION);
+    if !both(p.action < actions, keyed.known) {
+        return refused(Refusal::Key);
+    }
+    if !t.within() {
+        return refused(Refusal::ArgumentTag);
+    }
+    placed(image, scopes, p, set)
+}
+
+// ---- accepting
+
+fn tallied(ordinary: bool, work: usize) -> usize
+    requires { ⌜ work < 4294967296 ⌝ }
+    ensures { λ r. ⌜ r ≡ cond ordinary (work + 1) work ⌝ }
+{
+    if ordinary {
+        return work + 1;
+    }
+    work
+}
+
+// The event comes last, or 8; or it was refused before.
+fn give(events: &mut [u64; slots::ROOM], counts: Counts, made: Made) -> Pushed
+    requires { ⌜ Waits (now events) counts ⌝ }
+    ensures { λ r. ⌜ Pushes (pushOf (take (counts .waiting) (eventsOf (now (events .entry)))) (counts .work) (madeOf made)) r (now (events .exit)) ⌝ }
+{
+    let before = made.outcome;
+    match before {
+        Outcome::Refused(n) => Pushed {
+            outcome: Outcome::Refused(n),
+            counts,
+        },
+        Outcome::Done => {
+            let slot = made.slot;
+            let ordinary = slot.is_ordinary();
+            match queue::accept(events, counts.waiting, slot) {
+                Accepted::Refused(n) => Pushed {
+                    outcome: Outcome::Refused(n),
+                    counts,
+                },
+                Accepted::Count(n) => {
+                    let after = Counts {
+                        waiting: n,
+                        work: tallied(ordinary, counts.work),
+                    };
+                    Pushed {
+                        outcome: Outcome::Done,
+                        counts: after,
+                    }
+                }
+            }
+        }
+    }
+}
+
+// ---- the calls
+
+pub fn push_event(
+    image: &[u8],
+    events: &mut [u64; slots::ROOM],
+    counts: Counts,
+    tag: GlobalTag,
+    terminal: bool,
+    keys: &[u16],
+) -> Pushed
+    requires { ⌜ Waits (now events) counts ⌝ }
+    ensures { λ r. ⌜ Pushes (pushOf (take (counts .waiting) (eventsOf (now (events .entry)))) (counts .work) (rootMade (keysOk (now (image .entry)) (now (keys .entry))) (ofGlobal tag) (setOf (now (keys .entry))) terminal false false)) r (now (events .exit)) ⌝ }
+{
+    let keyed = keys_of(image, keys);
+    let p = RootPush {
+        tag,
+        terminal,
+        control: false,
+        network: false,
+    };
+    let made = root_made(p, keyed);
+    give(events, counts, made)
+}
+
+pub fn push_network_event(
+    image: &[u8],
+    events: &mut [u64; slots::ROOM],
+    counts: Counts,
+    tag: GlobalTag,
+    keys: &[u16],
+) -> Pushed
+    requires { ⌜ Waits (now events) counts ⌝ }
+    ensures { λ r. ⌜ Pushes (pushOf (take (counts .waiting) (eventsOf (now (events .entry)))) (counts .work) (rootMade (keysOk (now (image .entry)) (now (keys .entry))) (ofGlobal tag) (setOf (now (keys .entry))) false false true)) r (now (events .exit)) ⌝ }
+{
+    let keyed = keys_of(image, keys);
+    let p = RootPush {
+        tag,
+        terminal: false,
+        control: false,
+        network: true,
+    };
+    let made = root_made(p, keyed);
+    give(events, counts, made)
+}
+
+// A control event has no reactions.
+pub fn push_control_event(events: &mut [u64; slots::ROOM], counts: Counts, tag: GlobalTag) -> Pushed
+    requires { ⌜ Waits (now events) counts ⌝ }
+    ensures { λ r. ⌜ Pushes (pushOf (take (counts .waiting) (eventsOf (now (events .entry)))) (counts .work) (rootMade true (ofGlobal tag) (noKeys wordCount) false true false)) r (now (events .exit)) ⌝ }
+{
+    let none = KeySet::empty();
+    let keyed = Keyed {
+        known: true,
+        set: none,
+    };
+    let p = RootPush {
+        tag,
+        terminal: false,
+        control: true,
+        network: false,
+    };
+    let made = root_made(p, keyed);
+    give(events, counts, made)
+}
+
+pub fn push_action_event(
+    image: &[u8],
+    scopes: &[u64; scopes::ROOM],
+    events: &mut [u64; slots::ROOM],
+    counts: Counts,
+    push: ActionPush,
+    keys: &[u16],
+) -> Pushed
+    requires { ⌜ Waits (now events) counts ⌝ }
+    ensures { λ r. ⌜ Pushes (pushOf (take (counts .waiting) (eventsOf (now (events .entry)))) (counts .work) (actionMade (now (image .entry)) (scopesOf (now (scopes .entry))) (push .action) (ofGlobal (push .tag)) (push .terminal) (keysOk (now (image .entry)) (now (keys .entry))) (setOf (now (keys .entry))))) r (now (events .exit)) ⌝ }
+{
+    let keyed = keys_of(image, keys);
+    let made = action_made(image, scopes, push, keyed);
+    give(events, counts, made)
+}

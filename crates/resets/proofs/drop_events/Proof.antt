@@ -1,0 +1,21 @@
+-- `resets::drop_events` meets its contract. Assumes nothing.
+use Rattle.key_set.specs.Sets.{has}
+use Rattle.queue.specs.Queue.{goesOf}
+use Rattle.resets.proofs.ResetLaws.{gone-fits, gone-waits, gone-step}
+use borrow.Author.Needs.{needs}
+use Rattle.resets.proofs.drop_events.Statement.{statement}
+use Rattle.resets.proofs.drop_events.Tie as tie
+
+remove-requires : tie.Need-remove-requires
+remove-requires c κs = search needs
+
+sub-work : tie.Need-sub-work
+unfolding goesOf
+sub-work c = gone-fits (λ e. has (c .before .before .before .before .args .inside .words) (e .queue)) (c .before .before .before .before .args .events .now) (c .before .before .before .before .args .counts) (c .before .before .before .before .pre) (c .before .before .remove .ensures .1 .0)
+
+returns : tie.Need-returns
+unfolding goesOf
+returns c = let r = c .before .before .remove .ensures in (gone-waits (λ e. has (c .before .before .before .before .args .inside .words) (e .queue)) (c .before .before .before .before .args .events .now) (c .before .before .before .before .args .counts) (c .before .before .before .before .pre) _ (r .0) (r .1 .0) (r .1 .1), gone-step (λ e. has (c .before .before .before .before .args .inside .words) (e .queue)) (c .before .before .before .before .args .events .now) (c .before .before .before .before .args .counts) (c .before .before .before .before .pre) _ (r .0) (r .1 .0) (r .1 .1))
+
+pub drop-events-spec : {M : Type 1} → statement M
+drop-events-spec = tie.close (tie.spec remove-requires sub-work returns)

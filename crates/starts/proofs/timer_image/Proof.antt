@@ -1,0 +1,43 @@
+-- `starts::timer_image` meets its contract. Assumes nothing.
+use mathlib.Core.Path.{ap}
+use Rattle.starts.proofs.StartLaws.{image-mapped, image-plain}
+use borrow.Author.Needs.{needs}
+use Rattle.starts.proofs.timer_image.Statement.{statement}
+use Rattle.starts.proofs.timer_image.Tie as tie
+
+timer-scope-requires : tie.Need-timer-scope-requires
+timer-scope-requires c κs = search needs
+
+timer-tag-requires : tie.Need-timer-tag-requires
+timer-tag-requires c κs = search needs
+
+has-parent-requires : tie.Need-has-parent-requires
+has-parent-requires c κs = search needs
+
+cast-scope-at : tie.Need-cast-scope-at
+cast-scope-at c = search needs
+
+scope-at-requires : tie.Need-scope-at-requires
+scope-at-requires c κs = search needs
+
+to-global-requires : tie.Need-to-global-requires
+to-global-requires c κs = search needs
+
+returns : tie.Need-returns
+returns c = image-mapped _ _ _ (c .before .before .before .before .before .before .timer-scope .ensures) (c .before .before .before .before .has-parent .ensures) (c .before .before .before .before .before .timer-tag .ensures) (c .before .before .before .if1 .taken) (ap (λ x. x .clock) (c .before .before .scope-at .ensures)) (c .to-global .ensures)
+
+returns-2 : tie.Need-returns-2
+returns-2 c = image-plain _ _ _ (c .before .before .before .timer-scope .ensures) (c .before .has-parent .ensures) (c .before .before .timer-tag .ensures) (c .if1 .left)
+
+pub timer-image-spec : {M : Type 1} → statement M
+timer-image-spec =
+    tie.close
+    (tie.spec
+    timer-scope-requires
+    timer-tag-requires
+    has-parent-requires
+    cast-scope-at
+    scope-at-requires
+    to-global-requires
+    returns
+    returns-2)

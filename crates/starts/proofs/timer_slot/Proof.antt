@@ -1,0 +1,34 @@
+-- `starts::timer_slot` meets its contract. Assumes nothing.
+use Rattle.starts.proofs.StartLaws.{timer-event}
+use borrow.Author.Needs.{needs}
+use Rattle.starts.proofs.timer_slot.Statement.{statement}
+use Rattle.starts.proofs.timer_slot.Tie as tie
+
+timer-action-requires : tie.Need-timer-action-requires
+timer-action-requires c κs = search needs
+
+timer-scope-requires : tie.Need-timer-scope-requires
+timer-scope-requires c κs = search needs
+
+timer-queue-requires : tie.Need-timer-queue-requires
+timer-queue-requires c κs = search needs
+
+timer-tag-requires : tie.Need-timer-tag-requires
+timer-tag-requires c κs = search needs
+
+triggers-requires : tie.Need-triggers-requires
+triggers-requires c κs = search needs
+
+returns : tie.Need-returns
+returns c = timer-event _ _ _ (c .before .before .before .before .timer-action .ensures) (c .before .before .before .timer-scope .ensures) (c .before .before .timer-queue .ensures) (c .before .timer-tag .ensures) (c .triggers .ensures)
+
+pub timer-slot-spec : {M : Type 1} → statement M
+timer-slot-spec =
+    tie.close
+    (tie.spec
+    timer-action-requires
+    timer-scope-requires
+    timer-queue-requires
+    timer-tag-requires
+    triggers-requires
+    returns)

@@ -1,0 +1,6 @@
+pub mod ListLaws
+pub mod MoveLaws
+pub mod ClockLaws
+pub mod EventLaws
+pub mod RowLaws
+pub mod TurnLaws
