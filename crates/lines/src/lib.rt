@@ -230,10 +230,7 @@ fn write_reactions(buffer: &mut [u8], at: usize, levels: &[u8], set: KeySet) -> 
 {
     let mut keys: [u16; key_set::KEYS] = [0; key_set::KEYS];
     let n = collect(set, &mut keys);
-    let pen = Pen {
-        at,
-        started: false,
-    };
+    let pen = Pen { at, started: false };
     let out = write_levels(buffer, pen, levels, &keys[0..n]);
     finish(buffer, out)
 }
@@ -243,10 +240,7 @@ fn write_actions(buffer: &mut [u8], at: usize, keys: &[u16], n: usize) -> usize
     requires { ⌜ (at ≤ length (now buffer)) × (n ≤ length (now keys)) ⌝ }
     ensures { λ r. ⌜ Written (now (buffer .entry)) at (actionList (take n (now (keys .entry)))) (now (buffer .exit)) r ⌝ }
 {
-    let mut pen = Pen {
-        at,
-        started: false,
-    };
+    let mut pen = Pen { at, started: false };
     let mut i: usize = 0;
     while i < n {
         let key = keys[i];
@@ -286,7 +280,14 @@ fn write_tag(buffer: &mut [u8], at: usize, tag: GlobalTag) -> usize
 }
 
 // The tag and the three flags.
-fn write_head(buffer: &mut [u8], at: usize, tag: GlobalTag, terminal: bool, work: bool, network: bool) -> usize
+fn write_head(
+    buffer: &mut [u8],
+    at: usize,
+    tag: GlobalTag,
+    terminal: bool,
+    work: bool,
+    network: bool,
+) -> usize
     requires { ⌜ at ≤ length (now buffer) ⌝ }
     ensures { λ r. ⌜ Written (now (buffer .entry)) at (headText (ofGlobal tag) terminal work network) (now (buffer .exit)) r ⌝ }
 {
@@ -329,7 +330,14 @@ fn write_acted(buffer: &mut [u8], at: usize, keys: &[u16], n: usize) -> usize
 // ---- the lines
 
 // The reactions by the image's levels, and the first of the action keys.
-pub fn write_ready(buffer: &mut [u8], at: usize, image: &[u8], tag: GlobalTag, g: Gathered, actions: &[u16]) -> usize
+pub fn write_ready(
+    buffer: &mut [u8],
+    at: usize,
+    image: &[u8],
+    tag: GlobalTag,
+    g: Gathered,
+    actions: &[u16],
+) -> usize
     requires { ⌜ at ≤ length (now buffer) ⌝ }
     requires { ⌜ g .actions ≤ length (now actions) ⌝ }
     ensures { λ r. ⌜ Written (now (buffer .entry)) at (lineOf (now (image .entry)) (M.ready (readyAt (ofGlobal tag) (gatheringOf g (now (actions .entry)))))) (now (buffer .exit)) r ⌝ }

@@ -1,3 +1,4 @@
+-- `lines::write_decimal` meets its contract: each step goes to the tenth part. Assumes nothing.
 use borrow.Author.Needs.{needs}
 use native.Mathlib.Omega.{arith}
 use Rattle.lines.proofs.WrittenLaws.{written-room, written-long, written-then, written-as, decimal-one, decimal-more}

@@ -1,3 +1,4 @@
+-- `lines::collect` meets its contract: what is written and what is left are all keys of the set. Assumes nothing.
 use Prim.Native.Nat.{_*_, _-_}
 use mathlib.Core.Path.{refl}
 use native.Mathlib.Omega.{arith}

@@ -1,3 +1,4 @@
+-- `lines::first_level` meets its contract. Assumes nothing.
 use Rattle.lines.proofs.ListLaws.{level-there, level-short}
 use borrow.Author.Needs.{needs}
 use Rattle.lines.proofs.first_level.Statement.{statement}

@@ -1,3 +1,4 @@
+-- `lines::highest` meets its contract: the highest of the first keys, one more a turn. Assumes nothing.
 use Prim.Native.Nat.{_-_, _≤_}
 use mathlib.Core.Path.{_≡_, refl}
 use mathlib.Core.Bool.{true}

@@ -1,3 +1,4 @@
+-- `lines::level_of` meets its contract. Assumes nothing.
 use Rattle.lists.specs.Steps.{read-past}
 use borrow.Author.Needs.{needs}
 use Rattle.lines.proofs.level_of.Statement.{statement}

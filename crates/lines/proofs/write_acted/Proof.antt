@@ -1,3 +1,4 @@
+-- `lines::write_acted` meets its contract. Assumes nothing.
 use Rattle.lines.proofs.WrittenLaws.{written-then}
 use borrow.Author.Needs.{needs}
 use Rattle.lines.proofs.write_acted.Statement.{statement}

@@ -1,3 +1,4 @@
+-- `lines::write_flag` meets its contract. Assumes nothing.
 use Rattle.lines.proofs.WrittenLaws.{written-then}
 use borrow.Author.Needs.{needs}
 use Rattle.lines.proofs.write_flag.Statement.{statement}

@@ -1,3 +1,4 @@
+-- `lines::write_head` meets its contract. Assumes nothing.
 use mathlib.Core.List.{append-assoc}
 use Rattle.lines.specs.Lines.{headText}
 use Rattle.lines.proofs.WrittenLaws.{written-then, written-as}

@@ -1,3 +1,4 @@
+-- `lines::write_key` meets its contract. Assumes nothing.
 use Rattle.lines.proofs.ListLaws.{listed-one}
 use borrow.Author.Needs.{needs}
 use Rattle.lines.proofs.write_key.Statement.{statement}

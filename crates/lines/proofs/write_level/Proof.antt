@@ -1,3 +1,4 @@
+-- `lines::write_level` meets its contract: the entries of the first keys, one more a turn. Assumes nothing.
 use Prim.Native.Nat.{_-_, _≤_}
 use mathlib.Core.Path.{refl}
 use mathlib.Core.List.{map}
@@ -76,4 +77,3 @@ write-level-spec =
     loop-again-2
     same-length
     returns)
--- t

@@ -1,3 +1,4 @@
+-- `lines::write_levels` meets its contract: the entries of the levels passed, one more a turn. Assumes nothing.
 use Prim.Native.Nat.{_-_, _≤_}
 use mathlib.Core.List.{map}
 use native.Mathlib.Omega.{arith}

@@ -1,3 +1,4 @@
+-- `lines::write_reacted` meets its contract. Assumes nothing.
 use Rattle.lines.proofs.WrittenLaws.{written-then, written-as}
 use Rattle.lines.proofs.ListLaws.{same-levels}
 use borrow.Author.Needs.{needs}

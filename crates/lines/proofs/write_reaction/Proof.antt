@@ -1,3 +1,4 @@
+-- `lines::write_reaction` meets its contract. Assumes nothing.
 use Rattle.lines.proofs.WrittenLaws.{written-then}
 use Rattle.lines.proofs.ListLaws.{listed-one}
 use borrow.Author.Needs.{needs}

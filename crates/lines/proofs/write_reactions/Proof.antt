@@ -1,3 +1,4 @@
+-- `lines::write_reactions` meets its contract. Assumes nothing.
 use mathlib.Core.Path.{ap}
 use native.Mathlib.Omega.{arith}
 use mathlib.Core.List.{map}
@@ -34,7 +35,7 @@ same-length c = search needs
 
 returns : tie.Need-returns
 unfolding reactionList
-returns c = 
+returns c =
     let a = c .before .before .before .before .before .before .before .before .before .before .before .before .before .before .before .args in
     let lev = levelIn (a .levels .now) in
     let h = keys-fit (a .set .words) (search needs) in

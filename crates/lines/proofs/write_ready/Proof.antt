@@ -1,3 +1,4 @@
+-- `lines::write_ready` meets its contract. Assumes nothing.
 use Rattle.tags.specs.Views.{ofGlobal}
 use Rattle.ready.specs.Gathering.{gatheringOf, readyAt}
 use Rattle.lines.proofs.ListLaws.{ready-line}
@@ -18,7 +19,7 @@ same-length : tie.Need-same-length
 same-length c = search needs
 
 returns : tie.Need-returns
-returns c = 
+returns c =
     let a = c .before .before .before .before .before .before .before .before .before .before .before .before .before .before .before .before .args in
     ready-line (a .image .now) (readyAt (ofGlobal (a .tag)) (gatheringOf (a .g) (a .actions .now))) (c .before .before .before .before .before .before .before .before .before .before .before .write-head .ensures) (c .before .before .before .before .before .before .write-reacted .ensures) (c .before .before .write-acted .ensures)
 

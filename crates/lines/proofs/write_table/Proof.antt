@@ -1,3 +1,4 @@
+-- `lines::write_table` meets its contract. Assumes nothing.
 use borrow.Author.Needs.{needs}
 use Rattle.lines.proofs.write_table.Statement.{statement}
 use Rattle.lines.proofs.write_table.Tie as tie

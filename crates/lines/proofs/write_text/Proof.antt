@@ -1,3 +1,4 @@
+-- `lines::write_text` meets its contract: one byte more a turn. Assumes nothing.
 use mathlib.Core.Path.{refl}
 use Prim.Native.Nat.{_-_, _≤_}
 use lib.ListN.{length, take}
