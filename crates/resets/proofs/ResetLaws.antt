@@ -190,7 +190,7 @@ unfolding foldl
 fold-nothing f h [] st = refl
 fold-nothing f h (a ∷ l) st = rw (h st a) (fold-nothing f h l st)
 
-reset-at : (ins : List Bool) (ks : List Clock) (k : ℕ) (d : Clock) → k < length ks → getD (resetClocks ins ks) k d ≡ cond (getD ins k false) (zeroed (getD ks k d)) (getD ks k d)
+pub reset-at : (ins : List Bool) (ks : List Clock) (k : ℕ) (d : Clock) → k < length ks → getD (resetClocks ins ks) k d ≡ cond (getD ins k false) (zeroed (getD ks k d)) (getD ks k d)
 unfolding resetClocks
 reset-at [] ks k d h = refl
 reset-at (true ∷ bs) [] k d h = absurd (omega arith)
@@ -200,7 +200,7 @@ reset-at (false ∷ bs) (x ∷ ks) zero d h = refl
 reset-at (true ∷ bs) (x ∷ ks) (suc k) d h = reset-at bs ks k d (omega arith)
 reset-at (false ∷ bs) (x ∷ ks) (suc k) d h = reset-at bs ks k d (omega arith)
 
-reset-long : (ins : List Bool) (ks : List Clock) → length (resetClocks ins ks) ≡ length ks
+pub reset-long : (ins : List Bool) (ks : List Clock) → length (resetClocks ins ks) ≡ length ks
 unfolding resetClocks
 reset-long [] ks = refl
 reset-long (true ∷ bs) [] = refl

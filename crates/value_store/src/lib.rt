@@ -102,7 +102,7 @@ fn buckets_of(rows: &BucketRows) -> [Bucket; MOST_HELD]
     buckets
 }
 
-fn store_of(values: &ValueRows, buckets: &BucketRows, held: Counts) -> Store
+pub fn store_of(values: &ValueRows, buckets: &BucketRows, held: Counts) -> Store
     ensures { λ r. ⌜ arraysOf r ≡ arraysIn (now (values .entry)) (now (buckets .entry)) held ⌝ }
 {
     let v = values_of(values);

@@ -1,0 +1,296 @@
+-- The manager as rows and back: the state in them, its rules, and the state that is packed again. Assumes nothing.
+use mathlib.Core.Bool.{Bool, true, false, not, _&&_}
+use mathlib.Core.Path.{_≡_, refl, ap, _∙_, sym}
+use mathlib.Core.List.{List, [], _∷_, map}
+use Prim.Native.Nat.{ℕ, zero, suc, _≤_, min}
+use native.Mathlib.Nat.{min-eq-left}
+use native.Mathlib.Omega.{arith}
+use lib.Dec.{leb}
+use lib.ListN.{length, take, replicate, length-take, length-map}
+use borrow.Author.Tests.{leb-true, eqb-true}
+use Rattle.lists.specs.Tests.{and-left, and-right}
+use Rattle.lists.specs.Lists.{count, from}
+use Rattle.rows.specs.Bytes.{Image}
+use Rattle.table.specs.Check.{isTable}
+use Rattle.tags.specs.Views.{ofClock}
+use Rattle.tags.specs.Tags.{Clock, freshClock}
+use Rattle.entries.specs.Entries.{mostHeld, blankValue, blankBucket, ofValue, ofBucket}
+use Rattle.entries.specs.Words.{valuesOf, bucketsOf, HeldValues, HeldBuckets}
+use Rattle.store.specs.Store.{storeRules, emptyStore}
+use Rattle.store_calls.specs.Lent.{storeOf}
+use Rattle.store_rules.proofs.Kept.{Kept, rules-kept}
+use Rattle.machine.specs.Table.{scopes, reactors, actions}
+use Rattle.machine.specs.State.{Event, State, mostWaiting, ordinary, withQueue, fresh}
+use Rattle.machine.specs.Machine.{rules}
+use Rattle.kept.specs.Kept.{rules-tell}
+use Rattle.kept.specs.Steps.{Ruled}
+use Rattle.slots.specs.Slots as slot
+use Rattle.slots.specs.Slots.{eventOf, eventsOf}
+use Rattle.scopes.specs.Scopes as scope
+use Rattle.scopes.specs.Scopes.{Scope, mostScopes, scopesOf}
+use Rattle.lens.specs.declared.Counts.{Counts}
+use Rattle.lens.specs.Padded.{padded, padded-none, padded-length, padded-take, padded-map}
+use Rattle.lens.specs.Lens.{Queued, Waits, Stored, Fits, joined, joined-length, scopesFrom, stateIn, Scoped, Even, clocks-of, active-of, ever-of}
+use Rattle.state_rules.specs.Sound.{mostReactors, sound}
+use Rattle.manager.specs.Arrays.{Arrays, viewOf, packed, isSound, noState, bareOf, freshOver}
+use Rattle.value_store.specs.Calls as store
+use Rattle.slots.specs.declared.Slot.{Slot}
+use Rattle.table.specs.Check.{check}
+use Rattle.table.specs.declared.Checked.{Checked}
+use Rattle.table.specs.declared.Checked.the-variants.{Accepted, Refused}
+use Rattle.rows.specs.Rows.{initialMode}
+use Rattle.schedule.specs.Schedule.{isActive}
+use Rattle.lists.specs.Every.{length-from}
+use Rattle.state_rules.proofs.Rules.{scopes-few, reactors-few}
+use Rattle.manager.specs.Views.{arraysOf, arraysIn, Holds, Full, Unpacks}
+use Rattle.manager.specs.declared.Manager.{Manager}
+use Rattle.manager.specs.declared.Unpacked.{Unpacked}
+use Rattle.manager.proofs.Front.{front-view}
+
+joined-take : (n : ℕ) (ks : List Clock) (now before : List Bool) → take n (joined ks now before) ≡ joined (take n ks) (take n now) (take n before)
+unfolding joined
+joined-take zero ks now before = refl
+joined-take (suc n) [] now before = refl
+joined-take (suc n) (k ∷ ks) [] before = refl
+joined-take (suc n) (k ∷ ks) (a ∷ now) [] = refl
+joined-take (suc n) (k ∷ ks) (a ∷ now) (b ∷ before) = ap (record { clock = k; active = a; ever = b } ∷_) (joined-take n ks now before)
+
+-- ---- to rows
+
+pub unpacks :
+    (img : Image) (m : Manager) (ms sws ews vws bws : List ℕ) {r n : ℕ} →
+    length (m .clocks) ≡ mostScopes → length (m .active) ≡ mostScopes → length (m .ever) ≡ mostScopes → length (m .modes) ≡ mostReactors →
+    length (m .slots) ≡ mostWaiting → length (m .store .values) ≡ mostHeld → length (m .store .buckets) ≡ mostHeld →
+    r ≡ reactors img → n ≡ scopes img → ms ≡ padded 0 mostReactors (take r (m .modes)) →
+    Scoped (take n (joined (map ofClock (m .clocks)) (m .active) (m .ever))) sws →
+    slot.Held ews (padded slot.blank mostWaiting (take (m .waiting) (map eventOf (m .slots)))) →
+    HeldValues vws (padded blankValue mostHeld (take (m .store .held) (map ofValue (m .store .values)))) →
+    HeldBuckets bws (padded blankBucket mostHeld (take (m .store .«open») (map ofBucket (m .store .buckets)))) →
+    Unpacks img (arraysOf m)
+    (record { modes = ms; scopes = sws; events = ews; values = vws; buckets = bws; counts = record { waiting = m .waiting; work = m .work }; held = record { values = m .store .held; buckets = m .store .«open» } })
+unpacks img m ms sws ews vws bws lc la le lm ls lv lb er en em es ee ev eb =
+    record {
+      full =
+          record {
+            clocks = length-map (m .clocks) ofClock ∙ lc;
+            active = la;
+            ever = le;
+            modes = lm;
+            slots = length-map (m .slots) eventOf ∙ ls;
+            values = length-map (m .store .values) ofValue ∙ lv;
+            buckets = length-map (m .store .buckets) ofBucket ∙ lb;
+          };
+      holds =
+          record {
+            modes = rw er at em;
+            scopes = rw (← (joined-take (scopes img) (map ofClock (m .clocks)) (m .active) (m .ever))) (rw en at es);
+            events = ee;
+            values = ev;
+            buckets = eb;
+          };
+      waiting = refl;
+      work = refl;
+      held = refl;
+      open-buckets = refl;
+    }
+
+-- the state that the rows hold
+abbrev pub rowState : Image → Unpacked → State
+rowState img u = stateIn img (u .modes) (scopesOf (u .scopes)) (take (u .counts .waiting) (eventsOf (u .events))) (u .counts .work) (storeOf (u .values) (u .buckets) (u .held))
+
+-- ---- and back
+
+pub packs : (t : State) (u : Unpacked) (k : ℕ) → Even k (t .clocks) (t .active) (t .ever) → Holds t u → u .counts .waiting ≡ length (t .waiting) → u .counts .work ≡ t .work →
+    u .held .values ≡ length (t .store .values) → u .held .buckets ≡ length (t .store .buckets) → arraysIn u ≡ packed t
+packs t u k e h w o v b =
+    rw (
+      h .scopes .things,
+      padded-map (λ x. x .clock) scope.blank mostScopes (scopesFrom t),
+      padded-map (λ x. x .active) scope.blank mostScopes (scopesFrom t),
+      padded-map (λ x. x .ever) scope.blank mostScopes (scopesFrom t),
+      clocks-of k (t .clocks) (t .active) (t .ever) e,
+      active-of k (t .clocks) (t .active) (t .ever) e,
+      ever-of k (t .clocks) (t .active) (t .ever) e,
+      h .modes,
+      h .events .things,
+      h .values .things,
+      h .buckets .things,
+      w,
+      o,
+      v,
+      b,
+    )
+
+module _ (img : Image) (a : Arrays) (u : Unpacked) (x : Unpacks img a u) where
+  short : {A : Type 0} (l : List A) → length l ≡ mostScopes → length (take (scopes img) l) ≡ min (scopes img) mostScopes
+  short l e = length-take (scopes img) l ∙ ap (min (scopes img)) e
+
+  pub even : Even (min (scopes img) mostScopes) (take (scopes img) (a .clocks)) (take (scopes img) (a .active)) (take (scopes img) (a .ever))
+  even = record { clocks = short (a .clocks) (x .full .clocks); active = short (a .active) (x .full .active); ever = short (a .ever) (x .full .ever) }
+
+  own-scopes : take (scopes img) (scopesOf (u .scopes)) ≡ joined (take (scopes img) (a .clocks)) (take (scopes img) (a .active)) (take (scopes img) (a .ever))
+  own-scopes =
+      let j = joined-take (scopes img) (a .clocks) (a .active) (a .ever) in
+      let l = joined-length mostScopes (a .clocks) (a .active) (a .ever) (record { clocks = x .full .clocks; active = x .full .active; ever = x .full .ever }) in
+      ap (take (scopes img)) (x .holds .scopes .things) ∙ rw (← j) (front-view scope.blank mostScopes (joined (a .clocks) (a .active) (a .ever)) l (scopes img))
+
+  pub state-is : rowState img u ≡ viewOf img a
+  state-is =
+      let k = min (scopes img) mostScopes in
+      let m : take (reactors img) (u .modes) ≡ take (reactors img) (a .modes) = ap (take (reactors img)) (x .holds .modes) ∙ front-view 0 mostReactors (a .modes) (x .full .modes) (reactors img) in
+      let e : take (u .counts .waiting) (eventsOf (u .events)) ≡ take (a .waiting) (a .slots)
+      = rw (x .waiting, x .holds .events .things) (front-view slot.blank mostWaiting (a .slots) (x .full .slots) (a .waiting)) in
+      let v : take (u .held .values) (valuesOf (u .values)) ≡ take (a .store .held) (a .store .values)
+      = rw (x .held, x .holds .values .things) (front-view blankValue mostHeld (a .store .values) (x .full .values) (a .store .held)) in
+      let b : take (u .held .buckets) (bucketsOf (u .buckets)) ≡ take (a .store .«open») (a .store .buckets)
+      = rw (x .open-buckets, x .holds .buckets .things) (front-view blankBucket mostHeld (a .store .buckets) (x .full .buckets) (a .store .«open»)) in
+      rw (
+        m,
+        own-scopes,
+        clocks-of k (take (scopes img) (a .clocks)) (take (scopes img) (a .active)) (take (scopes img) (a .ever)) even,
+        active-of k (take (scopes img) (a .clocks)) (take (scopes img) (a .active)) (take (scopes img) (a .ever)) even,
+        ever-of k (take (scopes img) (a .clocks)) (take (scopes img) (a .active)) (take (scopes img) (a .ever)) even,
+        e,
+        x .work,
+        v,
+        b,
+      )
+
+  pub sound-is : {b : Bool} → b ≡ sound img (u .counts .waiting) (u .held .values) (u .held .buckets) (rowState img u) → b ≡ isSound img a
+  unfolding isSound
+  sound-is e = e ∙ rw (state-is, x .waiting, x .held, x .open-buckets)
+
+  -- ---- a state that keeps the rules
+
+  module _ (s : isSound img a ≡ true) where
+    few-waiting : a .waiting ≤ mostWaiting
+    unfolding isSound sound
+    few-waiting = leb-true _ _ (and-left (leb (a .waiting) mostWaiting) _ s)
+
+    few-values : a .store .held ≤ mostHeld
+    unfolding isSound sound
+    few-values = leb-true _ _ (and-left (leb (a .store .held) mostHeld) _ (and-right (leb (a .waiting) mostWaiting) _ s))
+
+    few-buckets : a .store .«open» ≤ mostHeld
+    unfolding isSound sound
+    few-buckets = leb-true _ _ (and-left (leb (a .store .«open») mostHeld) _ (and-right (leb (a .store .held) mostHeld) _ (and-right (leb (a .waiting) mostWaiting) _ s)))
+
+    pub view-rules : rules img (viewOf img a) ≡ true
+    unfolding isSound sound
+    view-rules = and-right (leb (a .store .«open») mostHeld) _ (and-right (leb (a .store .held) mostHeld) _ (and-right (leb (a .waiting) mostWaiting) _ s))
+
+    pub view-table : isTable img ≡ true
+    unfolding rules
+    view-table = and-left (isTable img) _ view-rules
+
+    long : {A : Type 0} (n N : ℕ) (l : List A) → n ≤ N → length l ≡ N → n ≡ length (take n l)
+    long n N l h e = sym (length-take n l ∙ min-eq-left (rw e h))
+
+    -- what a working function asks of the events
+    pub waits : Waits (u .events) (u .counts)
+    waits =
+        let e : take (u .counts .waiting) (eventsOf (u .events)) ≡ take (a .waiting) (a .slots) = ap (λ (s : State). s .waiting) state-is in
+        record {
+          held = rw e (x .holds .events);
+          few = rw (x .waiting) few-waiting;
+          counted = rw (e, x .work) (rules-tell img (viewOf img a) view-rules .sound .queued .work);
+        }
+
+    -- ---- what is packed again
+
+    module _ (es : List Event) (work : ℕ) (ws : List ℕ) (c : Counts) (q : Queued es work ws c) where
+      queue-held : Holds (withQueue (viewOf img a) es work) (record { modes = u .modes; scopes = u .scopes; events = ws; values = u .values; buckets = u .buckets; counts = c; held = u .held })
+      queue-held = record { modes = x .holds .modes; scopes = x .holds .scopes; events = q .held; values = x .holds .values; buckets = x .holds .buckets }
+
+      pub queue-packs :
+          arraysIn (record { modes = u .modes; scopes = u .scopes; events = ws; values = u .values; buckets = u .buckets; counts = c; held = u .held }) ≡
+          packed (withQueue (viewOf img a) es work)
+      queue-packs =
+          packs (withQueue (viewOf img a) es work) _ (min (scopes img) mostScopes) even queue-held (q .waiting) (q .work)
+          (x .held ∙ long (a .store .held) mostHeld (a .store .values) few-values (x .full .values)) (x .open-buckets ∙ long (a .store .«open») mostHeld (a .store .buckets) few-buckets (x .full .buckets))
+
+-- ---- a fresh manager
+
+map-blank : {A B : Type 0} (f : A → B) (n : ℕ) (a : A) → map f (replicate n a) ≡ replicate n (f a)
+map-blank f zero a = refl
+map-blank f (suc n) a = ap (f a ∷_) (map-blank f n a)
+
+pub bare-is : {ks : List Clock} (active : List Bool) (modes : List ℕ) (blank : Slot) {st : store.Arrays} → ks ≡ map freshClock active → eventOf blank ≡ slot.blank → st ≡ store.freshArrays →
+    record { clocks = ks; active = active; ever = active; modes = modes; slots = map eventOf (replicate mostWaiting blank); waiting = 0; work = 0; store = st } ≡ bareOf (map freshClock active) active modes
+bare-is active modes blank ek eb es = rw (ek, es, map-blank eventOf mostWaiting blank, eb)
+
+bare-packs : (s : State) {active : List Bool} {modes : List ℕ} → s .clocks ≡ map freshClock (s .active) → s .ever ≡ s .active → s .waiting ≡ [] → s .work ≡ 0 → s .store ≡ emptyStore →
+    active ≡ padded false mostScopes (s .active) → modes ≡ padded 0 mostReactors (s .modes) → bareOf (map freshClock active) active modes ≡ packed s
+bare-packs s c e w o t ea em =
+    rw (
+      ea,
+      em,
+      c,
+      e,
+      w,
+      o,
+      t,
+      padded-map freshClock false mostScopes (s .active),
+      padded-none slot.blank mostWaiting,
+      padded-none blankValue mostHeld,
+      padded-none blankBucket mostHeld,
+    )
+
+module _ (img : Image) {k : Checked} (ek : k ≡ check img) (y : k ≡ Accepted) where
+  table-yes : isTable img ≡ true
+  unfolding isTable
+  table-yes = let c : check img ≡ Accepted = sym ek ∙ y in rw c
+
+  pub fresh-scopes : {n : ℕ} → n ≡ scopes img → n ≤ mostScopes
+  fresh-scopes e = rw e (scopes-few img table-yes)
+
+  pub fresh-reactors : {r : ℕ} → r ≡ reactors img → r ≤ mostReactors
+  fresh-reactors e = rw e (reactors-few img table-yes)
+
+  module _ (l : List ℕ) {r : ℕ} {modes : List ℕ} (e : r ≡ reactors img) (m : modes ≡ padded 0 mostReactors l) where
+    pub fresh-prefix : r ≤ length modes
+    fresh-prefix = rw (m, padded-length {A = ℕ} 0 mostReactors l) (fresh-reactors e)
+
+    pub fresh-own : r ≡ length (take r modes)
+    fresh-own = let f = fresh-prefix in sym (length-take r modes ∙ min-eq-left f)
+
+module _ (img : Image) where
+  pub fresh-packs : {k : Checked} {n r : ℕ} {active : List Bool} {modes own : List ℕ} {m : Arrays} → k ≡ check img → k ≡ Accepted → n ≡ scopes img → r ≡ reactors img →
+      modes ≡ padded 0 mostReactors (map (initialMode img) (from 0 r)) → own ≡ take r modes → active ≡ padded false mostScopes (map (isActive img own) (from 0 n)) →
+      m ≡ bareOf (map freshClock active) active modes → m ≡ freshOver img
+  unfolding freshOver isTable fresh
+  fresh-packs {k} {n} {r} {active} {modes} {own} {m} ek y en er em eo ea q =
+      let c : check img ≡ Accepted = sym ek ∙ y in
+      let t : isTable img ≡ true = rw c in
+      let len : length (map (initialMode img) (from 0 r)) ≡ r = length-map (from 0 r) (initialMode img) ∙ length-from 0 r in
+      let few : r ≤ mostReactors = rw er (reactors-few img t) in
+      let p : take (length (map (initialMode img) (from 0 r))) (padded {A = ℕ} 0 mostReactors (map (initialMode img) (from 0 r))) ≡ map (initialMode img) (from 0 r)
+      = padded-take {A = ℕ} 0 mostReactors (map (initialMode img) (from 0 r)) (rw len few) in
+      let o : own ≡ map (initialMode img) (from 0 (reactors img)) = eo ∙ (ap (take r) em ∙ ((rw len at p) ∙ ap (λ (j : ℕ). map (initialMode img) (from 0 j)) er)) in
+      rw c (q ∙ bare-packs (fresh img) refl refl refl refl refl (ea ∙ rw (o, en)) (em ∙ ap (λ (j : ℕ). padded {A = ℕ} 0 mostReactors (map (initialMode img) (from 0 j))) er))
+
+  pub blank-packs : {k : Checked} {x : _} {m : Arrays} → k ≡ check img → k ≡ Refused x → m ≡ bareOf (map freshClock (replicate mostScopes false)) (replicate mostScopes false) (replicate mostReactors 0) → m ≡ freshOver img
+  unfolding freshOver isTable
+  blank-packs ek y q =
+      let c : check img ≡ Refused _ = sym ek ∙ y in
+      rw c (q ∙ bare-packs noState refl refl refl refl refl (sym (padded-none false mostScopes)) (sym (padded-none {A = ℕ} 0 mostReactors)))
+
+-- ---- what is packed is read again
+
+module _ (img : Image) (s : State) (t : isTable img ≡ true) (h : Ruled img s) where
+  again : {A : Type 0} (b : A) (n N : ℕ) (l : List A) → length l ≡ n → n ≤ N → take n (padded b N l) ≡ l
+  again b n N l e f = rw (← e) (padded-take b N l (rw e f))
+
+  pub view-packed : viewOf img (packed s) ≡ s
+  view-packed =
+      let o = h .sound in
+      let f : Kept (actions img) (s .store) = rules-kept (actions img) (s .store) (o .stored) in
+      rw (
+        again {A = ℕ} 0 (reactors img) mostReactors (s .modes) (o .moded .long) (reactors-few img t),
+        again (freshClock false) (scopes img) mostScopes (s .clocks) (o .clocked .long) (scopes-few img t),
+        again false (scopes img) mostScopes (s .active) (o .marked .long) (scopes-few img t),
+        again false (scopes img) mostScopes (s .ever) (o .marked .ever-long) (scopes-few img t),
+        padded-take slot.blank mostWaiting (s .waiting) (o .queued .room),
+        padded-take blankValue mostHeld (s .store .values) (f .few-values),
+        padded-take blankBucket mostHeld (s .store .buckets) (f .few-buckets),
+      )

@@ -1,0 +1,186 @@
+-- The manager as arrays, the plain machine's state in them, and one call on what is handed in. Assumes nothing.
+use Prim.Native.Nat.{ℕ}
+use mathlib.Core.Bool.{Bool, true, false, cond}
+use mathlib.Core.List.{List, []}
+use lib.ListN.{length, take, replicate}
+use Rattle.refusals.specs.declared.Refusal.the-variants as R
+use Rattle.rows.specs.Bytes.{Image}
+use Rattle.table.specs.Check.{isTable}
+use Rattle.tags.specs.Tags.{Tag, Clock, freshClock, zeroTag}
+use Rattle.key_set.specs.Sets.{noKeys, wordCount}
+use Rattle.entries.specs.Entries.{mostHeld, blankValue, blankBucket}
+use Rattle.store.specs.Store.{Store, emptyStore}
+use Rattle.value_store.specs.Calls as store
+use Rattle.value_store.specs.Calls.{heldIn}
+use Rattle.machine.specs.Table.{scopes, reactors}
+use Rattle.machine.specs.State.{Event, State, mostWaiting, fresh}
+use Rattle.machine.specs.Heads.{Ready}
+use Rattle.machine.specs.Machine as M
+use Rattle.machine.specs.Machine.{Call, Reply, Outcome, refusal, perform}
+use Rattle.slots.specs.Slots.{blank}
+use Rattle.scopes.specs.Scopes.{mostScopes}
+use Rattle.lens.specs.Padded.{padded}
+use Rattle.state_rules.specs.Sound.{mostReactors, sound}
+
+-- "Arrays by value of scope clocks, active flags and event slots inside the manager"
+pub record Arrays : Type 0 where
+  pub clocks : List Clock
+  pub active : List Bool
+  pub ever : List Bool
+  pub modes : List ℕ
+  pub slots : List Event
+  pub waiting : ℕ
+  pub work : ℕ
+  pub store : store.Arrays
+
+-- the state in them: of scopes and modes as many as the table has, of events, values and buckets those that are counted
+abbrev pub viewOf : Image → Arrays → State
+viewOf img a =
+    record {
+      modes = take (reactors img) (a .modes);
+      clocks = take (scopes img) (a .clocks);
+      active = take (scopes img) (a .active);
+      ever = take (scopes img) (a .ever);
+      waiting = take (a .waiting) (a .slots);
+      work = a .work;
+      store = heldIn (a .store);
+    }
+
+-- a state in arrays whose other places are blank
+abbrev pub packedStore : Store → store.Arrays
+packedStore st =
+    record {
+      values = padded blankValue mostHeld (st .values);
+      held = length (st .values);
+      buckets = padded blankBucket mostHeld (st .buckets);
+      «open» = length (st .buckets);
+    }
+
+abbrev pub packed : State → Arrays
+packed s =
+    record {
+      clocks = padded (freshClock false) mostScopes (s .clocks);
+      active = padded false mostScopes (s .active);
+      ever = padded false mostScopes (s .ever);
+      modes = padded 0 mostReactors (s .modes);
+      slots = padded blank mostWaiting (s .waiting);
+      waiting = length (s .waiting);
+      work = s .work;
+      store = packedStore (s .store);
+    }
+
+-- no scope, no reactor, and nothing waits or is held
+abbrev pub noState : State
+noState = record { modes = []; clocks = []; active = []; ever = []; waiting = []; work = 0; store = emptyStore }
+
+-- nothing waits or is held
+abbrev pub bareOf : List Clock → List Bool → List ℕ → Arrays
+bareOf clocks active modes =
+    record {
+      clocks = clocks;
+      active = active;
+      ever = active;
+      modes = modes;
+      slots = replicate mostWaiting blank;
+      waiting = 0;
+      work = 0;
+      store = store.freshArrays;
+    }
+
+-- a fresh manager over an accepted table
+unfoldable pub freshOver : Image → Arrays
+freshOver img = cond (isTable img) (packed (fresh img)) (packed noState)
+
+-- ---- one call
+
+-- the state handed in keeps the state rules
+unfoldable pub isSound : Image → Arrays → Bool
+isSound img a = sound img (a .waiting) (a .store .held) (a .store .«open») (viewOf img a)
+
+pub record Answered : Type 0 where
+  pub reply : Reply
+  pub manager : Arrays
+
+abbrev pub answered : Reply → Arrays → Answered
+answered r a = record { reply = r; manager = a }
+
+-- calls that only ask
+abbrev pub asks : Call → Bool
+asks (M.plain t b ks) = false
+asks (M.network t ks) = false
+asks (M.control t) = false
+asks (M.action a t b ks) = false
+asks (M.transit r m k t) = false
+asks M.pop = false
+asks M.peekTag = true
+asks M.onlyControl = true
+asks M.ordinaryWork = true
+asks (M.activeNow i) = true
+asks (M.everActive i) = true
+asks (M.pushValue a t v) = false
+asks (M.nextStep a o m) = true
+asks (M.takeValue a t) = false
+asks (M.clearBefore a t) = false
+asks (M.moveValue a t u) = false
+asks (M.clearAction a) = false
+
+-- "A refusal returns its number and the state as given."
+abbrev pub endedWith : Arrays → State → Reply → Answered
+endedWith a s (M.refusal n) = answered (M.refusal n) a
+endedWith a s M.ok = answered M.ok (packed s)
+endedWith a s M.nothing = answered M.nothing (packed s)
+endedWith a s (M.ready r) = answered (M.ready r) (packed s)
+endedWith a s (M.tag t) = answered (M.tag t) (packed s)
+endedWith a s (M.flag b) = answered (M.flag b) (packed s)
+endedWith a s (M.number n) = answered (M.number n) (packed s)
+
+-- what a call leaves: the manager as it was handed in where it only asks or is refused, else the machine's new state
+abbrev pub ended : Arrays → Bool → Outcome → Answered
+ended a true o = answered (o .reply) a
+ended a false o = endedWith a (o .state) (o .reply)
+
+-- 11 before all else, then the plain machine's answer
+unfoldable pub stepOn : Image → Arrays → Call → Answered
+stepOn img a c = cond (isSound img a) (ended a (asks c) (perform img (viewOf img a) c)) (answered (M.refusal R.StateRule) a)
+
+-- ---- what a pop shows besides: a ready event in places of a fixed number, zeros behind its action keys; blank where there is none
+
+pub record Shown : Type 0 where
+  pub tag : Tag
+  pub terminal : Bool
+  pub work : Bool
+  pub network : Bool
+  pub reactions : List ℕ
+  pub actions : List ℕ
+  pub count : ℕ
+
+abbrev pub shownReady : Ready → Shown
+shownReady r =
+    record {
+      tag = r .tag;
+      terminal = r .terminal;
+      work = r .work;
+      network = r .network;
+      reactions = r .reactions;
+      actions = padded 0 mostWaiting (r .actions);
+      count = length (r .actions);
+    }
+
+abbrev pub noReady : Ready
+noReady = record { tag = zeroTag; terminal = false; work = false; network = false; reactions = noKeys wordCount; actions = [] }
+
+abbrev pub shown : Reply → Shown
+shown (M.ready r) = shownReady r
+shown (M.refusal n) = shownReady noReady
+shown M.ok = shownReady noReady
+shown M.nothing = shownReady noReady
+shown (M.tag t) = shownReady noReady
+shown (M.flag b) = shownReady noReady
+shown (M.number n) = shownReady noReady
+
+pub record Popped : Type 0 where
+  pub answered : Answered
+  pub ready : Shown
+
+abbrev pub popped : Answered → Popped
+popped x = record { answered = x; ready = shown (x .reply) }

@@ -1,0 +1,807 @@
+// The event manager by value: document 01, "The plain machine", "State rules" and "Numbers of refusal".
+// Each call goes to rows, tests the state rules, works there, and comes back; the run of a day works on the rows themselves.
+ghost use mathlib.Core.Path.{_≡_};
+ghost use mathlib.Core.List.{map};
+ghost use Prim.Native.Nat.{_≤_, min};
+ghost use lib.ListN.{length, take};
+ghost use Rattle.rows.specs.Kinds.{scope as scopeKind, reactor as reactorKind, count};
+ghost use Rattle.tags.specs.Views.{ofClock};
+ghost use Rattle.entries.specs.Entries.{mostHeld, blankValue, blankBucket, ofValue, ofBucket};
+ghost use Rattle.entries.specs.Words.{HeldValues, HeldBuckets};
+ghost use Rattle.slots.specs.Slots.{eventOf, eventsOf};
+ghost use Rattle.slots.specs.Slots as slot;
+ghost use Rattle.scopes.specs.Scopes.{mostScopes, scopesOf};
+ghost use Rattle.machine.specs.State.{mostWaiting};
+ghost use Rattle.lens.specs.Padded.{padded};
+ghost use Rattle.lens.specs.Lens.{joined, Scoped};
+ghost use Rattle.state_rules.specs.Sound.{mostReactors};
+ghost use Rattle.manager.specs.Arrays.{isSound, stepOn, shownReady, noReady, popped, bareOf, freshOver};
+ghost use mathlib.Core.Bool.{false};
+ghost use Rattle.lists.specs.Lists.{from};
+ghost use Rattle.rows.specs.Rows.{initialMode};
+ghost use Rattle.schedule.specs.Schedule.{isActive};
+ghost use Rattle.table.specs.Check.{check};
+ghost use Rattle.tags.specs.Tags.{freshClock};
+ghost use Rattle.manager.specs.Views.{arraysOf, arraysIn, Unpacks, withEvents, answeredOf, pushedIn, someWork, replyOf, shownOf, readyIn, readyFrom, poppedOf, poppedIn};
+ghost use Rattle.pops.specs.Pops.{replyOf as peekedReply};
+ghost use Rattle.tags.specs.Views.{ofGlobal};
+ghost use Rattle.machine.specs.Machine.{plain, network, control, action, peekTag, onlyControl, ordinaryWork, activeNow, everActive, pop};
+use entries::BUCKET_WORDS;
+use entries::Bucket;
+use entries::BucketRows;
+use entries::MOST_HELD;
+use entries::VALUE_WORDS;
+use entries::Value;
+use entries::ValueRows;
+use key_set::KeySet;
+use plan::MOST_REACTORS;
+use pops::Peeked;
+use pushes::ActionPush;
+use pushes::Outcome;
+use pushes::Pushed;
+use refusals::Refusal;
+use scopes::MOST_SCOPES;
+use scopes::Scope;
+use slots::MOST_WAITING;
+use slots::Slot;
+use state_rules::Given;
+use table::Checked;
+use tags::GlobalTag;
+use tags::ScopeClock;
+use value_store::Store;
+
+// Clocks, active now and ever active by scope, modes by reactor, the events that wait and how many of them are ordinary, and the value store.
+pub struct Manager {
+    pub clocks: [ScopeClock; MOST_SCOPES],
+    pub active: [bool; MOST_SCOPES],
+    pub ever: [bool; MOST_SCOPES],
+    pub modes: [u16; MOST_REACTORS],
+    pub slots: [Slot; MOST_WAITING],
+    pub waiting: usize,
+    pub work: usize,
+    pub store: Store,
+}
+
+// The same as rows of words, with blanks behind what is in use.
+struct Unpacked {
+    modes: [u16; MOST_REACTORS],
+    scopes: [u64; scopes::ROOM],
+    events: [u64; slots::ROOM],
+    values: ValueRows,
+    buckets: BucketRows,
+    counts: lens::Counts,
+    held: store_calls::Counts,
+}
+
+// ---- to rows: of what is in use, and blanks behind it
+
+fn at_most(n: usize, most: usize) -> usize
+    ensures { λ r. ⌜ r ≡ min n most ⌝ }
+{
+    if n < most {
+        return n;
+    }
+    most
+}
+
+fn mode_rows(modes: [u16; MOST_REACTORS], n: usize) -> [u16; MOST_REACTORS]
+    ensures { λ r. ⌜ r ≡ padded 0 mostReactors (take n modes) ⌝ }
+    ensures { λ _. ⌜ length modes ≡ mostReactors ⌝ }
+{
+    let end = at_most(n, MOST_REACTORS);
+    let mut out = [0u16; MOST_REACTORS];
+    let mut i: usize = 0;
+    while i < end {
+        out[i] = modes[i];
+        i += 1;
+    }
+    out
+}
+
+fn scope_rows(
+    clocks: [ScopeClock; MOST_SCOPES],
+    active: [bool; MOST_SCOPES],
+    ever: [bool; MOST_SCOPES],
+    n: usize,
+) -> [u64; scopes::ROOM]
+    ensures { λ r. ⌜ Scoped (take n (joined (map ofClock clocks) active ever)) r ⌝ }
+    ensures { λ _. ⌜ (length clocks ≡ mostScopes) × (length active ≡ mostScopes) × (length ever ≡ mostScopes) ⌝ }
+{
+    let end = at_most(n, MOST_SCOPES);
+    let mut rows = scopes::blank_rows();
+    let mut i: usize = 0;
+    while i < end {
+        let clock = clocks[i];
+        let now = active[i];
+        let before = ever[i];
+        let s = Scope {
+            clock,
+            active: now,
+            ever: before,
+        };
+        scopes::put_scope(&mut rows, i, s);
+        i += 1;
+    }
+    rows
+}
+
+fn slot_rows(slots: [Slot; MOST_WAITING], n: usize) -> [u64; slots::ROOM]
+    ensures { λ r. ⌜ slot.Held r (padded slot.blank mostWaiting (take n (map eventOf slots))) ⌝ }
+    ensures { λ _. ⌜ length slots ≡ mostWaiting ⌝ }
+{
+    let end = at_most(n, MOST_WAITING);
+    let mut rows = slots::blank_rows();
+    let mut i: usize = 0;
+    while i < end {
+        let s = slots[i];
+        slots::put_slot(&mut rows, i, s);
+        i += 1;
+    }
+    rows
+}
+
+fn value_rows(values: [Value; MOST_HELD], n: usize) -> ValueRows
+    ensures { λ r. ⌜ HeldValues r (padded blankValue mostHeld (take n (map ofValue values))) ⌝ }
+    ensures { λ _. ⌜ length values ≡ mostHeld ⌝ }
+{
+    let end = at_most(n, MOST_HELD);
+    let mut rows = [0u64; MOST_HELD * VALUE_WORDS];
+    let mut i: usize = 0;
+    while i < end {
+        let v = values[i];
+        entries::put_value(&mut rows, i, v);
+        i += 1;
+    }
+    rows
+}
+
+fn bucket_rows(buckets: [Bucket; MOST_HELD], n: usize) -> BucketRows
+    ensures { λ r. ⌜ HeldBuckets r (padded blankBucket mostHeld (take n (map ofBucket buckets))) ⌝ }
+    ensures { λ _. ⌜ length buckets ≡ mostHeld ⌝ }
+{
+    let end = at_most(n, MOST_HELD);
+    let mut rows = [0u64; MOST_HELD * BUCKET_WORDS];
+    let mut i: usize = 0;
+    while i < end {
+        let b = buckets[i];
+        entries::put_bucket(&mut rows, i, b);
+        i += 1;
+    }
+    rows
+}
+
+fn unpack(image: &[u8], m: Manager) -> Unpacked
+    ensures { λ r. ⌜ Unpacks (now (image .entry)) (arraysOf m) r ⌝ }
+{
+    let scope_count = rows::count(image, rows::SCOPE);
+    let reactor_count = rows::count(image, rows::REACTOR);
+    let all_modes = m.modes;
+    let clocks = m.clocks;
+    let active = m.active;
+    let ever = m.ever;
+    let slots = m.slots;
+    let store = m.store;
+    let all_values = store.values;
+    let all_buckets = store.buckets;
+    let modes = mode_rows(all_modes, reactor_count as usize);
+    let scopes = scope_rows(clocks, active, ever, scope_count as usize);
+    let events = slot_rows(slots, m.waiting);
+    let values = value_rows(all_values, store.held);
+    let buckets = bucket_rows(all_buckets, store.open);
+    let counts = lens::Counts {
+        waiting: m.waiting,
+        work: m.work,
+    };
+    let held = store_calls::Counts {
+        values: store.held,
+        buckets: store.open,
+    };
+    Unpacked {
+        modes,
+        scopes,
+        events,
+        values,
+        buckets,
+        counts,
+        held,
+    }
+}
+
+// ---- and back
+
+fn slots_of(rows: &[u64; slots::ROOM]) -> [Slot; MOST_WAITING]
+    ensures { λ r. ⌜ map eventOf r ≡ eventsOf (now (rows .entry)) ⌝ }
+{
+    let blank = Slot::blank();
+    let mut out = [blank; MOST_WAITING];
+    let mut i: usize = 0;
+    while i < MOST_WAITING {
+        let s = slots::slot_at(rows, i);
+        out[i] = s;
+        i += 1;
+    }
+    out
+}
+
+fn clocks_of(rows: &[u64; scopes::ROOM]) -> [ScopeClock; MOST_SCOPES]
+    ensures { λ r. ⌜ map ofClock r ≡ map (λ x. x .clock) (scopesOf (now (rows .entry))) ⌝ }
+{
+    let blank = ScopeClock::fresh(false);
+    let mut out = [blank; MOST_SCOPES];
+    let mut i: usize = 0;
+    while i < MOST_SCOPES {
+        let s = scopes::scope_at(rows, i);
+        let clock = s.clock;
+        out[i] = clock;
+        i += 1;
+    }
+    out
+}
+
+fn active_of(rows: &[u64; scopes::ROOM]) -> [bool; MOST_SCOPES]
+    ensures { λ r. ⌜ r ≡ map (λ x. x .active) (scopesOf (now (rows .entry))) ⌝ }
+{
+    let mut out = [false; MOST_SCOPES];
+    let mut i: usize = 0;
+    while i < MOST_SCOPES {
+        let s = scopes::scope_at(rows, i);
+        out[i] = s.active;
+        i += 1;
+    }
+    out
+}
+
+fn ever_of(rows: &[u64; scopes::ROOM]) -> [bool; MOST_SCOPES]
+    ensures { λ r. ⌜ r ≡ map (λ x. x .ever) (scopesOf (now (rows .entry))) ⌝ }
+{
+    let mut out = [false; MOST_SCOPES];
+    let mut i: usize = 0;
+    while i < MOST_SCOPES {
+        let s = scopes::scope_at(rows, i);
+        out[i] = s.ever;
+        i += 1;
+    }
+    out
+}
+
+fn pack(u: Unpacked) -> Manager
+    ensures { λ r. ⌜ arraysOf r ≡ arraysIn u ⌝ }
+{
+    let scope_words = u.scopes;
+    let event_words = u.events;
+    let value_words = u.values;
+    let bucket_words = u.buckets;
+    let modes = u.modes;
+    let clocks = clocks_of(&scope_words);
+    let active = active_of(&scope_words);
+    let ever = ever_of(&scope_words);
+    let slots = slots_of(&event_words);
+    let store = value_store::store_of(&value_words, &bucket_words, u.held);
+    Manager {
+        clocks,
+        active,
+        ever,
+        modes,
+        slots,
+        waiting: u.counts.waiting,
+        work: u.counts.work,
+        store,
+    }
+}
+
+// ---- a fresh manager
+
+fn first_modes(image: &[u8], n: u16) -> [u16; MOST_REACTORS]
+    requires { ⌜ n ≤ mostReactors ⌝ }
+    ensures { λ r. ⌜ r ≡ padded 0 mostReactors (map (initialMode (now (image .entry))) (from 0 n)) ⌝ }
+{
+    let mut out = [0u16; MOST_REACTORS];
+    let mut i: u16 = 0;
+    while i < n {
+        let mode = rows::initial_mode(image, i);
+        let k = i as usize;
+        out[k] = mode;
+        i += 1;
+    }
+    out
+}
+
+fn first_active(image: &[u8], modes: &[u16], n: u16) -> [bool; MOST_SCOPES]
+    requires { ⌜ n ≤ mostScopes ⌝ }
+    ensures { λ r. ⌜ r ≡ padded false mostScopes (map (isActive (now (image .entry)) (now (modes .entry))) (from 0 n)) ⌝ }
+{
+    let mut out = [false; MOST_SCOPES];
+    let mut i: u16 = 0;
+    while i < n {
+        let active = schedule::is_active(image, modes, i);
+        let k = i as usize;
+        out[k] = active;
+        i += 1;
+    }
+    out
+}
+
+fn first_clocks(active: [bool; MOST_SCOPES]) -> [ScopeClock; MOST_SCOPES]
+    ensures { λ r. ⌜ map ofClock r ≡ map freshClock active ⌝ }
+{
+    let blank = ScopeClock::fresh(false);
+    let mut out = [blank; MOST_SCOPES];
+    let mut i: usize = 0;
+    while i < MOST_SCOPES {
+        let now = active[i];
+        let clock = ScopeClock::fresh(now);
+        out[i] = clock;
+        i += 1;
+    }
+    out
+}
+
+fn bare(active: [bool; MOST_SCOPES], modes: [u16; MOST_REACTORS]) -> Manager
+    ensures { λ r. ⌜ arraysOf r ≡ bareOf (map freshClock active) active modes ⌝ }
+{
+    let clocks = first_clocks(active);
+    let blank = Slot::blank();
+    let slots = [blank; MOST_WAITING];
+    let store = Store::new();
+    Manager {
+        clocks,
+        active,
+        ever: active,
+        modes,
+        slots,
+        waiting: 0,
+        work: 0,
+        store,
+    }
+}
+
+// What the table check answers, and over an accepted table the fresh manager, else a blank one.
+pub struct Fresh {
+    pub checked: Checked,
+    pub manager: Manager,
+}
+
+// ---- what every call begins and ends with
+
+// Whether the state handed in keeps the state rules, and its rows.
+struct Entered {
+    sound: bool,
+    rows: Unpacked,
+}
+
+fn enter(image: &[u8], m: Manager) -> Entered
+    ensures { λ r. ⌜ r .sound ≡ isSound (now (image .entry)) (arraysOf m) ⌝ }
+    ensures { λ r. ⌜ Unpacks (now (image .entry)) (arraysOf m) (r .rows) ⌝ }
+{
+    let rows = unpack(image, m);
+    let modes = rows.modes;
+    let scopes = rows.scopes;
+    let events = rows.events;
+    let values = rows.values;
+    let buckets = rows.buckets;
+    let counts = rows.counts;
+    let held = rows.held;
+    let given = Given {
+        modes,
+        counts,
+        held,
+    };
+    let sound = state_rules::keeps_rules(image, given, &scopes, &events, &values, &buckets);
+    Entered { sound, rows }
+}
+
+// The rows with other events, as a manager again.
+fn leave(u: Unpacked, events: [u64; slots::ROOM], counts: lens::Counts) -> Manager
+    ensures { λ r. ⌜ arraysOf r ≡ arraysIn (withEvents u events counts) ⌝ }
+{
+    let mut rows = u;
+    rows.events = events;
+    rows.counts = counts;
+    pack(rows)
+}
+
+// What a call answers.
+pub enum Answer {
+    Done,
+    Nothing,
+    Tag(GlobalTag),
+    Flag(bool),
+    Number(usize),
+    Refused(Refusal),
+}
+
+// The answer, and the manager after the call.
+pub struct Answered {
+    pub answer: Answer,
+    pub manager: Manager,
+}
+
+// What a push answers and leaves: the manager as it was handed in where it is refused.
+fn finish_push(m: Manager, u: Unpacked, events: [u64; slots::ROOM], p: Pushed) -> Answered
+    ensures { λ r. ⌜ answeredOf r ≡ pushedIn (arraysOf m) u events p ⌝ }
+{
+    let outcome = p.outcome;
+    let counts = p.counts;
+    match outcome {
+        Outcome::Refused(n) => Answered {
+            answer: Answer::Refused(n),
+            manager: m,
+        },
+        Outcome::Done => {
+            let manager = leave(u, events, counts);
+            Answered {
+                answer: Answer::Done,
+                manager,
+            }
+        }
+    }
+}
+
+fn peeked(p: Peeked) -> Answer
+    ensures { λ r. ⌜ replyOf r ≡ peekedReply p ⌝ }
+{
+    match p {
+        Peeked::Nothing => Answer::Nothing,
+        Peeked::At(t) => Answer::Tag(t),
+    }
+}
+
+// A ready event: its tag, flags and reactions, and the keys of its actions in order of taking, zeros behind them.
+pub struct Ready {
+    pub tag: GlobalTag,
+    pub terminal: bool,
+    pub work: bool,
+    pub network: bool,
+    pub reactions: KeySet,
+    pub actions: [u16; MOST_WAITING],
+    pub count: usize,
+}
+
+// Whether a pop found a ready event.
+pub enum Pop {
+    Ready,
+    Nothing,
+    Refused(Refusal),
+}
+
+// The ready event is blank where there is none.
+pub struct Popped {
+    pub outcome: Pop,
+    pub ready: Ready,
+    pub manager: Manager,
+}
+
+fn no_ready() -> Ready
+    ensures { λ r. ⌜ shownOf r ≡ shownReady noReady ⌝ }
+{
+    let none = KeySet::empty();
+    Ready {
+        tag: GlobalTag(0, 0),
+        terminal: false,
+        work: false,
+        network: false,
+        reactions: none,
+        actions: [0u16; MOST_WAITING],
+        count: 0,
+    }
+}
+
+// The first n keys, and zeros behind them.
+fn own_keys(keys: [u16; MOST_WAITING], n: usize) -> [u16; MOST_WAITING]
+    ensures { λ r. ⌜ r ≡ padded 0 mostWaiting (take n keys) ⌝ }
+    ensures { λ _. ⌜ length keys ≡ mostWaiting ⌝ }
+{
+    let end = at_most(n, MOST_WAITING);
+    let mut out = [0u16; MOST_WAITING];
+    let mut i: usize = 0;
+    while i < end {
+        out[i] = keys[i];
+        i += 1;
+    }
+    out
+}
+
+fn ready_of(p: pops::Popped, keys: [u16; MOST_WAITING]) -> Ready
+    requires { ⌜ p .gathered .actions ≤ mostWaiting ⌝ }
+    ensures { λ r. ⌜ (shownOf r ≡ shownReady (readyFrom p keys)) × (readyIn (shownOf r) ≡ readyFrom p keys) ⌝ }
+{
+    let g = p.gathered;
+    let count = g.actions;
+    let actions = own_keys(keys, count);
+    let tag = p.tag;
+    let reactions = g.reactions;
+    Ready {
+        tag,
+        terminal: g.terminal,
+        work: g.work,
+        network: g.network,
+        reactions,
+        actions,
+        count,
+    }
+}
+
+fn finish_pop(
+    u: Unpacked,
+    events: [u64; slots::ROOM],
+    keys: [u16; MOST_WAITING],
+    p: pops::Popped,
+) -> Popped
+    requires { ⌜ p .gathered .actions ≤ mostWaiting ⌝ }
+    ensures { λ r. ⌜ poppedOf r ≡ poppedIn u events keys p ⌝ }
+{
+    let left = p.counts;
+    let manager = leave(u, events, left);
+    if p.found {
+        let ready = ready_of(p, keys);
+        return Popped {
+            outcome: Pop::Ready,
+            ready,
+            manager,
+        };
+    }
+    let none = no_ready();
+    Popped {
+        outcome: Pop::Nothing,
+        ready: none,
+        manager,
+    }
+}
+
+impl Manager {
+    // The initial modes, and nothing waits or is held.
+    pub fn fresh(image: &[u8]) -> Fresh
+        ensures { λ r. ⌜ r .checked ≡ check (now (image .entry)) ⌝ }
+        ensures { λ r. ⌜ arraysOf (r .manager) ≡ freshOver (now (image .entry)) ⌝ }
+    {
+        let checked = table::check(image);
+        match checked {
+            Checked::Refused(_) => {
+                let manager = bare([false; MOST_SCOPES], [0u16; MOST_REACTORS]);
+                Fresh { checked, manager }
+            }
+            Checked::Accepted => {
+                let scope_count = rows::count(image, rows::SCOPE);
+                let reactor_count = rows::count(image, rows::REACTOR);
+                let modes = first_modes(image, reactor_count);
+                let k = reactor_count as usize;
+                let active = first_active(image, &modes[..k], scope_count);
+                let manager = bare(active, modes);
+                Fresh { checked, manager }
+            }
+        }
+    }
+
+    // ---- pushes
+
+    // A plain event, to the root at its tag.
+    pub fn push_event(self, image: &[u8], tag: GlobalTag, terminal: bool, keys: &[u16]) -> Answered
+        ensures { λ r. ⌜ answeredOf r ≡ stepOn (now (image .entry)) (arraysOf self) (plain (ofGlobal tag) terminal (now (keys .entry))) ⌝ }
+    {
+        let e = enter(image, self);
+        let u = e.rows;
+        let mut events = u.events;
+        let counts = u.counts;
+        if !e.sound {
+            return Answered {
+                answer: Answer::Refused(Refusal::StateRule),
+                manager: self,
+            };
+        }
+        let p = pushes::push_event(image, &mut events, counts, tag, terminal, keys);
+        finish_push(self, u, events, p)
+    }
+
+    // An event from the network, to the root at its tag.
+    pub fn push_network_event(self, image: &[u8], tag: GlobalTag, keys: &[u16]) -> Answered
+        ensures { λ r. ⌜ answeredOf r ≡ stepOn (now (image .entry)) (arraysOf self) (network (ofGlobal tag) (now (keys .entry))) ⌝ }
+    {
+        let e = enter(image, self);
+        let u = e.rows;
+        let mut events = u.events;
+        let counts = u.counts;
+        if !e.sound {
+            return Answered {
+                answer: Answer::Refused(Refusal::StateRule),
+                manager: self,
+            };
+        }
+        let p = pushes::push_network_event(image, &mut events, counts, tag, keys);
+        finish_push(self, u, events, p)
+    }
+
+    // A control event, to the root at its tag.
+    pub fn push_control_event(self, image: &[u8], tag: GlobalTag) -> Answered
+        ensures { λ r. ⌜ answeredOf r ≡ stepOn (now (image .entry)) (arraysOf self) (control (ofGlobal tag)) ⌝ }
+    {
+        let e = enter(image, self);
+        let u = e.rows;
+        let mut events = u.events;
+        let counts = u.counts;
+        if !e.sound {
+            return Answered {
+                answer: Answer::Refused(Refusal::StateRule),
+                manager: self,
+            };
+        }
+        let p = pushes::push_control_event(&mut events, counts, tag);
+        finish_push(self, u, events, p)
+    }
+
+    // An action's event, to the root or to its scope at the local tag.
+    pub fn push_action_event(self, image: &[u8], push: ActionPush, keys: &[u16]) -> Answered
+        ensures { λ r. ⌜ answeredOf r ≡ stepOn (now (image .entry)) (arraysOf self) (action (push .action) (ofGlobal (push .tag)) (push .terminal) (now (keys .entry))) ⌝ }
+    {
+        let e = enter(image, self);
+        let u = e.rows;
+        let scopes = u.scopes;
+        let mut events = u.events;
+        let counts = u.counts;
+        if !e.sound {
+            return Answered {
+                answer: Answer::Refused(Refusal::StateRule),
+                manager: self,
+            };
+        }
+        let p = pushes::push_action_event(image, &scopes, &mut events, counts, push, keys);
+        finish_push(self, u, events, p)
+    }
+
+    // ---- questions
+
+    // The least head's tag over root and active scopes.
+    pub fn peek_tag(self, image: &[u8]) -> Answered
+        ensures { λ r. ⌜ answeredOf r ≡ stepOn (now (image .entry)) (arraysOf self) peekTag ⌝ }
+    {
+        let e = enter(image, self);
+        let u = e.rows;
+        let scopes = u.scopes;
+        let events = u.events;
+        let counts = u.counts;
+        if !e.sound {
+            return Answered {
+                answer: Answer::Refused(Refusal::StateRule),
+                manager: self,
+            };
+        }
+        let answer = peeked(pops::peek_tag(image, &scopes, &events, counts));
+        Answered {
+            answer,
+            manager: self,
+        }
+    }
+
+    // Only control events of the root are at the peek tag.
+    pub fn peek_is_control_only(self, image: &[u8]) -> Answered
+        ensures { λ r. ⌜ answeredOf r ≡ stepOn (now (image .entry)) (arraysOf self) onlyControl ⌝ }
+    {
+        let e = enter(image, self);
+        let u = e.rows;
+        let scopes = u.scopes;
+        let events = u.events;
+        let counts = u.counts;
+        if !e.sound {
+            return Answered {
+                answer: Answer::Refused(Refusal::StateRule),
+                manager: self,
+            };
+        }
+        let only = pops::peek_is_control_only(image, &scopes, &events, counts);
+        Answered {
+            answer: Answer::Flag(only),
+            manager: self,
+        }
+    }
+
+    // How many ordinary events wait, those of suspended scopes too.
+    pub fn nonterminal_work(self, image: &[u8]) -> Answered
+        ensures { λ r. ⌜ answeredOf r ≡ stepOn (now (image .entry)) (arraysOf self) ordinaryWork ⌝ }
+    {
+        let e = enter(image, self);
+        if !e.sound {
+            return Answered {
+                answer: Answer::Refused(Refusal::StateRule),
+                manager: self,
+            };
+        }
+        Answered {
+            answer: Answer::Number(self.work),
+            manager: self,
+        }
+    }
+
+    // Some ordinary event waits.
+    pub fn has_nonterminal_work(self, image: &[u8]) -> Answered
+        ensures { λ r. ⌜ answeredOf r ≡ someWork (stepOn (now (image .entry)) (arraysOf self) ordinaryWork) ⌝ }
+    {
+        let e = enter(image, self);
+        if !e.sound {
+            return Answered {
+                answer: Answer::Refused(Refusal::StateRule),
+                manager: self,
+            };
+        }
+        Answered {
+            answer: Answer::Flag(0 < self.work),
+            manager: self,
+        }
+    }
+
+    // The scope is active now.
+    pub fn scope_active(self, image: &[u8], scope: u16) -> Answered
+        ensures { λ r. ⌜ answeredOf r ≡ stepOn (now (image .entry)) (arraysOf self) (activeNow scope) ⌝ }
+    {
+        let e = enter(image, self);
+        let u = e.rows;
+        let words = u.scopes;
+        if !e.sound {
+            return Answered {
+                answer: Answer::Refused(Refusal::StateRule),
+                manager: self,
+            };
+        }
+        let n = rows::count(image, rows::SCOPE);
+        if n <= scope {
+            return Answered {
+                answer: Answer::Refused(Refusal::Key),
+                manager: self,
+            };
+        }
+        let s = scopes::scope_at(&words, scope as usize);
+        Answered {
+            answer: Answer::Flag(s.active),
+            manager: self,
+        }
+    }
+
+    // The scope was active at some time.
+    pub fn scope_ever_active(self, image: &[u8], scope: u16) -> Answered
+        ensures { λ r. ⌜ answeredOf r ≡ stepOn (now (image .entry)) (arraysOf self) (everActive scope) ⌝ }
+    {
+        let e = enter(image, self);
+        let u = e.rows;
+        let words = u.scopes;
+        if !e.sound {
+            return Answered {
+                answer: Answer::Refused(Refusal::StateRule),
+                manager: self,
+            };
+        }
+        let n = rows::count(image, rows::SCOPE);
+        if n <= scope {
+            return Answered {
+                answer: Answer::Refused(Refusal::Key),
+                manager: self,
+            };
+        }
+        let s = scopes::scope_at(&words, scope as usize);
+        Answered {
+            answer: Answer::Flag(s.ever),
+            manager: self,
+        }
+    }
+
+    // ---- pop
+
+    // The events at the peek tag: the root's, then the scopes'.
+    pub fn pop_next_event(self, image: &[u8]) -> Popped
+        ensures { λ r. ⌜ poppedOf r ≡ popped (stepOn (now (image .entry)) (arraysOf self) pop) ⌝ }
+    {
+        let e = enter(image, self);
+        let u = e.rows;
+        let scopes = u.scopes;
+        let mut events = u.events;
+        let counts = u.counts;
+        if !e.sound {
+            let none = no_ready();
+            return Popped {
+                outcome: Pop::Refused(Refusal::StateRule),
+                ready: none,
+                manager: self,
+            };
+        }
+        let mut keys = [0u16; MOST_WAITING];
+        let p = pops::pop_next_event(image, &scopes, &mut events, counts, &mut keys);
+        finish_pop(u, events, keys, p)
+    }
+}
