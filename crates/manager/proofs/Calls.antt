@@ -50,7 +50,7 @@ use Rattle.pops.proofs.AsMachine as pops
 use Rattle.manager.specs.Arrays.{Arrays, Answered, answered, asks, ended, endedWith, packed, viewOf, isSound, stepOn, Shown, shownReady, noReady, Popped, popped}
 use Rattle.manager.specs.Views.{arraysIn, withEvents, pushedAs, pushedIn, someWork, Unpacks, readyIn, readyFrom, poppedIn}
 use Rattle.manager.specs.declared.Unpacked.{Unpacked}
-use Rattle.manager.proofs.Packs.{rowState, state-is, view-table, waits, queue-packs}
+use Rattle.manager.proofs.Packs.{rowState, state-is, table-of-sound, waits, queue-packs}
 
 -- ---- answers
 
@@ -122,7 +122,7 @@ module _ (img : Image) (a : Arrays) {b : Bool} (eb : b ≡ isSound img a) where
       call-few = call-waits .few
 
       pub call-scopes : scopes img ≤ mostScopes
-      call-scopes = scopes-few img (view-table img a u x sound)
+      call-scopes = scopes-few img (table-of-sound img a sound)
 
       -- what the machine does on the state in the rows
       performs : (c : Call) (o : Outcome) → perform img (rowState img u) c ≡ o → stepOn img a c ≡ ended a (asks c) o
@@ -213,7 +213,7 @@ module _ (img : Image) (a : Arrays) {b : Bool} (eb : b ≡ isSound img a) where
         call-action k t terminal ks d =
             er ∙
             push-call (M.action k t terminal ks) _ p ws refl
-            (action-performs img (u .modes) ss es (u .counts .work) (storeOf (u .values) (u .buckets) (u .held)) k (λ h. action-scope img (table-is img (view-table img a u x sound)) k h) t terminal ks) d
+            (action-performs img (u .modes) ss es (u .counts .work) (storeOf (u .values) (u .buckets) (u .held)) k (λ h. action-scope img (table-is img (table-of-sound img a sound)) k h) t terminal ks) d
 
       -- ---- pop
 

@@ -1,3 +1,5 @@
 pub mod Front
 pub mod Packs
 pub mod Calls
+pub mod Runs
+pub mod Transits

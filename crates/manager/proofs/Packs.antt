@@ -31,6 +31,7 @@ use Rattle.scopes.specs.Scopes.{Scope, mostScopes, scopesOf}
 use Rattle.lens.specs.declared.Counts.{Counts}
 use Rattle.lens.specs.Padded.{padded, padded-none, padded-length, padded-take, padded-map}
 use Rattle.lens.specs.Lens.{Queued, Waits, Stored, Fits, joined, joined-length, scopesFrom, stateIn, Scoped, Even, clocks-of, active-of, ever-of}
+use Rattle.unpacked.specs.Unpacked as rows
 use Rattle.state_rules.specs.Sound.{mostReactors, sound}
 use Rattle.manager.specs.Arrays.{Arrays, viewOf, packed, isSound, noState, bareOf, freshOver}
 use Rattle.value_store.specs.Calls as store
@@ -121,6 +122,24 @@ packs t u k e h w o v b =
       b,
     )
 
+-- what a state handed in that is sound keeps
+module _ (img : Image) (a : Arrays) (s : isSound img a ≡ true) where
+  pub rules-of-sound : rules img (viewOf img a) ≡ true
+  unfolding isSound sound
+  rules-of-sound = and-right (leb (a .store .«open») mostHeld) _ (and-right (leb (a .store .held) mostHeld) _ (and-right (leb (a .waiting) mostWaiting) _ s))
+
+  pub table-of-sound : isTable img ≡ true
+  unfolding rules
+  table-of-sound = and-left (isTable img) _ rules-of-sound
+
+pub unpacked-packs :
+    (t : State) (u : Unpacked) (k : ℕ) → Even k (t .clocks) (t .active) (t .ever) →
+    rows.Unpacked t (u .modes) (u .scopes) (u .events) (u .values) (u .buckets) (u .counts) (u .held) → arraysIn u ≡ packed t
+unpacked-packs t u k e h =
+    packs t u k e
+    (record { modes = h .in-modes; scopes = h .in-scopes; events = h .in-events .held; values = h .in-store .values; buckets = h .in-store .buckets })
+    (h .in-events .waiting) (h .in-events .work) (h .in-store .some-values) (h .in-store .some-buckets)
+
 module _ (img : Image) (a : Arrays) (u : Unpacked) (x : Unpacks img a u) where
   short : {A : Type 0} (l : List A) → length l ≡ mostScopes → length (take (scopes img) l) ≡ min (scopes img) mostScopes
   short l e = length-take (scopes img) l ∙ ap (min (scopes img)) e
@@ -175,14 +194,6 @@ module _ (img : Image) (a : Arrays) (u : Unpacked) (x : Unpacks img a u) where
     unfolding isSound sound
     few-buckets = leb-true _ _ (and-left (leb (a .store .«open») mostHeld) _ (and-right (leb (a .store .held) mostHeld) _ (and-right (leb (a .waiting) mostWaiting) _ s)))
 
-    pub view-rules : rules img (viewOf img a) ≡ true
-    unfolding isSound sound
-    view-rules = and-right (leb (a .store .«open») mostHeld) _ (and-right (leb (a .store .held) mostHeld) _ (and-right (leb (a .waiting) mostWaiting) _ s))
-
-    pub view-table : isTable img ≡ true
-    unfolding rules
-    view-table = and-left (isTable img) _ view-rules
-
     long : {A : Type 0} (n N : ℕ) (l : List A) → n ≤ N → length l ≡ N → n ≡ length (take n l)
     long n N l h e = sym (length-take n l ∙ min-eq-left (rw e h))
 
@@ -193,7 +204,23 @@ module _ (img : Image) (a : Arrays) (u : Unpacked) (x : Unpacks img a u) where
         record {
           held = rw e (x .holds .events);
           few = rw (x .waiting) few-waiting;
-          counted = rw (e, x .work) (rules-tell img (viewOf img a) view-rules .sound .queued .work);
+          counted = rw (e, x .work) (rules-tell img (viewOf img a) (rules-of-sound img a s) .sound .queued .work);
+        }
+
+    -- the rows hold the state, as a working function on all of it asks
+    pub unpacked : rows.Unpacked (viewOf img a) (u .modes) (u .scopes) (u .events) (u .values) (u .buckets) (u .counts) (u .held)
+    unpacked =
+        record {
+          in-modes = x .holds .modes;
+          in-scopes = x .holds .scopes;
+          in-events = record { held = x .holds .events; waiting = x .waiting ∙ long (a .waiting) mostWaiting (a .slots) few-waiting (x .full .slots); work = x .work };
+          in-store =
+              record {
+                values = x .holds .values;
+                buckets = x .holds .buckets;
+                some-values = x .held ∙ long (a .store .held) mostHeld (a .store .values) few-values (x .full .values);
+                some-buckets = x .open-buckets ∙ long (a .store .«open») mostHeld (a .store .buckets) few-buckets (x .full .buckets);
+              };
         }
 
     -- ---- what is packed again
@@ -207,7 +234,7 @@ module _ (img : Image) (a : Arrays) (u : Unpacked) (x : Unpacks img a u) where
           packed (withQueue (viewOf img a) es work)
       queue-packs =
           packs (withQueue (viewOf img a) es work) _ (min (scopes img) mostScopes) even queue-held (q .waiting) (q .work)
-          (x .held ∙ long (a .store .held) mostHeld (a .store .values) few-values (x .full .values)) (x .open-buckets ∙ long (a .store .«open») mostHeld (a .store .buckets) few-buckets (x .full .buckets))
+          (unpacked .in-store .some-values) (unpacked .in-store .some-buckets)
 
 -- ---- a fresh manager
 

@@ -1,7 +1,7 @@
 -- The manager as arrays, the plain machine's state in them, and one call on what is handed in. Assumes nothing.
 use Prim.Native.Nat.{ℕ}
 use mathlib.Core.Bool.{Bool, true, false, cond}
-use mathlib.Core.List.{List, []}
+use mathlib.Core.List.{List, [], _∷_}
 use lib.ListN.{length, take, replicate}
 use Rattle.refusals.specs.declared.Refusal.the-variants as R
 use Rattle.rows.specs.Bytes.{Image}
@@ -142,6 +142,11 @@ ended a false o = endedWith a (o .state) (o .reply)
 -- 11 before all else, then the plain machine's answer
 unfoldable pub stepOn : Image → Arrays → Call → Answered
 stepOn img a c = cond (isSound img a) (ended a (asks c) (perform img (viewOf img a) c)) (answered (M.refusal R.StateRule) a)
+
+-- the manager after some calls, each handed the one that the call before gave
+unfoldable pub runOn : Image → Arrays → List Call → Arrays
+runOn img a [] = a
+runOn img a (c ∷ cs) = runOn img (stepOn img a c .manager) cs
 
 -- ---- what a pop shows besides: a ready event in places of a fixed number, zeros behind its action keys; blank where there is none
 

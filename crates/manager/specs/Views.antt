@@ -11,6 +11,8 @@ use Rattle.entries.specs.Entries.{mostHeld, blankValue, blankBucket}
 use Rattle.entries.specs.Words.{valuesOf, bucketsOf, HeldValues, HeldBuckets}
 use Rattle.store_calls.specs.declared.Counts as store
 use Rattle.store_calls.specs.Lent.{storeOf}
+use Rattle.store_calls.specs.declared.Outcome as done
+use Rattle.store_calls.specs.declared.Outcome.the-variants as D
 use Rattle.value_store.specs.Views as stores
 use Rattle.machine.specs.State.{State, mostWaiting}
 use Rattle.slots.specs.Slots as slot
@@ -119,6 +121,11 @@ pushedAs a u ws c (O.Refused n) = answered (M.refusal n) a
 
 abbrev pub pushedIn : Arrays → Unpacked → List ℕ → Pushed → Answered
 pushedIn a u ws p = pushedAs a u ws (p .counts) (p .outcome)
+
+-- what a transition on rows answers and leaves
+abbrev pub transitedIn : Arrays → Unpacked → done.Outcome → Answered
+transitedIn a u D.Done = answered M.ok (arraysIn u)
+transitedIn a u (D.Refused n) = answered (M.refusal n) a
 
 -- the count as a yes or no
 abbrev pub workReply : Reply → Reply

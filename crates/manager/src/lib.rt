@@ -22,10 +22,10 @@ ghost use Rattle.rows.specs.Rows.{initialMode};
 ghost use Rattle.schedule.specs.Schedule.{isActive};
 ghost use Rattle.table.specs.Check.{check};
 ghost use Rattle.tags.specs.Tags.{freshClock};
-ghost use Rattle.manager.specs.Views.{arraysOf, arraysIn, Unpacks, withEvents, answeredOf, pushedIn, someWork, replyOf, shownOf, readyIn, readyFrom, poppedOf, poppedIn};
+ghost use Rattle.manager.specs.Views.{arraysOf, arraysIn, Unpacks, withEvents, answeredOf, pushedIn, transitedIn, someWork, replyOf, shownOf, readyIn, readyFrom, poppedOf, poppedIn};
 ghost use Rattle.pops.specs.Pops.{replyOf as peekedReply};
 ghost use Rattle.tags.specs.Views.{ofGlobal};
-ghost use Rattle.machine.specs.Machine.{plain, network, control, action, peekTag, onlyControl, ordinaryWork, activeNow, everActive, pop};
+ghost use Rattle.machine.specs.Machine.{plain, network, control, action, transit, peekTag, onlyControl, ordinaryWork, activeNow, everActive, pop};
 use entries::BUCKET_WORDS;
 use entries::Bucket;
 use entries::BucketRows;
@@ -35,6 +35,7 @@ use entries::Value;
 use entries::ValueRows;
 use key_set::KeySet;
 use plan::MOST_REACTORS;
+use plan::Request;
 use pops::Peeked;
 use pushes::ActionPush;
 use pushes::Outcome;
@@ -437,6 +438,25 @@ fn finish_push(m: Manager, u: Unpacked, events: [u64; slots::ROOM], p: Pushed) -
     }
 }
 
+// What a transition answers and leaves, of the rows after it: the manager as it was handed in where it is refused.
+fn finish_transition(m: Manager, u: Unpacked, o: store_calls::Outcome) -> Answered
+    ensures { λ r. ⌜ answeredOf r ≡ transitedIn (arraysOf m) u o ⌝ }
+{
+    match o {
+        store_calls::Outcome::Refused(x) => Answered {
+            answer: Answer::Refused(x),
+            manager: m,
+        },
+        store_calls::Outcome::Done => {
+            let manager = pack(u);
+            Answered {
+                answer: Answer::Done,
+                manager,
+            }
+        }
+    }
+}
+
 fn peeked(p: Peeked) -> Answer
     ensures { λ r. ⌜ replyOf r ≡ peekedReply p ⌝ }
 {
@@ -645,6 +665,57 @@ impl Manager {
         }
         let p = pushes::push_action_event(image, &scopes, &mut events, counts, push, keys);
         finish_push(self, u, events, p)
+    }
+
+    // ---- transitions
+
+    // A reactor goes to one of its modes, by a reset or by history.
+    pub fn apply_transition(self, image: &[u8], request: Request) -> Answered
+        ensures { λ r. ⌜ answeredOf r ≡ stepOn (now (image .entry)) (arraysOf self) (transit (request .reactor) (request .mode) (request .reset) (ofGlobal (request .c))) ⌝ }
+    {
+        let e = enter(image, self);
+        let u = e.rows;
+        let modes = u.modes;
+        let mut scopes = u.scopes;
+        let mut events = u.events;
+        let mut values = u.values;
+        let mut buckets = u.buckets;
+        let counts = u.counts;
+        let held = u.held;
+        if !e.sound {
+            return Answered {
+                answer: Answer::Refused(Refusal::StateRule),
+                manager: self,
+            };
+        }
+        let given = transition::Given {
+            modes,
+            request,
+            counts,
+            held,
+        };
+        let t = transition::apply_transition(
+            image,
+            &mut scopes,
+            &mut events,
+            &mut values,
+            &mut buckets,
+            given,
+        );
+        let outcome = t.outcome;
+        let turned = t.modes;
+        let waits = t.counts;
+        let holds = t.held;
+        let rows = Unpacked {
+            modes: turned,
+            scopes,
+            events,
+            values,
+            buckets,
+            counts: waits,
+            held: holds,
+        };
+        finish_transition(self, rows, outcome)
     }
 
     // ---- questions

@@ -6,7 +6,7 @@ use Prim.Native.Nat.{ℕ, zero, suc, _+_, _*_, _≤_, _<_}
 use native.Mathlib.Omega.{arith}
 use native.Mathlib.Numerals.{add-one}
 use lib.Dec.{ltb, leb, eqb}
-use lib.ListN.{length, take, drop, set}
+use lib.ListN.{length, take, drop, set, length-append, length-drop}
 use lib.Seq.{take-at, drop-at}
 use borrow.Author.Tests.{lt-ltb, le-ltb, le-leb, lt-leb, eq-eqb, ne-eqb, leb-true}
 use Rattle.lists.specs.Tests.{and-left, flag}
@@ -74,9 +74,9 @@ module _ (f : ℕ → ℕ) (l : List ℕ) where
       rw (e, g, add-one, tab-snoc f k 0, z) (ap (λ m. set (over (tab f 0 k) l) m (f k)) (sym n) ∙ over-write (tab f 0 k) l (f k) (rw n h))
 
 module _ (b : List ℕ) (i n k : ℕ) (before after : List ℕ) (p : n ≡ be 2 b i) (few : n ≤ mostKeys) (low : k ≤ n) (high : n ≤ k) where
-  pub keys-all : after ≡ over (tab (keyAt b i) 0 k) before → Filled b i n before after
+  pub keys-all : n ≤ length before → after ≡ over (tab (keyAt b i) 0 k) before → Filled b i n before after
   unfolding keysAt
-  keys-all e =
+  keys-all room e =
       let s : k ≡ n = omega arith in
       let l : length (tab (keyAt b i) 0 n) ≡ n = tab-length (keyAt b i) 0 n in
       let g : after ≡ tab (keyAt b i) 0 n ++ drop n before = e ∙ rw s (rw l) in
@@ -84,42 +84,43 @@ module _ (b : List ℕ) (i n k : ℕ) (before after : List ℕ) (p : n ≡ be 2 
         keys = rw (g, ← p) (take-at (tab (keyAt b i) 0 n) (drop n before) n l);
         rest = rw g (drop-at (tab (keyAt b i) 0 n) (drop n before) n l);
         few = few;
+        long = rw (g, length-append, l, length-drop n before) (omega arith);
       }
 
 -- ---- the ops: well formed, or what breaks the form
 
 pub parses-not : {w : Record} {keys : List ℕ} → malformed ≡ w → Parses Malformed keys keys w
-parses-not e = record { is = e; rest = refl; few = omega arith }
+parses-not e = record { is = e; rest = refl; few = omega arith; long = refl }
 
 module _ (b : List ℕ) {before after : List ℕ} {t : GlobalTag} {n : ℕ} where
   pub plain-yes : {e : Bool} → isBit b 14 ≡ true → keysFill b 15 ≡ true → Filled b 15 n before after → ofGlobal t ≡ tagAt b 2 → e ≡ isOne b 14
       → Parses (Plain t e n) before after (plainOf b)
   unfolding plainOf
-  plain-yes p q f g h = record { is = rw (p, q, ← g, ← h, f .keys); rest = f .rest; few = f .few }
+  plain-yes p q f g h = record { is = rw (p, q, ← g, ← h, f .keys); rest = f .rest; few = f .few; long = f .long }
 
   pub network-yes : keysFill b 14 ≡ true → Filled b 14 n before after → ofGlobal t ≡ tagAt b 2 → Parses (Network t n) before after (networkOf b)
   unfolding networkOf
-  network-yes q f g = record { is = rw (q, ← g, f .keys); rest = f .rest; few = f .few }
+  network-yes q f g = record { is = rw (q, ← g, f .keys); rest = f .rest; few = f .few; long = f .long }
 
   pub action-yes : {a : ℕ} {e : Bool} → isBit b 16 ≡ true → keysFill b 17 ≡ true → Filled b 17 n before after → a ≡ be 2 b 2 → ofGlobal t ≡ tagAt b 4
       → e ≡ isOne b 16 → Parses (Action a t e n) before after (actionOf b)
   unfolding actionOf
-  action-yes p q f d g h = record { is = rw (p, q, ← g, ← h, ← d, f .keys); rest = f .rest; few = f .few }
+  action-yes p q f d g h = record { is = rw (p, q, ← g, ← h, ← d, f .keys); rest = f .rest; few = f .few; long = f .long }
 
 module _ (b : List ℕ) {keys : List ℕ} {t : GlobalTag} where
   pub control-yes : length b ≡ 14 → ofGlobal t ≡ tagAt b 2 → Parses (Control t) keys keys (controlOf b)
   unfolding controlOf
-  control-yes p g = record { is = rw (eq-eqb _ _ p, ← g); rest = refl; few = omega arith }
+  control-yes p g = record { is = rw (eq-eqb _ _ p, ← g); rest = refl; few = omega arith; long = refl }
 
   pub transition-yes : {r m : ℕ} {e : Bool} → isBit b 6 ≡ true → length b ≡ 19 → r ≡ be 2 b 2 → m ≡ be 2 b 4 → e ≡ isZero b 6 → ofGlobal t ≡ tagAt b 7
       → Parses (Transition r m e t) keys keys (transitionOf b)
   unfolding transitionOf
-  transition-yes p l x y z g = record { is = rw (p, eq-eqb _ _ l, ← g, ← x, ← y, ← z); rest = refl; few = omega arith }
+  transition-yes p l x y z g = record { is = rw (p, eq-eqb _ _ l, ← g, ← x, ← y, ← z); rest = refl; few = omega arith; long = refl }
 
 module _ (b : List ℕ) {keys : List ℕ} where
   pub pop-yes : length b ≡ 2 → Parses Pop keys keys (popOf b)
   unfolding popOf
-  pop-yes p = record { is = rw (eq-eqb _ _ p); rest = refl; few = omega arith }
+  pop-yes p = record { is = rw (eq-eqb _ _ p); rest = refl; few = omega arith; long = refl }
 
   pub plain-bit : isBit b 14 ≡ false → Parses Malformed keys keys (plainOf b)
   unfolding plainOf

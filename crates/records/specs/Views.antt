@@ -2,7 +2,7 @@
 use Prim.Native.Nat.{ℕ, _≤_}
 use mathlib.Core.Path.{_≡_}
 use mathlib.Core.List.{List}
-use lib.ListN.{take, drop}
+use lib.ListN.{length, take, drop}
 use Rattle.tags.specs.Views.{ofGlobal}
 use Rattle.machine.specs.Machine as M
 use Rattle.records.specs.Records as R
@@ -37,12 +37,14 @@ pub record Parses (r : Parsed) (before after : List ℕ) (w : Record) : Type 0 w
   pub is : ofParsed r after ≡ w
   pub rest : drop (keyCount r) after ≡ drop (keyCount r) before
   pub few : keyCount r ≤ mostKeys
+  pub long : length after ≡ length before
 
 -- the n keys behind a count, and the rest of the array as it was
 pub record Filled (b : List ℕ) (i n : ℕ) (before after : List ℕ) : Type 0 where
   pub keys : take n after ≡ keysAt b i
   pub rest : drop n after ≡ drop n before
   pub few : n ≤ mostKeys
+  pub long : length after ≡ length before
 
 abbrev pub ofHead : Head → Length
 ofHead (Counts n) = R.counts n

@@ -95,10 +95,10 @@ module _ (img : Image) (modes : List ℕ) (ss : List Scope) (es : List Event) (w
   here = stateIn img modes ss es work emptyStore
 
   module _ (i : ℕ) (h : i < scopes img) where
-    active-is : activeAt here i ≡ scopeAt ss i .active
+    pub active-is : activeAt here i ≡ scopeAt ss i .active
     active-is = List·getD-map (λ x. x .active) (take (scopes img) ss) i scope.blank ∙ ap (λ x. x .active) (getD-take (scopes img) ss i scope.blank h)
 
-    ever-is : everAt here i ≡ scopeAt ss i .ever
+    pub ever-is : everAt here i ≡ scopeAt ss i .ever
     ever-is = List·getD-map (λ x. x .ever) (take (scopes img) ss) i scope.blank ∙ ap (λ x. x .ever) (getD-take (scopes img) ss i scope.blank h)
 
     clock-is : clockAt here i ≡ scopeAt ss i .clock

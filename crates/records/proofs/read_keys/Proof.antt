@@ -53,7 +53,9 @@ loop-again : tie.Need-loop-again Inv-loop μ-loop
 loop-again c = (search needs, keys-more _ _ _ (omega (arith, fill-few _ _ (c .before .before .before .two-bytes .ensures) (c .before .before .before .before .before .pre .1), c .before .before .before .before .before .pre .0)) (c .before .before .loop .inv .1) (c .two-bytes2 .ensures))
 
 returns : tie.Need-returns Inv-loop μ-loop
-returns c = keys-all _ _ _ _ _ _ (c .before .before .two-bytes .ensures) (fill-few _ _ (c .before .before .two-bytes .ensures) (c .before .before .before .before .pre .1)) (search needs) (search needs) (c .before .loop .inv .1)
+returns c =
+    let few = fill-few _ _ (c .before .before .two-bytes .ensures) (c .before .before .before .before .pre .1) in
+    keys-all _ _ _ _ _ _ (c .before .before .two-bytes .ensures) few (search needs) (search needs) (rw (c .before .before .before .before .pre .0) few) (c .before .loop .inv .1)
 
 pub read-keys-spec : {M : Type 1} → statement M
 read-keys-spec =

@@ -1,0 +1,4 @@
+pub mod PartLaws
+pub mod CallLaws
+pub mod RunLaws
+pub mod StepLaws

@@ -1,0 +1,31 @@
+use Prim.Native.Nat.{_≤_}
+use mathlib.Core.Path.{sym}
+use lib.ListN.{length}
+use lib.Seq.{length-take-le}
+use borrow.Author.Needs.{needs}
+use Rattle.gate_day.proofs.push.Statement.{statement}
+use Rattle.gate_day.proofs.push.Tie as tie
+use Rattle.gate_day.proofs.push.Reads as reads
+use Rattle.gate_day.proofs.push.Lts as lts
+use Rattle.gate_day.proofs.key_count.Reads as key-count-reads
+use Rattle.gate_day.proofs.push_with.Reads as push-with-reads
+
+-- src/lib.rt:163:9
+key-count-requires : tie.Need-key-count-requires
+key-count-requires c κs = search needs
+
+-- src/lib.rt:164:54
+slice-aggregate-push-with : tie.Need-slice-aggregate-push-with
+slice-aggregate-push-with c = let w : c .before .before .key-count .result ≤ length (c .before .before .before .before .before .args .keys .now) = rw (c .before .before .key-count .ensures) (c .before .before .before .before .before .pre .1) in sym (length-take-le (c .before .before .key-count .result) (c .before .before .before .before .before .args .keys .now) w)
+
+-- src/lib.rt:164:5
+push-with-requires : tie.Need-push-with-requires
+push-with-requires c κs = search needs
+
+-- src/lib.rt:151:1
+returns : tie.Need-returns
+returns c = rw (c .before .before .before .key-count .ensures) at (c .push-with .ensures)
+
+pub push-spec : {M : Type 1} → statement M
+push-spec =
+    tie.close (tie.spec key-count-requires slice-aggregate-push-with push-with-requires returns)
