@@ -2,3 +2,4 @@ pub mod PartLaws
 pub mod CallLaws
 pub mod RunLaws
 pub mod StepLaws
+pub mod StartLaws

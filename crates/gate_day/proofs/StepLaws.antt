@@ -155,11 +155,11 @@ module _ {img : Image} {bytes : List ℕ} {first : State} {old : List ℕ} {mode
     kept-by = record { keeps = rw view-is (g .keeps); unpacked = rw view-is v }
 
     pub ends-here : (R : Ran) → R ≡ behind (g .lines) (stopped s used) → {r : Pieces} → r .day ≡ d → r .used ≡ used → r .ended ≡ false → r .written ≡ written →
-        Kept img (r .day) × Pieced R r old out
+        Kept img (r .day) × Pieced R r bytes old out
     ends-here R e {r} a b i w =
-        (rw a kept-by, record { unpacked = rw (e, a) v; used = rw e b; ended = rw e i; lines = rw (e, w, append-nil (g .lines)) (g .are-written) })
+        (rw a kept-by, record { unpacked = rw (e, a) v; used = rw e b; inside = rw b (g .inside); ended = rw e i; lines = rw (e, w, append-nil (g .lines)) (g .are-written) })
 
     pub ends-broken : (R : Ran) → R ≡ behind (g .lines) (endedAt s used) → {written-end : ℕ} {out-end : List ℕ} → Written out written malformedLine out-end written-end →
-        {r : Pieces} → r .day ≡ d → r .used ≡ used → r .ended ≡ true → r .written ≡ written-end → Kept img (r .day) × Pieced R r old out-end
+        {r : Pieces} → r .day ≡ d → r .used ≡ used → r .ended ≡ true → r .written ≡ written-end → Kept img (r .day) × Pieced R r bytes old out-end
     ends-broken R e {written-end} {out-end} y {r} a b i w =
-        (rw a kept-by, record { unpacked = rw (e, a) v; used = rw e b; ended = rw e i; lines = rw (e, w) (written-then (g .are-written) y) })
+        (rw a kept-by, record { unpacked = rw (e, a) v; used = rw e b; inside = rw b (g .inside); ended = rw e i; lines = rw (e, w) (written-then (g .are-written) y) })

@@ -2,8 +2,8 @@
 use mathlib.Core.Bool.{Bool, true, false, cond}
 use mathlib.Core.Path.{_≡_}
 use mathlib.Core.List.{List, []}
-use Prim.Native.Nat.{ℕ}
-use lib.ListN.{take}
+use Prim.Native.Nat.{ℕ, _≤_}
+use lib.ListN.{length, take}
 use Rattle.rows.specs.Bytes.{Image}
 use Rattle.tags.specs.Views.{ofGlobal}
 use Rattle.key_set.specs.Sets.{noKeys, wordCount}
@@ -73,8 +73,9 @@ pub record Kept (img : Image) (d : Day) : Type 0 where
   pub unpacked : UnpackedDay (viewOf img d) d
 
 -- what a piece's run leaves: the state, how many bytes were taken, whether the run is over, and the lines over the front of the buffer
-pub record Pieced (r : D.Ran) (p : Pieces) (old new : List ℕ) : Type 0 where
+pub record Pieced (r : D.Ran) (p : Pieces) (bytes old new : List ℕ) : Type 0 where
   pub unpacked : UnpackedDay (r .state) (p .day)
   pub used : p .used ≡ r .used
+  pub inside : p .used ≤ length bytes
   pub ended : p .ended ≡ r .ended
   pub lines : Written old 0 (r .lines) new (p .written)

@@ -11,7 +11,9 @@ ghost use Rattle.lens.specs.Lens.{Waits};
 ghost use Rattle.pushes.specs.Pushes.{Pushes, replyOf};
 ghost use Rattle.records.specs.Records.{mostKeys};
 ghost use Rattle.records.specs.Views.{keyCount, Parses};
-ghost use Rattle.machine.specs.State.{mostWaiting};
+ghost use Rattle.machine.specs.State.{mostWaiting, fresh as freshState};
+ghost use Rattle.table.specs.Check.{isTable};
+ghost use mathlib.Core.Bool.{true};
 ghost use Rattle.lines.specs.Written.{Written};
 ghost use Rattle.lines.specs.Lines.{lineOf};
 ghost use Rattle.transition.specs.Transiting as transition;
@@ -47,6 +49,36 @@ pub struct Pieces {
     pub used: usize,
     pub written: usize,
     pub ended: bool,
+}
+
+// A fresh manager over an accepted table.
+pub fn start(image: &[u8]) -> Day
+    requires { ⌜ isTable (now image) ≡ true ⌝ }
+    ensures { λ r. ⌜ Kept (now (image .entry)) r ⌝ }
+    ensures { λ r. ⌜ viewOf (now (image .entry)) r ≡ freshState (now (image .entry)) ⌝ }
+{
+    let modes = fresh::modes(image);
+    let n = rows::count(image, rows::REACTOR);
+    let end = n as usize;
+    let scopes = fresh::scopes(image, &modes[..end]);
+    let events = slots::blank_rows();
+    let values = fresh::values();
+    let buckets = fresh::buckets();
+    Day {
+        modes,
+        scopes,
+        events,
+        values,
+        buckets,
+        counts: lens::Counts {
+            waiting: 0,
+            work: 0,
+        },
+        held: store_calls::Counts {
+            values: 0,
+            buckets: 0,
+        },
+    }
 }
 
 // What stands at a place of the bytes.
@@ -254,7 +286,7 @@ fn say_popped(
 pub fn run_records(image: &[u8], day: Day, bytes: &[u8], out: &mut [u8]) -> Pieces
     requires { ⌜ Kept (now image) day ⌝ }
     ensures { λ r. ⌜ Kept (now (image .entry)) (r .day) ⌝ }
-    ensures { λ r. ⌜ Pieced (ran (now (image .entry)) (now (bytes .entry)) (viewOf (now (image .entry)) day) (length (now (out .entry)))) r (now (out .entry)) (now (out .exit)) ⌝ }
+    ensures { λ r. ⌜ Pieced (ran (now (image .entry)) (now (bytes .entry)) (viewOf (now (image .entry)) day) (length (now (out .entry)))) r (now (bytes .entry)) (now (out .entry)) (now (out .exit)) ⌝ }
 {
     let mut modes = day.modes;
     let mut scopes = day.scopes;
