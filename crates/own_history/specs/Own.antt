@@ -1,0 +1,52 @@
+-- Demand 3 for the code: what the public calls answer and leave, made one after the other from a fresh manager, is what the history tells. Each public
+-- call's contract is `stepOn` (crate manager), so these are statements about the code. Assumes nothing but the accepted table.
+use mathlib.Core.Bool.{true}
+use mathlib.Core.Path.{_≡_, refl, ap, _∙_}
+use mathlib.Core.List.{List, [], _∷_}
+use Prim.Native.Nat.{ℕ}
+use lib.ListN.{take}
+use Rattle.rows.specs.Bytes.{Image}
+use Rattle.table.specs.Check.{isTable}
+use Rattle.machine.specs.State.{State, fresh}
+use Rattle.machine.specs.Machine.{Call, step, run}
+use Rattle.manager.specs.Arrays.{Arrays, viewOf, isSound, stepOn, runOn, freshOver}
+use Rattle.manager.proofs.Runs.{step-reply, step-sound, fresh-sound, own-view}
+use Rattle.gate_day.specs.Days.{ran}
+use Rattle.gate_day.specs.Calls.{callsTaken, ran-runs}
+use Rattle.history.specs.History.{History, Told, moment, callAt, outcome}
+use Rattle.history.specs.Fates.{fates}
+
+-- the manager's arrays before the call at place n
+abbrev pub managerAt : Image → List Call → ℕ → Arrays
+managerAt img cs n = runOn img (freshOver img) (take n cs)
+
+-- the states and the answers of the public calls are the plain machine's
+pub record Managed (img : Image) (cs : List Call) : Type 0 where
+  pub states : (n : ℕ) → viewOf img (managerAt img cs n) ≡ moment img cs n
+  pub answers : (n : ℕ) → stepOn img (managerAt img cs n) (callAt cs n) .reply ≡ outcome img cs n .reply
+
+run-sound : (img : Image) (a : Arrays) (cs : List Call) → isSound img a ≡ true → isSound img (runOn img a cs) ≡ true
+unfolding runOn
+run-sound img a [] s = s
+run-sound img a (c ∷ cs) s = run-sound img (stepOn img a c .manager) cs (step-sound img a c s)
+
+pub managed : (img : Image) → isTable img ≡ true → (cs : List Call) → Managed img cs
+managed img t cs =
+    record {
+      states = λ n. own-view img t (take n cs);
+      answers = λ n.
+          step-reply img (managerAt img cs n) (callAt cs n) (run-sound img (freshOver img) (take n cs) (fresh-sound img t)) ∙
+          ap (λ (s : State). step img s (callAt cs n) .reply) (own-view img t (take n cs));
+    }
+
+-- so every event that the public calls accepted has one fate
+pub own-fates : (img : Image) → isTable img ≡ true → (cs : List Call) → (h : History) × (Told img cs h × Managed img cs)
+own-fates img t cs = let f = fates img t cs in (f .0, (f .1, managed img t cs))
+
+-- and so has every event of a gate day: `gate_day::run_records`, from `gate_day::start`, leaves the state after the calls among its records
+pub day-fates :
+    (img : Image) → isTable img ≡ true → (bytes : List ℕ) (room : ℕ) →
+    (h : History) × (Told img (callsTaken img bytes (fresh img) room) h × (ran img bytes (fresh img) room .state ≡ run img (fresh img) (callsTaken img bytes (fresh img) room)))
+day-fates img t bytes room =
+    let f = fates img t (callsTaken img bytes (fresh img) room) in
+    (f .0, (f .1, ran-runs img bytes (fresh img) room))
