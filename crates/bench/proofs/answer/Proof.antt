@@ -9,31 +9,24 @@ use Rattle.bench.proofs.say_table.Reads as say-table-reads
 use Rattle.table.proofs.accepted.Reads as accepted-reads
 use Rattle.table.proofs.check.Reads as check-reads
 
--- src/main.rt:95:9
 check-requires : tie.Need-check-requires
 check-requires c κs = search needs
 
--- src/main.rt:96:8
 say-table-requires : tie.Need-say-table-requires
 say-table-requires c κs = search needs
 
--- src/main.rt:97:12
 accepted-requires : tie.Need-accepted-requires
 accepted-requires c κs = search needs
 
--- src/main.rt:98:13
 run-requires : tie.Need-run-requires
 run-requires c κs = sym (c .before .accepted .ensures) ∙ c .if2 .taken
 
--- src/main.rt:94:1
 returns : tie.Need-returns
 returns c = search needs
 
--- src/main.rt:94:1
 returns-2 : tie.Need-returns-2
 returns-2 c = search needs
 
--- src/main.rt:94:1
 returns-3 : tie.Need-returns-3
 returns-3 c = search needs
 

@@ -10,39 +10,30 @@ use Rattle.bench.proofs.read_image.Reads as read-image-reads
 use Rattle.bench.proofs.say_table.Reads as say-table-reads
 use Rattle.io.proofs.buffer.Reads as buffer-reads
 
--- src/main.rt:125:21
 buffer-requires : tie.Need-buffer-requires
 buffer-requires c κs = search needs
 
--- src/main.rt:126:26
 slice-aggregate-read-image : tie.Need-slice-aggregate-read-image
 slice-aggregate-read-image c = search needs
 
--- src/main.rt:126:9
 read-image-requires : tie.Need-read-image-requires
 read-image-requires c κs = search needs
 
--- src/main.rt:128:9
 say-table-requires : tie.Need-say-table-requires
 say-table-requires c κs = search needs
 
--- src/main.rt:129:9
 returns : tie.Need-returns
 returns c = search needs
 
--- src/main.rt:131:12
 array-share-prefix-space : tie.Need-array-share-prefix-space
 array-share-prefix-space c = search needs
 
--- src/main.rt:131:12
 slice-aggregate-answer : tie.Need-slice-aggregate-answer
 slice-aggregate-answer c = sym (length-take-le _ _ (c .before .before .before .read-image .ensures))
 
--- src/main.rt:131:5
 answer-requires : tie.Need-answer-requires
 answer-requires c κs = search needs
 
--- src/main.rt:124:1
 returns-2 : tie.Need-returns-2
 returns-2 c = search needs
 

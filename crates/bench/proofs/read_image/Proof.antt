@@ -11,79 +11,60 @@ use Rattle.bench.proofs.read_image.Lts as lts
 use Rattle.io.proofs.read_full.Reads as read-full-reads
 use Rattle.rows.proofs.four_bytes.Reads as four-bytes-reads
 
--- src/main.rt:108:43
 slice-relend-prefix-read-full : tie.Need-slice-relend-prefix-read-full
 slice-relend-prefix-read-full c = search needs
 
--- src/main.rt:108:43
 slice-aggregate-read-full : tie.Need-slice-aggregate-read-full
 slice-aggregate-read-full c = let h : 4 ≤ length (c .before .before .args .space .now) = omega (arith, c .before .before .pre) in sym (length-take-le 4 (c .before .before .args .space .now) h)
 
--- src/main.rt:108:9
 read-full-requires : tie.Need-read-full-requires
 read-full-requires c κs = search needs
 
--- src/main.rt:110:9
 same-length : tie.Need-same-length
 same-length c = search needs
 
--- src/main.rt:110:9
 returns : tie.Need-returns
 returns c = search needs
 
--- src/main.rt:112:13
 four-bytes-requires : tie.Need-four-bytes-requires
 four-bytes-requires c κs = search needs
 
--- src/main.rt:112:13
 cast-n : tie.Need-cast-n
 cast-n c = search needs
 
--- src/main.rt:113:8
 sub-if2 : tie.Need-sub-if2
 sub-if2 c = search needs
 
--- src/main.rt:114:9
 same-length-2 : tie.Need-same-length-2
 same-length-2 c = search needs
 
--- src/main.rt:114:9
 returns-2 : tie.Need-returns-2
 returns-2 c = search needs
 
--- src/main.rt:116:15
 add-end : tie.Need-add-end
 add-end c = search needs
 
--- src/main.rt:117:44
 sub-read-full : tie.Need-sub-read-full
 sub-read-full c = search needs
 
--- src/main.rt:117:44
 part-read-full-start : tie.Need-part-read-full-start
 part-read-full-start c = search needs
 
--- src/main.rt:117:44
 part-read-full-end : tie.Need-part-read-full-end
 part-read-full-end c = search needs
 
--- src/main.rt:117:9
 read-full-requires-2 : tie.Need-read-full-requires-2
 read-full-requires-2 c κs = search needs
 
--- src/main.rt:119:9
 same-length-3 : tie.Need-same-length-3
 same-length-3 c = search needs
 
--- src/main.rt:119:9
 returns-3 : tie.Need-returns-3
 returns-3 c = search needs
 
--- src/main.rt:104:1
 same-length-4 : tie.Need-same-length-4
 same-length-4 c = search needs
 
--- src/main.rt:104:1
 returns-4 : tie.Need-returns-4
 returns-4 c = search needs
 

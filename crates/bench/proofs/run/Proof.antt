@@ -25,107 +25,81 @@ Inv-loop image day₀ input₀ output₀ filled₀ turns₀ day input output fil
 abbrev μ-loop : tie.MeasureT-loop
 μ-loop image day₀ input₀ output₀ filled₀ turns₀ day input output filled turns = turns
 
--- src/main.rt:62:9
 start-requires : tie.Need-start-requires Inv-loop μ-loop
 start-requires c κs = search needs
 
--- src/main.rt:63:21
 large-buffer-requires : tie.Need-large-buffer-requires Inv-loop μ-loop
 large-buffer-requires c κs = search needs
 
--- src/main.rt:64:22
 large-buffer-requires-2 : tie.Need-large-buffer-requires-2 Inv-loop μ-loop
 large-buffer-requires-2 c κs = search needs
 
--- src/main.rt:67:5
 loop-holds : tie.Need-loop-holds Inv-loop μ-loop
 loop-holds c = (c .before .before .start .ensures .0, c .before .large-buffer .ensures, c .large-buffer2 .ensures, search needs)
 
--- src/main.rt:68:9
 sub-turns : tie.Need-sub-turns Inv-loop μ-loop
 sub-turns c = search needs
 
--- src/main.rt:69:26
 slice-aggregate-fill : tie.Need-slice-aggregate-fill Inv-loop μ-loop
 slice-aggregate-fill c = c .before .before .loop .inv .1
 
--- src/main.rt:69:13
 fill-requires : tie.Need-fill-requires Inv-loop μ-loop
 fill-requires c κs = omega (arith, c .before .before .loop .inv .1, c .before .before .loop .inv .3)
 
--- src/main.rt:70:55
 array-share-prefix-input : tie.Need-array-share-prefix-input Inv-loop μ-loop
 array-share-prefix-input c = c .before .fill .ensures .0
 
--- src/main.rt:70:55
 slice-aggregate-run-records : tie.Need-slice-aggregate-run-records Inv-loop μ-loop
 slice-aggregate-run-records c = sym (length-take-le _ _ (c .before .before .fill .ensures .0))
 
--- src/main.rt:70:72
 slice-aggregate-run-records-2 : tie.Need-slice-aggregate-run-records-2 Inv-loop μ-loop
 slice-aggregate-run-records-2 c = c .before .before .before .before .before .before .loop .inv .2
 
--- src/main.rt:70:13
 run-records-requires : tie.Need-run-records-requires Inv-loop μ-loop
 run-records-requires c κs = c .before .before .before .before .before .before .loop .inv .0
 
--- src/main.rt:74:42
 array-share-prefix-output : tie.Need-array-share-prefix-output Inv-loop μ-loop
 array-share-prefix-output c = written-room (c .before .before .run-records .ensures .1 .lines)
 
--- src/main.rt:74:42
 slice-aggregate-write-all : tie.Need-slice-aggregate-write-all Inv-loop μ-loop
 slice-aggregate-write-all c = sym (length-take-le _ _ (written-room (c .before .before .before .run-records .ensures .1 .lines)))
 
--- src/main.rt:74:13
 write-all-requires : tie.Need-write-all-requires Inv-loop μ-loop
 write-all-requires c κs = search needs
 
--- src/main.rt:75:13
 returns : tie.Need-returns Inv-loop μ-loop
 returns c = search needs
 
--- src/main.rt:78:13
 returns-2 : tie.Need-returns-2 Inv-loop μ-loop
 returns-2 c = search needs
 
--- src/main.rt:81:24
 slice-aggregate-shift : tie.Need-slice-aggregate-shift Inv-loop μ-loop
 slice-aggregate-shift c = c .before .before .before .before .before .before .before .before .before .before .before .before .before .before .loop .inv .1 ∙ sym (c .before .before .before .before .before .before .before .before .before .before .before .fill .ensures .1)
 
--- src/main.rt:81:9
 shift-requires : tie.Need-shift-requires Inv-loop μ-loop
 shift-requires c κs = (rw (length-take-le _ _ (c .before .before .before .before .before .before .before .before .before .before .before .fill .ensures .0)) at (c .before .before .before .before .before .before .before .run-records .ensures .1 .inside), c .before .before .before .before .before .before .before .before .before .before .before .fill .ensures .0)
 
--- src/main.rt:85:21
 say-cut-requires : tie.Need-say-cut-requires Inv-loop μ-loop
 say-cut-requires c κs = search needs
 
--- src/main.rt:87:17
 returns-3 : tie.Need-returns-3 Inv-loop μ-loop
 returns-3 c = search needs
 
--- src/main.rt:87:17
 returns-4 : tie.Need-returns-4 Inv-loop μ-loop
 returns-4 c = search needs
 
--- src/main.rt:67:5
 loop-less : tie.Need-loop-less Inv-loop μ-loop
 loop-less c = let t = c .before .before .before .before .before .before .before .before .before .before .before .before .before .before .before .before .before .loop-test .taken in omega (arith, t)
 
--- src/main.rt:67:5
 loop-again : tie.Need-loop-again Inv-loop μ-loop
 loop-again c = (c .before .before .before .before .before .before .before .before .before .before .before .run-records .ensures .0, c .before .before .before .before .before .before .before .before .before .before .before .before .before .before .before .before .before .before .loop .inv .1 ∙ (sym (c .before .before .before .before .before .before .before .before .before .before .before .before .before .before .before .fill .ensures .1) ∙ sym (c .before .before .before .shift .ensures .1)), c .before .before .before .before .before .before .before .before .before .before .before .before .before .before .before .before .before .before .loop .inv .2 ∙ sym (written-long (c .before .before .before .before .before .before .before .before .before .before .before .run-records .ensures .1 .lines)), omega (arith, c .before .before .before .shift .ensures .0, c .before .before .before .before .before .before .before .before .before .before .before .before .before .before .before .fill .ensures .0, c .before .before .before .before .before .before .before .before .before .before .before .before .before .before .before .before .before .before .loop .inv .1, c .before .before .before .before .before .before .before .before .before .before .before .before .before .before .before .fill .ensures .1))
 
--- src/main.rt:67:5
 loop-less-2 : tie.Need-loop-less-2 Inv-loop μ-loop
 loop-less-2 c = let t = c .before .before .before .before .before .before .before .before .before .before .before .before .before .before .before .before .loop-test .taken in omega (arith, t)
 
--- src/main.rt:67:5
 loop-again-2 : tie.Need-loop-again-2 Inv-loop μ-loop
 loop-again-2 c = (c .before .before .before .before .before .before .before .before .before .before .run-records .ensures .0, c .before .before .before .before .before .before .before .before .before .before .before .before .before .before .before .before .before .loop .inv .1 ∙ (sym (c .before .before .before .before .before .before .before .before .before .before .before .before .before .before .fill .ensures .1) ∙ sym (c .before .before .shift .ensures .1)), c .before .before .before .before .before .before .before .before .before .before .before .before .before .before .before .before .before .loop .inv .2 ∙ sym (written-long (c .before .before .before .before .before .before .before .before .before .before .run-records .ensures .1 .lines)), omega (arith, c .before .before .shift .ensures .0, c .before .before .before .before .before .before .before .before .before .before .before .before .before .before .fill .ensures .0, c .before .before .before .before .before .before .before .before .before .before .before .before .before .before .before .before .before .loop .inv .1, c .before .before .before .before .before .before .before .before .before .before .before .before .before .before .fill .ensures .1))
 
--- src/main.rt:59:1
 returns-5 : tie.Need-returns-5 Inv-loop μ-loop
 returns-5 c = search needs
 

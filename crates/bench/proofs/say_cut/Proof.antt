@@ -11,31 +11,24 @@ use Rattle.io.proofs.buffer.Reads as buffer-reads
 use Rattle.io.proofs.write_all.Reads as write-all-reads
 use Rattle.lines.proofs.write_refused.Reads as write-refused-reads
 
--- src/main.rt:44:20
 buffer-requires : tie.Need-buffer-requires
 buffer-requires c κs = search needs
 
--- src/main.rt:45:34
 slice-aggregate-write-refused : tie.Need-slice-aggregate-write-refused
 slice-aggregate-write-refused c = search needs
 
--- src/main.rt:45:9
 write-refused-requires : tie.Need-write-refused-requires
 write-refused-requires c κs = search needs
 
--- src/main.rt:46:34
 array-share-prefix-line : tie.Need-array-share-prefix-line
 array-share-prefix-line c = search needs
 
--- src/main.rt:46:34
 slice-aggregate-write-all : tie.Need-slice-aggregate-write-all
 slice-aggregate-write-all c = sym (length-take-le _ _ (written-room (c .before .before .write-refused .ensures)))
 
--- src/main.rt:46:5
 write-all-requires : tie.Need-write-all-requires
 write-all-requires c κs = search needs
 
--- src/main.rt:43:1
 returns : tie.Need-returns
 returns c = search needs
 

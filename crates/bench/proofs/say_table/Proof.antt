@@ -11,31 +11,24 @@ use Rattle.io.proofs.buffer.Reads as buffer-reads
 use Rattle.io.proofs.write_all.Reads as write-all-reads
 use Rattle.lines.proofs.write_table.Reads as write-table-reads
 
--- src/main.rt:37:20
 buffer-requires : tie.Need-buffer-requires
 buffer-requires c κs = search needs
 
--- src/main.rt:38:32
 slice-aggregate-write-table : tie.Need-slice-aggregate-write-table
 slice-aggregate-write-table c = search needs
 
--- src/main.rt:38:9
 write-table-requires : tie.Need-write-table-requires
 write-table-requires c κs = search needs
 
--- src/main.rt:39:34
 array-share-prefix-line : tie.Need-array-share-prefix-line
 array-share-prefix-line c = search needs
 
--- src/main.rt:39:34
 slice-aggregate-write-all : tie.Need-slice-aggregate-write-all
 slice-aggregate-write-all c = sym (length-take-le _ _ (written-room (c .before .before .write-table .ensures)))
 
--- src/main.rt:39:5
 write-all-requires : tie.Need-write-all-requires
 write-all-requires c κs = search needs
 
--- src/main.rt:36:1
 returns : tie.Need-returns
 returns c = search needs
 

@@ -14,43 +14,33 @@ Inv-loop buffer₀ from end i₀ to₀ buffer i to = (to ≤ i) × (i ≤ end) �
 abbrev μ-loop : tie.MeasureT-loop
 μ-loop buffer₀ from end i₀ to₀ buffer i to = end - i
 
--- src/main.rt:26:5
 loop-holds : tie.Need-loop-holds Inv-loop μ-loop
 loop-holds c = (search needs, c .pre .0, c .pre .1, refl)
 
--- src/main.rt:27:20
 slice-read-byte : tie.Need-slice-read-byte Inv-loop μ-loop
 slice-read-byte c = search needs
 
--- src/main.rt:28:9
 slice-write-buffer : tie.Need-slice-write-buffer Inv-loop μ-loop
 slice-write-buffer c = search needs
 
--- src/main.rt:29:9
 add-to : tie.Need-add-to Inv-loop μ-loop
 add-to c = search needs
 
--- src/main.rt:30:9
 add-i : tie.Need-add-i Inv-loop μ-loop
 add-i c = search needs
 
--- src/main.rt:26:5
 loop-less : tie.Need-loop-less Inv-loop μ-loop
 loop-less c = search needs
 
--- src/main.rt:26:5
 loop-again : tie.Need-loop-again Inv-loop μ-loop
 loop-again c = let l = c .before .before .loop in (search needs, search needs, rw (length-set (l .buffer) (l .to) _) (l .inv .2), length-set (l .buffer) (l .to) _ ∙ l .inv .3)
 
--- src/main.rt:32:5
 sub-result : tie.Need-sub-result Inv-loop μ-loop
 sub-result c = search needs
 
--- src/main.rt:20:1
 same-length : tie.Need-same-length Inv-loop μ-loop
 same-length c = c .before .loop .inv .3
 
--- src/main.rt:20:1
 returns : tie.Need-returns Inv-loop μ-loop
 returns c = (search needs, c .before .loop .inv .3)
 

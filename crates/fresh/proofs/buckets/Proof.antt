@@ -5,7 +5,6 @@ use Rattle.fresh.proofs.buckets.Tie as tie
 use Rattle.fresh.proofs.buckets.Reads as reads
 use Rattle.fresh.proofs.buckets.Lts as lts
 
--- src/lib.rt:81:1
 returns : tie.Need-returns
 returns c = no-buckets
 

@@ -22,43 +22,33 @@ Inv-loop image n out₀ i₀ out i = (i ≤ n) × (n ≤ mostReactors) × (n ≡
 abbrev μ-loop : tie.MeasureT-loop
 μ-loop image n out₀ i₀ out i = n - i
 
--- src/lib.rt:26:9
 count-requires : tie.Need-count-requires Inv-loop μ-loop
 count-requires c κs = search needs
 
--- src/lib.rt:29:5
 loop-holds : tie.Need-loop-holds Inv-loop μ-loop
 loop-holds c = let n = c .count .ensures in (search needs, rw n (most-reactors (c .before .before .args .image .now) (c .before .before .pre)), n, modes-none _)
 
--- src/lib.rt:30:13
 initial-mode-requires : tie.Need-initial-mode-requires Inv-loop μ-loop
 initial-mode-requires c κs = search needs
 
--- src/lib.rt:31:18
 cast-at : tie.Need-cast-at Inv-loop μ-loop
 cast-at c = search needs
 
--- src/lib.rt:32:9
 mul-out : tie.Need-mul-out Inv-loop μ-loop
 mul-out c = search needs
 
--- src/lib.rt:32:9
 array-write-out : tie.Need-array-write-out Inv-loop μ-loop
 array-write-out c = search needs
 
--- src/lib.rt:33:9
 add-i : tie.Need-add-i Inv-loop μ-loop
 add-i c = search needs
 
--- src/lib.rt:29:5
 loop-less : tie.Need-loop-less Inv-loop μ-loop
 loop-less c = search needs
 
--- src/lib.rt:29:5
 loop-again : tie.Need-loop-again Inv-loop μ-loop
 loop-again c = let l = c .before .before .loop in (search needs, l .inv .1, l .inv .2, modes-more _ (l .i) _ (l .inv .3) (c .initial-mode .ensures))
 
--- src/lib.rt:22:1
 returns : tie.Need-returns Inv-loop μ-loop
 returns c = let l = c .before .loop in let e : l .i ≡ reactors (c .before .before .before .before .args .image .now) = search needs in rw (← e) (l .inv .3)
 

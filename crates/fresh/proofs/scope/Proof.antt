@@ -5,11 +5,9 @@ use Rattle.fresh.proofs.scope.Reads as reads
 use Rattle.fresh.proofs.scope.Lts as lts
 use Rattle.tags.proofs.ScopeClock.fresh.Reads as fresh-reads
 
--- src/lib.rt:42:9
 fresh-requires : tie.Need-fresh-requires
 fresh-requires c κs = search needs
 
--- src/lib.rt:39:1
 returns : tie.Need-returns
 returns c = rw (c .fresh .ensures)
 

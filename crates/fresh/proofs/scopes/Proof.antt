@@ -28,47 +28,36 @@ Inv-loop image modes n out₀ i₀ out i = (i ≤ n) × (n ≡ scopes image) × 
 abbrev μ-loop : tie.MeasureT-loop
 μ-loop image modes n out₀ i₀ out i = n - i
 
--- src/lib.rt:55:9
 count-requires : tie.Need-count-requires Inv-loop μ-loop
 count-requires c κs = search needs
 
--- src/lib.rt:56:19
 blank-rows-requires : tie.Need-blank-rows-requires Inv-loop μ-loop
 blank-rows-requires c κs = search needs
 
--- src/lib.rt:58:5
 loop-holds : tie.Need-loop-holds Inv-loop μ-loop
 loop-holds c = let n = c .before .count .ensures in (search needs, n, scopes-none _ (c .blank-rows .ensures))
 
--- src/lib.rt:59:13
 is-active-requires : tie.Need-is-active-requires Inv-loop μ-loop
 is-active-requires c κs = search needs
 
--- src/lib.rt:60:13
 scope-requires : tie.Need-scope-requires Inv-loop μ-loop
 scope-requires c κs = search needs
 
--- src/lib.rt:61:18
 cast-at : tie.Need-cast-at Inv-loop μ-loop
 cast-at c = search needs
 
--- src/lib.rt:62:9
 put-scope-requires : tie.Need-put-scope-requires Inv-loop μ-loop
 put-scope-requires c κs = search needs
 
--- src/lib.rt:63:9
 add-i : tie.Need-add-i Inv-loop μ-loop
 add-i c = search needs
 
--- src/lib.rt:58:5
 loop-less : tie.Need-loop-less Inv-loop μ-loop
 loop-less c = search needs
 
--- src/lib.rt:58:5
 loop-again : tie.Need-loop-again Inv-loop μ-loop
 loop-again c = let l = c .before .before .before .before .before .loop in (search needs, l .inv .1, scopes-more _ (l .i) _ (l .out) _ (l .inv .2) (c .before .before .scope .ensures ∙ ap freshScope (c .before .before .before .is-active .ensures)) (c .put-scope .ensures))
 
--- src/lib.rt:51:1
 returns : tie.Need-returns Inv-loop μ-loop
 returns c = let l = c .before .loop in let e : l .i ≡ scopes (c .before .before .before .before .before .before .args .image .now) = search needs in rw (← e) (l .inv .2)
 

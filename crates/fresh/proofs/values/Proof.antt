@@ -5,7 +5,6 @@ use Rattle.fresh.proofs.values.Tie as tie
 use Rattle.fresh.proofs.values.Reads as reads
 use Rattle.fresh.proofs.values.Lts as lts
 
--- src/lib.rt:74:1
 returns : tie.Need-returns
 returns c = no-values
 

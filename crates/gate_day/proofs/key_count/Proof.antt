@@ -4,71 +4,54 @@ use Rattle.gate_day.proofs.key_count.Tie as tie
 use Rattle.gate_day.proofs.key_count.Reads as reads
 use Rattle.gate_day.proofs.key_count.Lts as lts
 
--- src/lib.rt:74:29
 enum-known-parsed : tie.Need-enum-known-parsed
 enum-known-parsed c = search needs
 
--- src/lib.rt:74:35
 cast-result : tie.Need-cast-result
 cast-result c = search needs
 
--- src/lib.rt:75:28
 enum-known-parsed-2 : tie.Need-enum-known-parsed-2
 enum-known-parsed-2 c = search needs
 
--- src/lib.rt:75:34
 cast-result-2 : tie.Need-cast-result-2
 cast-result-2 c = search needs
 
--- src/lib.rt:76:31
 enum-told : tie.Need-enum-told
 enum-told c = search needs
 
--- src/lib.rt:77:33
 enum-known-parsed-3 : tie.Need-enum-known-parsed-3
 enum-known-parsed-3 c = search needs
 
--- src/lib.rt:77:39
 cast-result-3 : tie.Need-cast-result-3
 cast-result-3 c = search needs
 
--- src/lib.rt:78:43
 enum-told-2 : tie.Need-enum-told-2
 enum-told-2 c = search needs
 
--- src/lib.rt:79:24
 enum-told-3 : tie.Need-enum-told-3
 enum-told-3 c = search needs
 
--- src/lib.rt:80:30
 enum-told-4 : tie.Need-enum-told-4
 enum-told-4 c = search needs
 
--- src/lib.rt:70:1
 returns : tie.Need-returns
 returns c = search needs
 
--- src/lib.rt:70:1
 returns-2 : tie.Need-returns-2
 returns-2 c = search needs
 
--- src/lib.rt:70:1
 returns-3 : tie.Need-returns-3
 returns-3 c = search needs
 
--- src/lib.rt:70:1
 returns-4 : tie.Need-returns-4
 returns-4 c = rw (c .before .parsed3 .given .1)
 
--- src/lib.rt:70:1
 returns-5 : tie.Need-returns-5
 returns-5 c = search needs
 
--- src/lib.rt:70:1
 returns-6 : tie.Need-returns-6
 returns-6 c = search needs
 
--- src/lib.rt:70:1
 returns-7 : tie.Need-returns-7
 returns-7 c = search needs
 

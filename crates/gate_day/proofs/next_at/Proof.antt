@@ -6,35 +6,27 @@ use Rattle.gate_day.proofs.next_at.Reads as reads
 use Rattle.gate_day.proofs.next_at.Lts as lts
 use Rattle.rows.proofs.four_bytes.Reads as four-bytes-reads
 
--- src/lib.rt:53:16
 sub-left : tie.Need-sub-left
 sub-left c = search needs
 
--- src/lib.rt:55:9
 returns : tie.Need-returns
 returns c = let a = c .before .before .args in next-few (a .bytes .now) (a .at) (c .before .before .pre) (search needs)
 
--- src/lib.rt:57:13
 four-bytes-requires : tie.Need-four-bytes-requires
 four-bytes-requires c κs = search needs
 
--- src/lib.rt:57:13
 cast-n : tie.Need-cast-n
 cast-n c = search needs
 
--- src/lib.rt:59:9
 returns-2 : tie.Need-returns-2
 returns-2 c = let a = c .before .before .before .before .args in next-broken (a .bytes .now) (a .at) (c .before .before .before .before .pre) (search needs) _ (c .before .four-bytes .ensures) (search needs)
 
--- src/lib.rt:61:15
 add-if3 : tie.Need-add-if3
 add-if3 c = search needs
 
--- src/lib.rt:62:9
 returns-3 : tie.Need-returns-3
 returns-3 c = let a = c .before .before .before .before .before .args in next-short (a .bytes .now) (a .at) (c .before .before .before .before .before .pre) (search needs) _ (c .before .before .four-bytes .ensures) (search needs) (search needs)
 
--- src/lib.rt:49:1
 returns-4 : tie.Need-returns-4
 returns-4 c = let a = c .before .before .before .before .before .args in next-whole (a .bytes .now) (a .at) (c .before .before .before .before .before .pre) (search needs) _ (c .before .before .four-bytes .ensures) (search needs) (search needs)
 

@@ -4,59 +4,45 @@ use Rattle.gate_day.proofs.op_of.Tie as tie
 use Rattle.gate_day.proofs.op_of.Reads as reads
 use Rattle.gate_day.proofs.op_of.Lts as lts
 
--- src/lib.rt:91:35
 enum-told : tie.Need-enum-told
 enum-told c = search needs
 
--- src/lib.rt:92:34
 enum-told-2 : tie.Need-enum-told-2
 enum-told-2 c = search needs
 
--- src/lib.rt:93:31
 enum-told-3 : tie.Need-enum-told-3
 enum-told-3 c = search needs
 
--- src/lib.rt:94:39
 enum-told-4 : tie.Need-enum-told-4
 enum-told-4 c = search needs
 
--- src/lib.rt:95:28
 enum-known-parsed : tie.Need-enum-known-parsed
 enum-known-parsed c = search needs
 
--- src/lib.rt:101:24
 enum-told-5 : tie.Need-enum-told-5
 enum-told-5 c = search needs
 
--- src/lib.rt:102:30
 enum-told-6 : tie.Need-enum-told-6
 enum-told-6 c = search needs
 
--- src/lib.rt:87:1
 returns : tie.Need-returns
 returns c = search needs
 
--- src/lib.rt:87:1
 returns-2 : tie.Need-returns-2
 returns-2 c = search needs
 
--- src/lib.rt:87:1
 returns-3 : tie.Need-returns-3
 returns-3 c = search needs
 
--- src/lib.rt:87:1
 returns-4 : tie.Need-returns-4
 returns-4 c = search needs
 
--- src/lib.rt:87:1
 returns-5 : tie.Need-returns-5
 returns-5 c = rw (c .before .parsed .given .1)
 
--- src/lib.rt:87:1
 returns-6 : tie.Need-returns-6
 returns-6 c = search needs
 
--- src/lib.rt:87:1
 returns-7 : tie.Need-returns-7
 returns-7 c = search needs
 

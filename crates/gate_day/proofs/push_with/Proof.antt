@@ -10,87 +10,66 @@ use Rattle.pushes.proofs.push_control_event.Reads as push-control-event-reads
 use Rattle.pushes.proofs.push_event.Reads as push-event-reads
 use Rattle.pushes.proofs.push_network_event.Reads as push-network-event-reads
 
--- src/lib.rt:106:23
 enum-known-parsed : tie.Need-enum-known-parsed
 enum-known-parsed c = search needs
 
--- src/lib.rt:106:44
 push-event-requires : tie.Need-push-event-requires
 push-event-requires c κs = search needs
 
--- src/lib.rt:107:25
 enum-known-parsed-2 : tie.Need-enum-known-parsed-2
 enum-known-parsed-2 c = search needs
 
--- src/lib.rt:107:36
 push-network-event-requires : tie.Need-push-network-event-requires
 push-network-event-requires c κs = search needs
 
--- src/lib.rt:108:25
 enum-known-parsed-3 : tie.Need-enum-known-parsed-3
 enum-known-parsed-3 c = search needs
 
--- src/lib.rt:108:33
 push-control-event-requires : tie.Need-push-control-event-requires
 push-control-event-requires c κs = search needs
 
--- src/lib.rt:109:24
 enum-known-parsed-4 : tie.Need-enum-known-parsed-4
 enum-known-parsed-4 c = search needs
 
--- src/lib.rt:115:13
 push-action-event-requires : tie.Need-push-action-event-requires
 push-action-event-requires c κs = search needs
 
--- src/lib.rt:117:43
 enum-told : tie.Need-enum-told
 enum-told c = search needs
 
--- src/lib.rt:117:43
 unpushed-requires : tie.Need-unpushed-requires
 unpushed-requires c κs = search needs
 
--- src/lib.rt:118:24
 enum-told-2 : tie.Need-enum-told-2
 enum-told-2 c = search needs
 
--- src/lib.rt:118:24
 unpushed-requires-2 : tie.Need-unpushed-requires-2
 unpushed-requires-2 c κs = search needs
 
--- src/lib.rt:119:30
 enum-told-3 : tie.Need-enum-told-3
 enum-told-3 c = search needs
 
--- src/lib.rt:119:30
 unpushed-requires-3 : tie.Need-unpushed-requires-3
 unpushed-requires-3 c κs = search needs
 
--- src/lib.rt:94:1
 returns : tie.Need-returns
 returns c = rw (c .before .before .before .parsed .given .1) (c .push-event .ensures)
 
--- src/lib.rt:94:1
 returns-2 : tie.Need-returns-2
 returns-2 c = rw (c .before .before .before .parsed2 .given .1) (c .push-network-event .ensures)
 
--- src/lib.rt:94:1
 returns-3 : tie.Need-returns-3
 returns-3 c = rw (c .before .before .before .parsed3 .given .1) (c .push-control-event .ensures)
 
--- src/lib.rt:94:1
 returns-4 : tie.Need-returns-4
 returns-4 c = rw (c .before .before .before .parsed4 .given .1) (c .push-action-event .ensures)
 
--- src/lib.rt:94:1
 returns-5 : tie.Need-returns-5
 returns-5 c = let a = c .before .before .before .before .before .args in rw (c .before .enum-told .given .1) (unpushed-is (a .events .now) (a .counts) _ (c .before .before .before .before .before .pre) (c .unpushed .ensures))
 
--- src/lib.rt:94:1
 returns-6 : tie.Need-returns-6
 returns-6 c = let a = c .before .before .before .before .before .args in rw (c .before .enum-told2 .given .1) (unpushed-is (a .events .now) (a .counts) _ (c .before .before .before .before .before .pre) (c .unpushed2 .ensures))
 
--- src/lib.rt:94:1
 returns-7 : tie.Need-returns-7
 returns-7 c = let a = c .before .before .before .before .before .args in rw (c .before .enum-told3 .given .1) (unpushed-is (a .events .now) (a .counts) _ (c .before .before .before .before .before .pre) (c .unpushed3 .ensures))
 

@@ -41,163 +41,123 @@ abbrev μ-loop : tie.MeasureT-loop
 μ-loop image bytes out₀ modes₀ scopes₀ events₀ values₀ buckets₀ counts₀ held₀ keys₀ actions₀ used₀ written₀ ended₀ turns₀ out modes scopes events values buckets counts held keys actions used written ended turns =
     turns
 
--- src/lib.rt:264:5
 loop-holds : tie.Need-loop-holds Inv-loop μ-loop
 loop-holds c = let a = c .before .before .before .before .before .before .before .before .before .before .args in let k = c .before .before .before .before .before .before .before .before .before .before .pre in (running-begins (a .image .now) (a .bytes .now) _ (a .out .now) _ _ _ _ _ _ _ (k .keeps) (k .unpacked), search needs, search needs, refl)
 
--- src/lib.rt:265:9
 sub-turns : tie.Need-sub-turns Inv-loop μ-loop
 sub-turns c = search needs
 
--- src/lib.rt:266:12
 sub-if1 : tie.Need-sub-if1 Inv-loop μ-loop
 sub-if1 c = let h = room-left _ _ _ _ _ _ _ _ _ _ _ _ _ _ _ (c .before .loop .inv .0) in search needs
 
--- src/lib.rt:269:15
 next-at-requires : tie.Need-next-at-requires Inv-loop μ-loop
 next-at-requires c κs = (c .before .before .loop .inv .0) .inside
 
--- src/lib.rt:271:17
 enum-told : tie.Need-enum-told Inv-loop μ-loop
 enum-told c = search needs
 
--- src/lib.rt:274:48
 enum-told-2 : tie.Need-enum-told-2 Inv-loop μ-loop
 enum-told-2 c = search needs
 
--- src/lib.rt:274:17
 write-refused-requires : tie.Need-write-refused-requires Inv-loop μ-loop
 write-refused-requires c κs = room-left _ _ _ _ _ _ _ _ _ _ _ _ _ _ _ (c .before .before .before .before .before .before .loop .inv .0)
 
--- src/lib.rt:278:25
 enum-known-n : tie.Need-enum-known-n Inv-loop μ-loop
 enum-known-n c = search needs
 
--- src/lib.rt:279:21
 end-of-requires : tie.Need-end-of-requires Inv-loop μ-loop
 end-of-requires c κs = fits (c .before .before .before .before .before .before .loop .inv .0) (c .before .n .given .1) (c .before .before .before .next-at .ensures)
 
--- src/lib.rt:280:21
 read-requires : tie.Need-read-requires Inv-loop μ-loop
 read-requires c κs = (fits (c .before .before .before .before .before .before .before .before .loop .inv .0) (c .before .before .before .n .given .1) (c .before .before .before .before .before .next-at .ensures), c .before .before .before .before .before .before .before .before .loop .inv .1)
 
--- src/lib.rt:281:23
 op-of-requires : tie.Need-op-of-requires Inv-loop μ-loop
 op-of-requires c κs = search needs
 
--- src/lib.rt:283:45
 enum-told-3 : tie.Need-enum-told-3 Inv-loop μ-loop
 enum-told-3 c = search needs
 
--- src/lib.rt:283:83
 slice-aggregate-push : tie.Need-slice-aggregate-push Inv-loop μ-loop
 slice-aggregate-push c = search needs
 
--- src/lib.rt:283:29
 push-requires : tie.Need-push-requires Inv-loop μ-loop
 push-requires c κs = (waits (c .before .before .before .before .before .before .before .before .before .before .before .before .before .before .before .loop .inv .0), rw (c .before .before .before .before .before .before .read .ensures .long ∙ c .before .before .before .before .before .before .before .before .before .before .before .before .before .before .before .loop .inv .1) (c .before .before .before .before .before .before .read .ensures .few))
 
--- src/lib.rt:286:25
 say-requires : tie.Need-say-requires Inv-loop μ-loop
 say-requires c κs = room-left _ _ _ _ _ _ _ _ _ _ _ _ _ _ _ (c .before .before .before .before .before .before .before .before .before .before .before .before .before .before .before .before .before .before .loop .inv .0)
 
--- src/lib.rt:289:61
 enum-told-4 : tie.Need-enum-told-4 Inv-loop μ-loop
 enum-told-4 c = search needs
 
--- src/lib.rt:289:29
 pop-next-event-requires : tie.Need-pop-next-event-requires Inv-loop μ-loop
 pop-next-event-requires c κs = (few-scopes (c .before .before .before .before .before .before .before .before .before .before .before .before .before .before .before .loop .inv .0), (waits (c .before .before .before .before .before .before .before .before .before .before .before .before .before .before .before .loop .inv .0), c .before .before .before .before .before .before .before .before .before .before .before .before .before .before .before .loop .inv .2))
 
--- src/lib.rt:291:25
 say-popped-requires : tie.Need-say-popped-requires Inv-loop μ-loop
 say-popped-requires c κs = (room-left _ _ _ _ _ _ _ _ _ _ _ _ _ _ _ (c .before .before .before .before .before .before .before .before .before .before .before .before .before .before .before .before .before .before .before .loop .inv .0), (c .before .before .before .pop-next-event .ensures .takes .long, omega (arith, c .before .before .before .pop-next-event .ensures .takes .room)))
 
--- src/lib.rt:293:36
 enum-known-request : tie.Need-enum-known-request Inv-loop μ-loop
 enum-known-request c = search needs
 
--- src/lib.rt:300:29
 apply-transition-requires : tie.Need-apply-transition-requires Inv-loop μ-loop
 apply-transition-requires c κs = (is-table (c .before .before .before .before .before .before .before .before .before .before .before .before .before .before .before .before .before .loop .inv .0), (scoped (c .before .before .before .before .before .before .before .before .before .before .before .before .before .before .before .before .before .loop .inv .0), good (c .before .before .before .before .before .before .before .before .before .before .before .before .before .before .before .before .before .loop .inv .0)))
 
--- src/lib.rt:305:29
 outcome-of-requires : tie.Need-outcome-of-requires Inv-loop μ-loop
 outcome-of-requires c κs = search needs
 
--- src/lib.rt:306:25
 say-requires-2 : tie.Need-say-requires-2 Inv-loop μ-loop
 say-requires-2 c κs = room-left _ _ _ _ _ _ _ _ _ _ _ _ _ _ _ (c .before .before .before .before .before .before .before .before .before .before .before .before .before .before .before .before .before .before .before .before .before .before .before .loop .inv .0)
 
--- src/lib.rt:309:56
 enum-told-5 : tie.Need-enum-told-5 Inv-loop μ-loop
 enum-told-5 c = search needs
 
--- src/lib.rt:309:25
 write-refused-requires-2 : tie.Need-write-refused-requires-2 Inv-loop μ-loop
 write-refused-requires-2 c κs = room-left _ _ _ _ _ _ _ _ _ _ _ _ _ _ _ (c .before .before .before .before .before .before .before .before .before .before .before .before .before .loop .inv .0)
 
--- src/lib.rt:264:5
 loop-less : tie.Need-loop-less Inv-loop μ-loop
 loop-less c = pred-less _ (c .before .before .before .before .before .before .before .before .before .before .before .before .before .before .before .before .before .before .before .before .loop-test .taken)
 
--- src/lib.rt:264:5
 loop-again : tie.Need-loop-again Inv-loop μ-loop
 loop-again c = (pushed-on (c .before .before .before .before .before .before .before .before .before .before .before .before .before .before .before .before .before .before .before .before .before .loop .inv .0) (c .before .before .before .before .before .before .before .before .before .before .before .before .before .before .before .before .before .before .before .before .loop-test .taken) (search needs) (c .before .before .before .before .before .before .before .before .before .before .before .before .before .before .before .before .n .given .1) (c .before .before .before .before .before .before .before .before .before .before .before .before .before .before .before .before .before .before .next-at .ensures) (c .before .before .before .before .before .before .before .before .before .before .before .before .read .ensures) (c .before .before .before .before .before .before .before .before .before .before .before .before .before .before .end-of .ensures) (c .before .before .before .before .before .before .before .before .before .enum-told3 .given .1) (c .before .before .before .before .before .before .before .before .before .before .before .op-of .ensures) (c .before .before .before .before .before .push .ensures) (c .before .before .say .ensures), c .before .before .before .before .before .before .before .before .before .before .before .before .read .ensures .long ∙ c .before .before .before .before .before .before .before .before .before .before .before .before .before .before .before .before .before .before .before .before .before .loop .inv .1, c .before .before .before .before .before .before .before .before .before .before .before .before .before .before .before .before .before .before .before .before .before .loop .inv .2, c .before .before .before .before .before .before .before .before .before .before .before .before .before .before .before .before .before .before .before .before .before .loop .inv .3)
 
--- src/lib.rt:264:5
 loop-less-2 : tie.Need-loop-less-2 Inv-loop μ-loop
 loop-less-2 c = pred-less _ (c .before .before .before .before .before .before .before .before .before .before .before .before .before .before .before .before .before .before .before .before .before .loop-test .taken)
 
--- src/lib.rt:264:5
 loop-again-2 : tie.Need-loop-again-2 Inv-loop μ-loop
 loop-again-2 c = (popped-on (c .before .before .before .before .before .before .before .before .before .before .before .before .before .before .before .before .before .before .before .before .before .before .loop .inv .0) (c .before .before .before .before .before .before .before .before .before .before .before .before .before .before .before .before .before .before .before .before .before .loop-test .taken) (c .before .before .before .before .before .before .before .before .before .before .before .before .before .before .before .before .before .before .before .before .if1 .left) (c .before .before .before .before .before .before .before .before .before .before .before .before .before .before .before .before .before .n .given .1) (c .before .before .before .before .before .before .before .before .before .before .before .before .before .before .before .before .before .before .before .next-at .ensures) (c .before .before .before .before .before .before .before .before .before .before .before .before .before .read .ensures) (c .before .before .before .before .before .before .before .before .before .before .before .before .before .before .before .end-of .ensures) (c .before .before .before .before .before .before .before .before .before .before .enum-told4 .given .1) (c .before .before .before .before .before .before .before .before .before .before .before .before .op-of .ensures) (c .before .before .before .before .before .before .pop-next-event .ensures) (c .before .before .say-popped .ensures), c .before .before .before .before .before .before .before .before .before .before .before .before .before .read .ensures .long ∙ c .before .before .before .before .before .before .before .before .before .before .before .before .before .before .before .before .before .before .before .before .before .before .loop .inv .1, c .before .before .before .before .before .before .pop-next-event .ensures .takes .long, c .before .before .before .before .before .before .before .before .before .before .before .before .before .before .before .before .before .before .before .before .before .before .loop .inv .3)
 
--- src/lib.rt:264:5
 loop-less-3 : tie.Need-loop-less-3 Inv-loop μ-loop
 loop-less-3 c = pred-less _ (c .before .before .before .before .before .before .before .before .before .before .before .before .before .before .before .before .before .before .before .before .before .before .before .before .before .loop-test .taken)
 
--- src/lib.rt:264:5
 loop-again-3 : tie.Need-loop-again-3 Inv-loop μ-loop
 loop-again-3 c = (transited-on (c .before .before .before .before .before .before .before .before .before .before .before .before .before .before .before .before .before .before .before .before .before .before .before .before .before .before .loop .inv .0) (c .before .before .before .before .before .before .before .before .before .before .before .before .before .before .before .before .before .before .before .before .before .before .before .before .before .loop-test .taken) (c .before .before .before .before .before .before .before .before .before .before .before .before .before .before .before .before .before .before .before .before .before .before .before .before .if1 .left) (c .before .before .before .before .before .before .before .before .before .before .before .before .before .before .before .before .before .before .before .before .before .n .given .1) (c .before .before .before .before .before .before .before .before .before .before .before .before .before .before .before .before .before .before .before .before .before .before .before .next-at .ensures) (c .before .before .before .before .before .before .before .before .before .before .before .before .before .before .before .before .before .read .ensures) (c .before .before .before .before .before .before .before .before .before .before .before .before .before .before .before .before .before .before .before .end-of .ensures) (c .before .before .before .before .before .before .before .before .before .before .before .before .before .before .request .given .1) (c .before .before .before .before .before .before .before .before .before .before .before .before .before .before .before .before .op-of .ensures) (c .before .before .before .before .before .before .before .before .apply-transition .ensures) (c .before .before .before .before .outcome-of .result) (c .before .before .before .before .outcome-of .ensures) (c .before .before .say2 .ensures), c .before .before .before .before .before .before .before .before .before .before .before .before .before .before .before .before .before .read .ensures .long ∙ c .before .before .before .before .before .before .before .before .before .before .before .before .before .before .before .before .before .before .before .before .before .before .before .before .before .before .loop .inv .1, c .before .before .before .before .before .before .before .before .before .before .before .before .before .before .before .before .before .before .before .before .before .before .before .before .before .before .loop .inv .2, c .before .before .before .before .before .before .before .before .before .before .before .before .before .before .before .before .before .before .before .before .before .before .before .before .before .before .loop .inv .3)
 
--- src/lib.rt:264:5
 loop-less-4 : tie.Need-loop-less-4 Inv-loop μ-loop
 loop-less-4 c = pred-less _ (c .before .before .before .before .before .before .before .before .before .before .before .before .before .before .before .loop-test .taken)
 
--- src/lib.rt:264:5
 loop-again-4 : tie.Need-loop-again-4 Inv-loop μ-loop
 loop-again-4 c = (malformed-on (c .before .before .before .before .before .before .before .before .before .before .before .before .before .before .before .before .loop .inv .0) (c .before .before .before .before .before .before .before .before .before .before .before .before .before .before .before .loop-test .taken) (search needs) (c .before .before .before .before .before .before .before .before .before .before .before .n .given .1) (c .before .before .before .before .before .before .before .before .before .before .before .before .before .next-at .ensures) (c .before .before .before .before .before .before .before .read .ensures) (c .before .before .before .before .before .before .before .before .before .end-of .ensures) (c .before .before .before .before .enum-told5 .given .1) (c .before .before .before .before .before .before .op-of .ensures) (c .before .before .write-refused2 .ensures), c .before .before .before .before .before .before .before .read .ensures .long ∙ c .before .before .before .before .before .before .before .before .before .before .before .before .before .before .before .before .loop .inv .1, c .before .before .before .before .before .before .before .before .before .before .before .before .before .before .before .before .loop .inv .2, c .before .before .before .before .before .before .before .before .before .before .before .before .before .before .before .before .loop .inv .3)
 
--- src/lib.rt:246:1
 same-length : tie.Need-same-length Inv-loop μ-loop
 same-length c = same-long (c .before .loop .inv .0)
 
--- src/lib.rt:246:1
 returns : tie.Need-returns Inv-loop μ-loop
 returns c = ends-here (c .before .loop .inv .0) _ ((c .before .loop .inv .0) .unpacked) _ (stops-turns _ _ _ _ _ _ _ _ _ _ _ _ _ _ _ (c .before .loop .inv .0) (search needs)) refl refl (c .before .loop .inv .3) refl
 
--- src/lib.rt:246:1
 same-length-2 : tie.Need-same-length-2 Inv-loop μ-loop
 same-length-2 c = same-long (c .before .before .loop .inv .0)
 
--- src/lib.rt:246:1
 returns-2 : tie.Need-returns-2 Inv-loop μ-loop
 returns-2 c = ends-here (c .before .before .loop .inv .0) _ ((c .before .before .loop .inv .0) .unpacked) _ (stops-room _ _ _ _ _ _ _ _ _ _ _ _ _ _ _ (c .before .before .loop .inv .0) _ (pred-suc _ (c .before .loop-test .taken)) (search needs)) refl refl (c .before .before .loop .inv .3) refl
 
--- src/lib.rt:246:1
 same-length-3 : tie.Need-same-length-3 Inv-loop μ-loop
 same-length-3 c = same-long (c .before .before .before .before .before .loop .inv .0)
 
--- src/lib.rt:246:1
 returns-3 : tie.Need-returns-3 Inv-loop μ-loop
 returns-3 c = ends-here (c .before .before .before .before .before .loop .inv .0) _ ((c .before .before .before .before .before .loop .inv .0) .unpacked) _ (stops-pending _ _ _ _ _ _ _ _ _ _ _ _ _ _ _ (c .before .before .before .before .before .loop .inv .0) _ (pred-suc _ (c .before .before .before .before .loop-test .taken)) (search needs) (told-pending (c .enum-told .given .1) (c .before .before .next-at .ensures))) refl refl (c .before .before .before .before .before .loop .inv .3) refl
 
--- src/lib.rt:246:1
 same-length-4 : tie.Need-same-length-4 Inv-loop μ-loop
 same-length-4 c = written-long (c .before .before .write-refused .ensures) ∙ same-long (c .before .before .before .before .before .before .before .before .before .loop .inv .0)
 
--- src/lib.rt:246:1
 returns-4 : tie.Need-returns-4 Inv-loop μ-loop
 returns-4 c = ends-broken (c .before .before .before .before .before .before .before .before .before .loop .inv .0) _ ((c .before .before .before .before .before .before .before .before .before .loop .inv .0) .unpacked) _ (stops-broken _ _ _ _ _ _ _ _ _ _ _ _ _ _ _ (c .before .before .before .before .before .before .before .before .before .loop .inv .0) _ (pred-suc _ (c .before .before .before .before .before .before .before .before .loop-test .taken)) (search needs) (told-broken (c .before .before .before .before .enum-told2 .given .1) (c .before .before .before .before .before .before .next-at .ensures))) (c .before .before .write-refused .ensures) refl refl refl refl
 

@@ -7,39 +7,30 @@ use Rattle.lines.proofs.write_ok.Reads as write-ok-reads
 use Rattle.lines.proofs.write_refused.Reads as write-refused-reads
 use Rattle.refusals.proofs.number_of.Reads as number-of-reads
 
--- src/lib.rt:119:42
 enum-told : tie.Need-enum-told
 enum-told c = search needs
 
--- src/lib.rt:119:26
 write-ok-requires : tie.Need-write-ok-requires
 write-ok-requires c κs = search needs
 
--- src/lib.rt:120:26
 enum-known-outcome : tie.Need-enum-known-outcome
 enum-known-outcome c = search needs
 
--- src/lib.rt:121:17
 number-of-requires : tie.Need-number-of-requires
 number-of-requires c κs = search needs
 
--- src/lib.rt:122:13
 write-refused-requires : tie.Need-write-refused-requires
 write-refused-requires c κs = search needs
 
--- src/lib.rt:114:1
 same-length : tie.Need-same-length
 same-length c = search needs
 
--- src/lib.rt:114:1
 returns : tie.Need-returns
 returns c = rw (c .before .before .before .before .enum-told .given .1) (c .before .before .write-ok .ensures)
 
--- src/lib.rt:114:1
 same-length-2 : tie.Need-same-length-2
 same-length-2 c = search needs
 
--- src/lib.rt:114:1
 returns-2 : tie.Need-returns-2
 returns-2 c = rw (c .before .before .before .before .before .before .outcome .given .1, ← (c .before .before .before .before .number-of .ensures)) (c .before .before .write-refused .ensures)
 

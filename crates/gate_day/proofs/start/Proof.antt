@@ -13,43 +13,33 @@ use Rattle.fresh.proofs.values.Reads as values-reads
 use Rattle.rows.proofs.count.Reads as count-reads
 use Rattle.slots.proofs.blank_rows.Reads as blank-rows-reads
 
--- src/lib.rt:60:17
 modes-requires : tie.Need-modes-requires
 modes-requires c κs = search needs
 
--- src/lib.rt:61:9
 count-requires : tie.Need-count-requires
 count-requires c κs = search needs
 
--- src/lib.rt:62:15
 cast-end : tie.Need-cast-end
 cast-end c = search needs
 
--- src/lib.rt:63:39
 array-share-prefix-modes : tie.Need-array-share-prefix-modes
 array-share-prefix-modes c = modes-room (c .before .before .before .args .image .now) (c .before .before .before .pre) _ (c .before .modes .ensures) _ (c .count .ensures)
 
--- src/lib.rt:63:39
 slice-aggregate-scopes : tie.Need-slice-aggregate-scopes
 slice-aggregate-scopes c = sym (length-take-le _ _ (modes-room (c .before .before .before .before .args .image .now) (c .before .before .before .before .pre) _ (c .before .before .modes .ensures) _ (c .before .count .ensures)))
 
--- src/lib.rt:63:9
 scopes-requires : tie.Need-scopes-requires
 scopes-requires c κs = search needs
 
--- src/lib.rt:64:9
 blank-rows-requires : tie.Need-blank-rows-requires
 blank-rows-requires c κs = search needs
 
--- src/lib.rt:65:9
 values-requires : tie.Need-values-requires
 values-requires c κs = search needs
 
--- src/lib.rt:66:9
 buckets-requires : tie.Need-buckets-requires
 buckets-requires c κs = search needs
 
--- src/lib.rt:55:1
 returns : tie.Need-returns
 returns c = started (c .before .before .before .before .before .before .before .before .args .image .now) (c .before .before .before .before .before .before .before .before .pre) _ (c .before .before .before .before .before .before .modes .ensures) _ (c .before .before .before .before .before .count .ensures) _ _ _ _ (c .before .before .before .scopes .ensures) (c .before .before .blank-rows .ensures) (c .before .values .ensures) (c .buckets .ensures) _ refl
 

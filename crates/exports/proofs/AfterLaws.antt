@@ -1,0 +1,121 @@
+-- The state after a day's records, piece by piece: what a piece leaves keeps the rules and is what its arrays hold. Assumes nothing.
+use mathlib.Core.Bool.{Bool, true, false, cond, _||_}
+use mathlib.Core.Path.{_≡_, refl, ap, _∙_, sym}
+use mathlib.Core.List.{List}
+use Prim.Native.Nat.{ℕ, zero, suc, _+_, _-_, _≤_, _<_}
+use lib.Dec.{ltb, eqb}
+use native.Mathlib.Omega.{arith}
+use lib.ListN.{length, take, drop, length-drop}
+use lib.Seq.{take-all, drop-drop}
+use borrow.Author.Tests.{eq-eqb, ne-eqb}
+use Rattle.rows.specs.Bytes.{Image}
+use Rattle.machine.specs.State.{State, fresh}
+use Rattle.machine.specs.Machine.{rules}
+use Rattle.kept.specs.Kept.{step-keeps}
+use Rattle.unpacked.specs.Unpacked.{state-is}
+use Rattle.records.specs.Records.{Record, call, malformed, cut, over}
+use Rattle.gate_day.specs.Days.{Next, pending, broken, whole, Ran, stateAt, bodyAt, nextAt, longest, stopped, ranIn, ranOn, ran}
+use Rattle.gate_day.specs.Views.{Kept, Pieced, viewOf}
+use Rattle.gate_day.specs.declared.Day.{Day}
+use Rattle.gate_day.specs.declared.Pieces.{Pieces}
+use Rattle.exports.specs.Words.{scratch, afterIn, afterAll}
+
+state-keeps : (img : Image) (s : State) (r : Record) → rules img s ≡ true → rules img (stateAt img s r) ≡ true
+state-keeps img s (call c) k = step-keeps img s c k
+state-keeps img s malformed k = k
+state-keeps img s cut k = k
+state-keeps img s over k = k
+
+abbrev Keeps : Image → Ran → Type 0
+Keeps img r = rules img (r .state) ≡ true
+
+either-keeps : (img : Image) (b : Bool) (x y : Ran) → Keeps img x → Keeps img y → Keeps img (cond b x y)
+either-keeps img true x y k l = k
+either-keeps img false x y k l = l
+
+on-keeps : (img : Image) (bytes : List ℕ) (s : State) (i room : ℕ) (rest : State → ℕ → ℕ → Ran) (n : Next) → rules img s ≡ true →
+    ((t : State) (j left : ℕ) → rules img t ≡ true → Keeps img (rest t j left)) → Keeps img (ranOn img bytes s i room rest n)
+on-keeps img bytes s i room rest pending k f = k
+on-keeps img bytes s i room rest broken k f = k
+on-keeps img bytes s i room rest (whole m) k f = f _ _ _ (state-keeps img s (bodyAt bytes i m) k)
+
+in-keeps : (n : ℕ) (img : Image) (bytes : List ℕ) (s : State) (i room : ℕ) → rules img s ≡ true → Keeps img (ranIn n img bytes s i room)
+unfolding ranIn
+in-keeps zero img bytes s i room k = k
+in-keeps (suc n) img bytes s i room k =
+    either-keeps img (ltb room longest) _ _ k (on-keeps img bytes s i room (ranIn n img bytes) (nextAt bytes i) k (λ t j left h. in-keeps n img bytes t j left h))
+
+pub ran-keeps : (img : Image) (bytes : List ℕ) (s : State) (room : ℕ) → rules img s ≡ true → Keeps img (ran img bytes s room)
+unfolding ran
+ran-keeps img bytes s room k = in-keeps (length bytes) img bytes s 0 room k
+
+module _ {img : Image} {bytes : List ℕ} {d : Day} {p : Pieces} {old new : List ℕ} (k : Kept img d) (w : Pieced (ran img bytes (viewOf img d) scratch) p bytes old new) where
+  abbrev R : Ran
+  R = ran img bytes (viewOf img d) scratch
+
+  pub view-is : viewOf img (p .day) ≡ R .state
+  view-is = state-is img (R .state) (ran-keeps img bytes (viewOf img d) scratch (k .keeps)) _ _ _ _ _ _ _ (w .unpacked)
+
+  module _ (n : ℕ) where
+    abbrev test : Bool → ℕ → State
+    test e u = cond (e || eqb u 0) (R .state) (afterIn n img (drop (R .used) bytes) (R .state))
+
+    unrolled : afterIn (suc n) img bytes (viewOf img d) ≡ test (R .ended) (R .used)
+    unfolding afterIn
+    unrolled = refl
+
+    -- a bad length ended the run
+    pub ends : p .ended ≡ true → viewOf img (p .day) ≡ afterIn (suc n) img bytes (viewOf img d)
+    ends e = view-is ∙ sym (unrolled ∙ ap (λ t. test t (R .used)) (sym (w .ended) ∙ e))
+
+    -- nothing more was taken
+    pub rests : p .ended ≡ false → p .used ≡ 0 → viewOf img (p .day) ≡ afterIn (suc n) img bytes (viewOf img d)
+    rests e u =
+        view-is ∙ sym (unrolled ∙ (ap (λ t. test t (R .used)) (sym (w .ended) ∙ e) ∙ ap (λ b. cond b (R .state) (afterIn n img (drop (R .used) bytes) (R .state))) (eq-eqb (R .used) 0 (sym (w .used) ∙ u))))
+
+    -- one piece more
+    pub goes-on : p .ended ≡ false → (p .used ≡ 0 → ⊥) → afterIn (suc n) img bytes (viewOf img d) ≡ afterIn n img (drop (p .used) bytes) (viewOf img (p .day))
+    goes-on e u =
+        unrolled ∙ (ap (λ t. test t (R .used)) (sym (w .ended) ∙ e) ∙
+        (ap (λ b. cond b (R .state) (afterIn n img (drop (R .used) bytes) (R .state))) (ne-eqb (R .used) 0 (λ z. u (w .used ∙ z))) ∙
+        (ap (λ m. afterIn n img (drop m bytes) (R .state)) (sym (w .used)) ∙ ap (afterIn n img (drop (p .used) bytes)) (sym view-is))))
+
+pub after-begins : (img : Image) (records : List ℕ) (d : Day) → viewOf img d ≡ fresh img → afterAll img records ≡ afterIn (length records) img (drop 0 records) (viewOf img d)
+unfolding afterAll
+after-begins img records d e = ap (afterIn (length records) img records) (sym e)
+
+-- the part of a list behind a place
+pub rest-is : (l : List ℕ) (at : ℕ) → take (length l - at) (drop at l) ≡ drop at l
+rest-is l at = take-all (length l - at) (drop at l) (let e = length-drop at l in omega (arith, e))
+
+-- ---- one turn of the loop
+
+module _ (img : Image) (records : List ℕ) (at turns : ℕ) (d : Day) (p : Pieces) (lines new : List ℕ) (k : Kept img d) (l : scratch ≡ length lines)
+    (i : afterAll img records ≡ afterIn turns img (drop at records) (viewOf img d)) (t : 0 < turns)
+    (w : Pieced (ran img (take (length records - at) (drop at records)) (viewOf img d) (length lines)) p (take (length records - at) (drop at records)) lines new) where
+  piece : Pieced (ran img (drop at records) (viewOf img d) scratch) p (drop at records) lines new
+  piece = rw l (rw (rest-is records at) at w)
+
+  unrolls : turns ≡ suc (turns - 1)
+  unrolls = omega (arith, t)
+
+  unrolled-here : afterAll img records ≡ afterIn (suc (turns - 1)) img (drop at records) (viewOf img d)
+  unrolled-here = i ∙ ap (λ n. afterIn n img (drop at records) (viewOf img d)) unrolls
+
+  pub all-ends : p .ended ≡ true → viewOf img (p .day) ≡ afterAll img records
+  all-ends e = ends k piece (turns - 1) e ∙ sym unrolled-here
+
+  pub all-rests : p .ended ≡ false → p .used ≡ 0 → viewOf img (p .day) ≡ afterAll img records
+  all-rests e u = rests k piece (turns - 1) e u ∙ sym unrolled-here
+
+  pub all-on : p .ended ≡ false → (p .used ≡ 0 → ⊥) → afterAll img records ≡ afterIn (turns - 1) img (drop (at + p .used) records) (viewOf img (p .day))
+  all-on e u = unrolled-here ∙ (goes-on k piece (turns - 1) e u ∙ ap (λ r. afterIn (turns - 1) img r (viewOf img (p .day))) (drop-drop (p .used) at records))
+
+  pub all-inside : at ≤ length records → at + p .used ≤ length records
+  all-inside h = let b = piece .inside in let e = length-drop at records in omega (arith, h, b, e)
+
+pub all-over : (img : Image) (records : List ℕ) (at turns : ℕ) (d : Day) → turns ≤ 0 → afterAll img records ≡ afterIn turns img (drop at records) (viewOf img d) → viewOf img d ≡ afterAll img records
+unfolding afterIn
+all-over img records at turns d t i =
+    let z : turns ≡ 0 = omega (arith, t) in
+    sym (i ∙ ap (λ n. afterIn n img (drop at records) (viewOf img d)) z)

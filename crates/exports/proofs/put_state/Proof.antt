@@ -1,0 +1,76 @@
+use mathlib.Core.Path.{sym}
+use Rattle.exports.proofs.WordLaws.{modes-long, scopes-long, events-long, values-long, buckets-long, all-over}
+use native.Mathlib.Omega.{arith}
+use borrow.Author.Needs.{needs}
+use Rattle.exports.proofs.put_state.Statement.{statement}
+use Rattle.exports.proofs.put_state.Tie as tie
+use Rattle.exports.proofs.put_state.Reads as reads
+use Rattle.exports.proofs.put_state.Lts as lts
+use Rattle.exports.proofs.first_words.Reads as first-words-reads
+use Rattle.exports.proofs.put_keys.Reads as put-keys-reads
+use Rattle.exports.proofs.put_words.Reads as put-words-reads
+
+first-words-requires : tie.Need-first-words-requires
+first-words-requires c κs = search needs
+
+slice-aggregate-put-words : tie.Need-slice-aggregate-put-words
+slice-aggregate-put-words c = search needs
+
+put-words-requires : tie.Need-put-words-requires
+put-words-requires c κs = search needs
+
+slice-aggregate-put-keys : tie.Need-slice-aggregate-put-keys
+slice-aggregate-put-keys c = search needs
+
+put-keys-requires : tie.Need-put-keys-requires
+put-keys-requires c κs = omega (arith, c .before .before .before .state .given, modes-long (c .before .before .before .before .before .before .before .before .before .before .before .before .before .before .before .pre .1), c .before .before .before .before .before .before .before .before .before .before .before .before .before .before .before .pre .0)
+
+slice-aggregate-put-words-2 : tie.Need-slice-aggregate-put-words-2
+slice-aggregate-put-words-2 c = search needs
+
+put-words-requires-2 : tie.Need-put-words-requires-2
+put-words-requires-2 c κs = omega (arith, c .before .before .before .state2 .given, c .before .before .before .before .before .before .before .before .state .given, scopes-long (c .before .before .before .before .before .before .before .before .before .before .before .before .before .before .before .before .before .before .before .before .pre .1), c .before .before .before .before .before .before .before .before .before .before .before .before .before .before .before .before .before .before .before .before .pre .0)
+
+slice-aggregate-put-words-3 : tie.Need-slice-aggregate-put-words-3
+slice-aggregate-put-words-3 c = sym (events-long (c .before .before .before .before .before .before .before .before .before .before .before .before .before .before .before .before .before .before .before .before .before .before .before .before .before .pre .1))
+
+put-words-requires-3 : tie.Need-put-words-requires-3
+put-words-requires-3 c κs = omega (arith, c .before .before .before .state3 .given, c .before .before .before .before .before .before .before .before .state2 .given, c .before .before .before .before .before .before .before .before .before .before .before .before .before .state .given, events-long (c .before .before .before .before .before .before .before .before .before .before .before .before .before .before .before .before .before .before .before .before .before .before .before .before .before .pre .1), c .before .before .before .before .before .before .before .before .before .before .before .before .before .before .before .before .before .before .before .before .before .before .before .before .before .pre .0)
+
+slice-aggregate-put-words-4 : tie.Need-slice-aggregate-put-words-4
+slice-aggregate-put-words-4 c = sym (values-long (c .before .before .before .before .before .before .before .before .before .before .before .before .before .before .before .before .before .before .before .before .before .before .before .before .before .before .before .before .before .before .pre .1))
+
+put-words-requires-4 : tie.Need-put-words-requires-4
+put-words-requires-4 c κs = omega (arith, c .before .before .before .state4 .given, c .before .before .before .before .before .before .before .before .state3 .given, c .before .before .before .before .before .before .before .before .before .before .before .before .before .state2 .given, c .before .before .before .before .before .before .before .before .before .before .before .before .before .before .before .before .before .before .state .given, values-long (c .before .before .before .before .before .before .before .before .before .before .before .before .before .before .before .before .before .before .before .before .before .before .before .before .before .before .before .before .before .before .pre .1), c .before .before .before .before .before .before .before .before .before .before .before .before .before .before .before .before .before .before .before .before .before .before .before .before .before .before .before .before .before .before .pre .0)
+
+slice-aggregate-put-words-5 : tie.Need-slice-aggregate-put-words-5
+slice-aggregate-put-words-5 c = sym (buckets-long (c .before .before .before .before .before .before .before .before .before .before .before .before .before .before .before .before .before .before .before .before .before .before .before .before .before .before .before .before .before .before .before .before .before .before .before .pre .1))
+
+put-words-requires-5 : tie.Need-put-words-requires-5
+put-words-requires-5 c κs = omega (arith, c .before .before .before .state5 .given, c .before .before .before .before .before .before .before .before .state4 .given, c .before .before .before .before .before .before .before .before .before .before .before .before .before .state3 .given, c .before .before .before .before .before .before .before .before .before .before .before .before .before .before .before .before .before .before .state2 .given, c .before .before .before .before .before .before .before .before .before .before .before .before .before .before .before .before .before .before .before .before .before .before .before .state .given, buckets-long (c .before .before .before .before .before .before .before .before .before .before .before .before .before .before .before .before .before .before .before .before .before .before .before .before .before .before .before .before .before .before .before .before .before .before .before .pre .1), c .before .before .before .before .before .before .before .before .before .before .before .before .before .before .before .before .before .before .before .before .before .before .before .before .before .before .before .before .before .before .before .before .before .before .before .pre .0)
+
+same-length : tie.Need-same-length
+same-length c = search needs
+
+returns : tie.Need-returns
+returns c = all-over (c .before .before .before .before .before .before .before .before .before .before .before .before .before .before .before .before .before .before .before .before .before .before .before .before .before .before .before .before .before .before .before .before .before .before .before .before .before .before .pre .1) (c .before .before .before .before .before .before .before .before .before .before .before .before .before .before .before .before .before .before .before .before .before .before .before .before .before .before .before .before .before .before .before .before .before .before .before .before .before .before .args .state .now) (c .before .before .before .before .before .before .before .before .before .before .before .before .before .before .before .before .before .before .before .before .before .before .before .before .before .before .before .before .before .before .before .before .before .before .before .first-words .ensures) (c .before .before .before .before .before .before .before .before .before .before .before .before .before .before .before .before .before .before .before .before .before .before .before .before .before .before .before .put-words .ensures) (c .before .before .before .before .before .before .before .before .before .before .before .before .before .before .before .before .before .before .before .before .before .before .put-keys .ensures) (c .before .before .before .before .before .before .before .before .before .before .before .before .before .before .before .before .before .put-words2 .ensures) (c .before .before .before .before .before .before .before .before .before .before .before .before .put-words3 .ensures) (c .before .before .before .before .before .before .before .put-words4 .ensures) (c .before .before .put-words5 .ensures)
+
+pub put-state-spec : {M : Type 1} → statement M
+put-state-spec =
+    tie.close
+    (tie.spec
+    first-words-requires
+    slice-aggregate-put-words
+    put-words-requires
+    slice-aggregate-put-keys
+    put-keys-requires
+    slice-aggregate-put-words-2
+    put-words-requires-2
+    slice-aggregate-put-words-3
+    put-words-requires-3
+    slice-aggregate-put-words-4
+    put-words-requires-4
+    slice-aggregate-put-words-5
+    put-words-requires-5
+    same-length
+    returns)
