@@ -22,7 +22,7 @@ use Rattle.queue.specs.Queue.{ofStamp, ofEarliest}
 use Rattle.queue.specs.declared.Stamp.{Stamp}
 use Rattle.queue.specs.declared.Earliest.{Earliest}
 use Rattle.queue.specs.declared.Earliest.the-variants as E
-use Rattle.heads.specs.Found.{headOf, mappedHead, scopeHeadOf, headIn, leastHead}
+use Rattle.heads.specs.Found.{headOf, headHere, bestOf, mappedHead, scopeHeadOf, headIn, leastHead}
 use Rattle.heads.specs.declared.HeadAt.{HeadAt}
 use Rattle.heads.specs.declared.Head.{Head}
 use Rattle.heads.specs.declared.Head.the-variants as C
@@ -36,20 +36,39 @@ module _ (k : Clock) (i : ℕ) (t : Tag) {m : MappedGlobal} where
 
 pub ruleset maps = (mapped-tag, mapped-none)
 
-module _ (s : Scope) (i : ℕ) (e : Earliest) {r : H.Head} where
-  pub scope-nothing : s .active ≡ true → e ≡ E.Nothing → r ≡ H.empty → r ≡ scopeHeadOf s i (ofEarliest e)
+module _ (s : Scope) (i : ℕ) (l : Least) {r : H.Head} where
+  pub scope-on : s .active ≡ true → r ≡ mappedHead (s .clock) i l → r ≡ scopeHeadOf s i l
   unfolding scopeHeadOf
-  scope-nothing a h p = p ∙ rw (a, h)
+  scope-on a p = p ∙ rw a
 
-  pub scope-at : {t : Stamp} → s .active ≡ true → e ≡ E.At t → r ≡ mappedHead (s .clock) i (least (ofStamp t)) → r ≡ scopeHeadOf s i (ofEarliest e)
-  unfolding scopeHeadOf
-  scope-at a h p = p ∙ rw (a, h)
-
-  pub scope-off : s .active ≡ false → r ≡ H.empty → r ≡ scopeHeadOf s i (ofEarliest e)
+  pub scope-off : s .active ≡ false → r ≡ H.empty → r ≡ scopeHeadOf s i l
   unfolding scopeHeadOf
   scope-off a p = p ∙ rw a
 
-pub ruleset scopeHeads = (scope-nothing, scope-at, scope-off, refl)
+pub ruleset scopeHeads = (scope-on, scope-off, refl)
+
+-- a scope in which nothing waits has no head
+module _ (ss : List Scope) (ls : List Least) (i : ℕ) (e : Earliest) (h : ofEarliest e ≡ getD ls i noTag) where
+  pub in-nothing : e ≡ E.Nothing → H.empty ≡ headIn ss ls i
+  unfolding headIn scopeHeadOf
+  in-nothing p = sym (off (getD ss i blank .active)) ∙ ap (scopeHeadOf (getD ss i blank) i) (sym (ap ofEarliest p) ∙ h)
+    where
+      off : (a : Bool) → cond a H.empty H.empty ≡ H.empty
+      off true = refl
+      off false = refl
+
+  pub in-at : {t : Stamp} {r : H.Head} → e ≡ E.At t → r ≡ scopeHeadOf (getD ss i blank) i (least (ofStamp t)) → r ≡ headIn ss ls i
+  unfolding headIn
+  in-at p q = q ∙ ap (scopeHeadOf (getD ss i blank) i) (sym (ap ofEarliest p) ∙ h)
+
+-- the best so far and one more
+module _ (found : Bool) (best x : HeadAt) where
+  pub best-first : found ≡ false → sooner (bestOf found best) (headHere x) ≡ headHere x
+  best-first e = rw e
+
+  pub best-by : {r : Bool} → found ≡ true → r ≡ earlier (ofGlobal (x .tag)) (ofGlobal (best .tag)) →
+      sooner (bestOf found best) (headHere x) ≡ cond r (headHere x) (bestOf found best)
+  best-by e h = rw (e, h)
 
 module _ (a b : Head) {r : H.Head} where
   pub sooner-first : {x : HeadAt} → a ≡ C.At x → b ≡ C.Empty → r ≡ headOf (C.At x) → r ≡ sooner (headOf a) (headOf b)
@@ -88,6 +107,24 @@ module _ (ss : List Scope) (ls : List Least) (n : ℕ) where
   pub loop-next : (i : ℕ) (b a : H.Head) → i < n → a ≡ sooner b (headIn ss ls i) → leastHead ss ls n ≡ from-here i b → leastHead ss ls n ≡ from-here (i + 1) a
   unfolding foldl from
   loop-next i b a h e p = let s : n - i ≡ suc (n - (i + 1)) = omega arith in p ∙ rw (s, e, add-one)
+
+  module _ (i : ℕ) (found : Bool) (best : HeadAt) (h : i < n) (r : Head) (e : headOf r ≡ headIn ss ls i) (p : leastHead ss ls n ≡ from-here i (bestOf found best)) where
+    pub loop-empty : r ≡ C.Empty → leastHead ss ls n ≡ from-here (i + 1) (bestOf found best)
+    loop-empty q = loop-next i (bestOf found best) (bestOf found best) h (kept (bestOf found best) ∙ ap (sooner (bestOf found best)) (sym (ap headOf q) ∙ e)) p
+      where
+        kept : (b : H.Head) → b ≡ sooner b H.empty
+        kept H.empty = refl
+        kept (H.head q t g) = refl
+
+    module _ (x : HeadAt) (q : r ≡ C.At x) (s : Bool) (t : sooner (bestOf found best) (headHere x) ≡ cond s (headHere x) (bestOf found best)) where
+      same : sooner (bestOf found best) (headIn ss ls i) ≡ cond s (headHere x) (bestOf found best)
+      same = ap (sooner (bestOf found best)) (sym e ∙ ap headOf q) ∙ t
+
+      pub loop-sooner : s ≡ true → leastHead ss ls n ≡ from-here (i + 1) (headHere x)
+      loop-sooner y = loop-next i (bestOf found best) (headHere x) h (sym (rw y at same)) p
+
+      pub loop-kept : s ≡ false → leastHead ss ls n ≡ from-here (i + 1) (bestOf found best)
+      loop-kept y = loop-next i (bestOf found best) (bestOf found best) h (sym (rw y at same)) p
 
   pub loop-end : (i : ℕ) (b : H.Head) → n ≤ i → leastHead ss ls n ≡ from-here i b → b ≡ leastHead ss ls n
   unfolding foldl from

@@ -14,9 +14,16 @@ use Rattle.heads.specs.declared.HeadAt.{HeadAt}
 use Rattle.heads.specs.declared.Head.{Head}
 use Rattle.heads.specs.declared.Head.the-variants as C
 
+abbrev pub headHere : HeadAt → H.Head
+headHere h = H.head (h .queue) (ofStamp (h .stamp)) (ofGlobal (h .tag))
+
 abbrev pub headOf : Head → H.Head
 headOf C.Empty = H.empty
-headOf (C.At h) = H.head (h .queue) (ofStamp (h .stamp)) (ofGlobal (h .tag))
+headOf (C.At h) = headHere h
+
+-- the best head so far, if one was found
+abbrev pub bestOf : Bool → HeadAt → H.Head
+bestOf found h = cond found (headHere h) H.empty
 
 -- a scope's head by its clock and its least tag
 abbrev pub mappedHead : Clock → ℕ → Least → H.Head

@@ -1,10 +1,11 @@
 // Heads, and the least of them: document 01, "Head: root, its least tag; active scope, its least local tag, mapped."
 ghost use mathlib.Core.Path.{_≡_};
+ghost use mathlib.Core.Bool.{cond};
 ghost use lib.ListN.{getD};
 ghost use Rattle.machine.specs.Heads.{noTag, least, rootOf, sooner as soonerOf};
 ghost use Rattle.scopes.specs.Scopes.{mostScopes, scopesOf, scopeOf};
 ghost use Rattle.queue.specs.Queue.{ofStamp, ofEarliest, leastsOf};
-ghost use Rattle.heads.specs.Found.{headOf, mappedHead, scopeHeadOf, headIn, leastHead};
+ghost use Rattle.heads.specs.Found.{headOf, headHere, bestOf, mappedHead, scopeHeadOf, headIn, leastHead};
 use queue::Earliest;
 use queue::Stamp;
 use scopes::Scope;
@@ -39,18 +40,14 @@ fn mapped_head(s: Scope, i: u16, t: Stamp) -> Head
     }
 }
 
-// The head of a scope; one that is not active has none.
-fn scope_head_of(s: Scope, i: u16, found: Earliest) -> Head
-    ensures { λ r. ⌜ headOf r ≡ scopeHeadOf (scopeOf s) i (ofEarliest found) ⌝ }
+// The head of a scope by its least tag; one that is not active has none.
+fn scope_head_of(s: Scope, i: u16, t: Stamp) -> Head
+    ensures { λ r. ⌜ headOf r ≡ scopeHeadOf (scopeOf s) i (least (ofStamp t)) ⌝ }
 {
     if s.active {
-        match found {
-            Earliest::Nothing => Head::Empty,
-            Earliest::At(t) => mapped_head(s, i, t),
-        }
-    } else {
-        Head::Empty
+        return mapped_head(s, i, t);
     }
+    Head::Empty
 }
 
 // The second where it is earlier, else the first.
@@ -66,28 +63,58 @@ fn sooner(a: Head, b: Head) -> Head
     }
 }
 
-// Scope i's head.
+// Scope i's head. A scope in which nothing waits is not looked at.
 fn head_in(heads: &[u64; queue::HEADS], scopes: &[u64; scopes::ROOM], i: u16) -> Head
     ensures { λ r. ⌜ headOf r ≡ headIn (scopesOf (now (scopes .entry))) (leastsOf (now (heads .entry))) i ⌝ }
 {
     let k = i as usize;
-    let s = scopes::scope_at(scopes, k);
-    let found = queue::least_at(heads, k);
-    scope_head_of(s, i, found)
+    match queue::least_at(heads, k) {
+        Earliest::Nothing => Head::Empty,
+        Earliest::At(t) => {
+            let s = scopes::scope_at(scopes, k);
+            scope_head_of(s, i, t)
+        }
+    }
+}
+
+// A head takes the place of the best so far, if there is one.
+fn is_sooner(found: bool, best: HeadAt, x: HeadAt) -> bool
+    ensures { λ r. ⌜ soonerOf (bestOf found best) (headHere x) ≡ cond r (headHere x) (bestOf found best) ⌝ }
+{
+    if found {
+        return x.tag.earlier(best.tag);
+    }
+    true
 }
 
 // The least head of the first n scopes, of the lowest-numbered such scope.
 pub fn scope_head(heads: &[u64; queue::HEADS], scopes: &[u64; scopes::ROOM], n: u16) -> Head
     ensures { λ r. ⌜ headOf r ≡ leastHead (scopesOf (now (scopes .entry))) (leastsOf (now (heads .entry))) n ⌝ }
 {
-    let mut best = Head::Empty;
+    let mut found = false;
+    let mut best = HeadAt {
+        queue: 0,
+        stamp: Stamp(0, 0),
+        tag: GlobalTag(0, 0),
+    };
     let mut i: u16 = 0;
     while i < n {
-        let h = head_in(heads, scopes, i);
-        best = sooner(best, h);
+        let at = i;
         i += 1;
+        match head_in(heads, scopes, at) {
+            Head::Empty => {}
+            Head::At(x) => {
+                if is_sooner(found, best, x) {
+                    best = x;
+                    found = true;
+                }
+            }
+        }
     }
-    best
+    if found {
+        return Head::At(best);
+    }
+    Head::Empty
 }
 
 // The root's head.

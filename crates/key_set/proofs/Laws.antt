@@ -5,7 +5,7 @@ use mathlib.Core.Bool.{Bool, true, false, _&&_, _||_}
 use mathlib.Core.List.{List, [], _∷_}
 use mathlib.Core.Option.{Option, none, some}
 use Prim.Native.Nat.{ℕ, zero, suc, _+_, _-_, _*_, _/_, _%_, _^_, _≤_, _<_, max}
-use native.Mathlib.Nat.{mod-lt, zero-lt-suc, div-eq-of-lt, div-self, zero-div, zero-max, max-zero, one-mul, mul-mod-left, div-div-eq-div-mul, pow-suc, pow-succ', div-one}
+use native.Mathlib.Nat.{mod-lt, zero-lt-suc, div-eq-of-lt, div-self, zero-div, zero-max, max-zero, one-mul, mul-mod-left, mul-assoc, zero-mod, div-add-mod', div-div-eq-div-mul, pow-suc, pow-succ', div-one}
 use native.Mathlib.Numerals.{add-one}
 use native.Mathlib.Omega.{arith}
 use lib.Dec.{eqb, ltb}
@@ -72,6 +72,18 @@ bit-half x j = ap (λ (n : ℕ). n % 2) (ap (λ (n : ℕ). x / n) (pow-succ' 2 j
 pub half-lt : {x : ℕ} (n : ℕ) → x < 2 ^ suc n → x / 2 < 2 ^ n
 half-lt {x} n h = shr-lt n 1 (subst (λ (m : ℕ). x < 2 ^ m) (sym (add-one n)) h)
 
+-- a number whose lowest bits are 0 is even, and so is its half of one bit less
+pub zeros-down : (x c : ℕ) → x % 2 ^ suc c ≡ 0 → (x % 2 ≡ 0) × (x / 2 % 2 ^ c ≡ 0)
+zeros-down x c z =
+    let q : ℕ = x / 2 ^ suc c in
+    let y : ℕ = q * 2 ^ c in
+    let e : q * 2 ^ suc c ≡ y * 2 = ap (λ (n : ℕ). q * n) (pow-suc 2 c) ∙ sym (mul-assoc q (2 ^ c) 2) in
+    let d : x ≡ y * 2 = omega (arith, div-add-mod' x (2 ^ suc c), z, e) in
+    (omega arith, ap (λ (n : ℕ). n % 2 ^ c) (the-half y d) ∙ mul-mod-left q (2 ^ c))
+  where
+    the-half : (y : ℕ) → x ≡ y * 2 → x / 2 ≡ y
+    the-half y d = omega arith
+
 -- `1 << b`
 pub one-shl : (b : ℕ) → b < 64 → 1 * 2 ^ b % 2 ^ 64 ≡ 2 ^ b
 one-shl b h = shl-exact 1 b 64 (omega arith) (omega arith) ∙ one-mul (2 ^ b)
@@ -81,6 +93,15 @@ one-shl b h = shl-exact 1 b 64 (omega arith) (omega arith) ∙ one-mul (2 ^ b)
 pub has-past : (ws : List ℕ) (k : ℕ) → length ws ≤ k / 64 → has ws k ≡ false
 unfolding has
 has-past ws k h = ap (λ (x : ℕ). eqb (bit x (k % 64)) 1) (List·getD-eq-default ws 0 h) ∙ ap (λ (x : ℕ). eqb x 1) (bit-zero (k % 64))
+
+-- the word, from k's bit on, is odd; or even
+pub has-one : (ws : List ℕ) (k : ℕ) → getD ws (k / 64) 0 / 2 ^ (k % 64) % 2 ≡ 1 → has ws k ≡ true
+unfolding has bit
+has-one ws k e = ap (λ (n : ℕ). eqb n 1) e
+
+pub has-none : (ws : List ℕ) (k : ℕ) → getD ws (k / 64) 0 / 2 ^ (k % 64) % 2 ≡ 0 → has ws k ≡ false
+unfolding has bit
+has-none ws k e = ap (λ (n : ℕ). eqb n 1) e
 
 pub insert-past : (ws : List ℕ) (k : ℕ) → length ws ≤ k / 64 → insertKey ws k ≡ ws
 unfolding insertKey
@@ -239,6 +260,32 @@ module _ (ws : List ℕ) where
   pub keys-no : (k : ℕ) → k < capacity ws → has ws k ≡ false → keysFrom ws k ≡ keysFrom ws (k + 1)
   unfolding keysFrom
   keys-no k h e = those-no (has ws) (capacity ws) k h e
+
+  -- as many keys are passed over as bits of the word are 0 from k's on
+  pub keys-zeros : (c k : ℕ) → k % 64 + c ≤ 64 → k + c ≤ capacity ws → getD ws (k / 64) 0 / 2 ^ (k % 64) % 2 ^ c ≡ 0 → keysFrom ws k ≡ keysFrom ws (k + c)
+  keys-zeros zero k h l z = ap (keysFrom ws) (omega arith)
+  keys-zeros (suc c) k h l z =
+      let x : ℕ = getD ws (k / 64) 0 / 2 ^ (k % 64) in
+      let d = zeros-down x c z in
+      keys-no k (omega arith) (has-none ws k (d .0)) ∙ ⊎-elim (λ (b : k % 64 < 63). inside (d .1) b (keys-zeros c (k + 1))) last (below? (k % 64) 63)
+      ∙ ap (keysFrom ws) (on k c)
+    where
+      on : (k c : ℕ) → k + 1 + c ≡ k + suc c
+      on k c = omega arith
+
+      half : getD ws (k / 64) 0 / 2 ^ (k % 64) / 2 ≡ getD ws (k / 64) 0 / 2 ^ suc (k % 64)
+      half = div-div-eq-div-mul (getD ws (k / 64) 0) (2 ^ (k % 64)) 2 ∙ ap (λ (n : ℕ). getD ws (k / 64) 0 / n) (sym (pow-suc 2 (k % 64)))
+
+      inside : getD ws (k / 64) 0 / 2 ^ (k % 64) / 2 % 2 ^ c ≡ 0 → k % 64 < 63
+          → ((k + 1) % 64 + c ≤ 64 → k + 1 + c ≤ capacity ws → getD ws ((k + 1) / 64) 0 / 2 ^ ((k + 1) % 64) % 2 ^ c ≡ 0 → keysFrom ws (k + 1) ≡ keysFrom ws (k + 1 + c))
+          → keysFrom ws (k + 1) ≡ keysFrom ws (k + 1 + c)
+      inside e b ih =
+          let p : (k + 1) / 64 ≡ k / 64 = omega arith in
+          let q : (k + 1) % 64 ≡ suc (k % 64) = omega arith in
+          ih (omega arith) (omega arith) (ap₂ (λ (i j : ℕ). getD ws i 0 / 2 ^ j % 2 ^ c) p q ∙ ap (λ (n : ℕ). n % 2 ^ c) (sym half) ∙ e)
+
+      last : 63 ≤ k % 64 → keysFrom ws (k + 1) ≡ keysFrom ws (k + 1 + c)
+      last b = ap (keysFrom ws) (omega arith)
 
   pub keys-end : (k : ℕ) → capacity ws ≤ k → keysFrom ws k ≡ []
   unfolding keysFrom

@@ -1,6 +1,7 @@
 // Sets of keys over 64-bit words: document 01, "Values and level walks", and the set under key_set.rs (tinymap's `KeySet`).
 // A key at or above KEYS is beyond the capacity: no set has it, and inserting it changes nothing.
 ghost use mathlib.Core.Path.{_≡_};
+ghost use Prim.Native.Nat.{_≤_, _%_, _^_};
 ghost use Rattle.key_set.specs.Sets.{noKeys, has, insertKey, unionOf, lowestFrom, sizeOf, isEmptyOf, wordCount};
 ghost use Rattle.key_set.specs.Views.{foundOf};
 
@@ -19,6 +20,27 @@ pub struct KeySet {
 pub enum Found {
     Key(usize),
     Nothing,
+}
+
+// So many of an even word's lowest bits are 0, of those that are left: all of them in a word of 0, else 16, 4 or 1.
+fn zeros(w: u64, left: usize) -> usize
+    requires { ⌜ (w % 2 ≡ 0) × (1 ≤ left) ⌝ }
+    ensures { λ r. ⌜ (1 ≤ r) × (r ≤ left) × (w % 2 ^ r ≡ 0) ⌝ }
+{
+    if w == 0 {
+        return left;
+    }
+    if 16 <= left {
+        if w % 65536 == 0 {
+            return 16;
+        }
+    }
+    if 4 <= left {
+        if w % 16 == 0 {
+            return 4;
+        }
+    }
+    1
 }
 
 impl KeySet {
@@ -73,10 +95,12 @@ impl KeySet {
     {
         let mut i = k;
         while i < KEYS {
-            if self.contains(i) {
+            let b = i % 64;
+            let w = self.words[i / 64] >> b;
+            if w % 2 == 1 {
                 return Found::Key(i);
             }
-            i += 1;
+            i += zeros(w, 64 - b);
         }
         Found::Nothing
     }

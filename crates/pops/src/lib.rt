@@ -131,8 +131,8 @@ fn take_at(
     };
     let counts = given.counts;
     let before = given.gathered;
-    let gathered = ready::gather(events, counts.waiting, which, keys, before);
-    let gone = queue::remove(events, counts.waiting, which);
+    let gone = ready::take_out(events, counts.waiting, which, keys, before);
+    let gathered = gone.gathered;
     let left = Counts {
         waiting: gone.count,
         work: counts.work - gone.ordinary,

@@ -7,7 +7,7 @@ use Prim.Native.Nat.{ℕ, zero, suc, _+_, _-_, _*_, _%_, _<_, _≤_}
 use native.Mathlib.Omega.{arith}
 use native.Mathlib.Nat.{mod-eq-of-lt}
 use lib.ListN.{length, getD, set, take, drop, replicate}
-use lib.Seq.{set-out}
+use lib.Seq.{set-out, set-getD}
 use lib.Dec.{eqb, ltb}
 use borrow.Author.Tests.{eq-eqb, ne-eqb, lt-ltb, le-ltb, eqb-true, ltb-true}
 use Rattle.lists.specs.Rows.{tab, tab-at, tab-set, tab-length, tab-past, tab-all, stores}
@@ -18,7 +18,8 @@ use Rattle.tags.specs.Tags.{Tag, at, earlier}
 use Rattle.machine.specs.State.{Event, root, inQueue}
 use Rattle.machine.specs.Heads.{Least, noTag, least, lesser, leastOf}
 use Rattle.scopes.specs.Scopes.{mostScopes}
-use Rattle.slots.specs.Slots.{blank}
+use Rattle.slots.specs.Slots.{blank, IsDue}
+use Rattle.slots.specs.declared.Due.{Due}
 use Rattle.queue.specs.Queue.{queues, ofStamp, ofEarliest, entryOf, queueOf, leastWords, encode, decode, encode-long, leastsOf, Whole, Held, headsOf}
 use Rattle.queue.specs.declared.Stamp.{Stamp}
 use Rattle.queue.specs.declared.Earliest.{Earliest}
@@ -68,14 +69,25 @@ blank-heads =
 
 -- ---- the lesser of two
 
-pub lesser-nothing : (t : Tag) (e : Earliest) → e ≡ E.Nothing → least t ≡ lesser t (ofEarliest e)
-lesser-nothing t e h = rw h
+-- the entry of one event more, by what stood there
+module _ (ws : List ℕ) (q : ℕ) (t : Stamp) {k : ℕ} (o : k ≡ entryOf q) (e : Earliest) (h : ofEarliest e ≡ getD (leastsOf ws) k noTag) where
+  abbrev Noted : List ℕ → Type 0
+  Noted out = Held out (set (leastsOf ws) (entryOf q) (lesser (ofStamp t) (getD (leastsOf ws) (entryOf q) noTag)))
 
-pub lesser-old : (t : Stamp) (e : Earliest) {u : Stamp} → e ≡ E.At u → earlier (ofStamp u) (ofStamp t) ≡ true → least (ofStamp u) ≡ lesser (ofStamp t) (ofEarliest e)
-lesser-old t e h p = rw h (simp p)
+  pub note-first : {out : List ℕ} → e ≡ E.Nothing → Held out (set (leastsOf ws) k (least (ofStamp t))) → Noted out
+  note-first p r =
+      let l : getD (leastsOf ws) k noTag ≡ noTag = sym h ∙ ap ofEarliest p in
+      rw (← o) (rw l r)
 
-pub lesser-new : (t : Stamp) (e : Earliest) {u : Stamp} → e ≡ E.At u → earlier (ofStamp u) (ofStamp t) ≡ false → least (ofStamp t) ≡ lesser (ofStamp t) (ofEarliest e)
-lesser-new t e h p = rw h (simp p)
+  pub note-lesser : {out : List ℕ} {u : Stamp} → e ≡ E.At u → earlier (ofStamp u) (ofStamp t) ≡ false → Held out (set (leastsOf ws) k (least (ofStamp t))) → Noted out
+  note-lesser {u = u} p f r =
+      let l : getD (leastsOf ws) k noTag ≡ least (ofStamp u) = sym h ∙ ap ofEarliest p in
+      rw (← o) (rw (l, f) r)
+
+  pub note-kept : {u : Stamp} → Whole ws → e ≡ E.At u → earlier (ofStamp u) (ofStamp t) ≡ true → Noted ws
+  note-kept {u} w p f =
+      let l : getD (leastsOf ws) k noTag ≡ least (ofStamp u) = sym h ∙ ap ofEarliest p in
+      record { whole = w; things = rw (← o) (rw (l, f) (rw (← l) (sym (set-getD (leastsOf ws) k noTag)))) }
 
 -- ---- one event more in front
 
@@ -142,14 +154,14 @@ module _ (l : List Event) (n : ℕ) where
   heads-start h = rw (drop-take-end n l, heads-none) h
 
   pub heads-step :
-      (i : ℕ) (e : Event) {ws out : List ℕ} → 0 < i → i ≤ n → n ≤ length l → e ≡ getD l (i - 1) blank → Held ws (headsOf (drop i (take n l))) →
-      Held out (set (leastsOf ws) (entryOf (e .queue)) (lesser (e .tag) (getD (leastsOf ws) (entryOf (e .queue)) noTag))) →
+      (i : ℕ) (d : Due) {ws out : List ℕ} → 0 < i → i ≤ n → n ≤ length l → IsDue d (getD l (i - 1) blank) → Held ws (headsOf (drop i (take n l))) →
+      Held out (set (leastsOf ws) (entryOf (d .queue)) (lesser (at (d .offset) (d .microstep)) (getD (leastsOf ws) (entryOf (d .queue)) noTag))) →
       Held out (headsOf (drop (i - 1) (take n l)))
-  heads-step i e z a b r h o =
+  heads-step i d z a b r h o =
+      let e = getD l (i - 1) blank in
       let es = drop i (take n l) in
-      let p : drop (i - 1) (take n l) ≡ getD l (i - 1) blank ∷ es = drop-pred l n i blank z a b in
-      let q : headsOf (drop (i - 1) (take n l)) ≡ headsOf (e ∷ es) = rw (p, r) in
-      rw (q, ← heads-more e es, ← h .things) o
+      let p : drop (i - 1) (take n l) ≡ e ∷ es = drop-pred l n i blank z a b in
+      rw (p, ← heads-more e es, ← h .things, ← r .queue, ← r .tag) o
 
   pub heads-end : {ws : List ℕ} (i : ℕ) → i ≤ 0 → Held ws (headsOf (drop i (take n l))) → Held ws (headsOf (take n l))
   heads-end i z h = let e : i ≡ 0 = omega arith in rw e at h

@@ -1,20 +1,25 @@
 -- Taking events out of the rows. Assumes nothing.
-use mathlib.Core.Bool.{Bool, true, false, cond}
+use mathlib.Core.Bool.{Bool, true, false, cond, _&&_}
 use mathlib.Core.Path.{_≡_, refl, sym, ap, _∙_}
 use mathlib.Core.List.{List, [], _∷_, _++_}
 use Prim.Native.Nat.{ℕ, zero, suc, _+_, _<_, _≤_}
 use native.Mathlib.Omega.{arith}
 use lib.ListN.{length, getD, set, take, length-take}
 use lib.Seq.{set-getD}
+use lib.Dec.{eqb}
+use borrow.Author.Tests.{eq-eqb, ne-eqb}
 use Rattle.lists.specs.Lists.{keep, lose, count, keep-suc-yes, keep-suc-no, count-append, over, over-read, lose-shorter}
 use Rattle.lists.specs.Lay.{lay}
+use Rattle.lists.specs.Tests.{and-no}
 use Rattle.lists.specs.Loops as loops
 use Rattle.key_set.specs.Sets.{has}
-use Rattle.tags.specs.Tags.{sameTag}
+use Rattle.tags.specs.Tags.{at, sameTag}
 use Rattle.machine.specs.State.{Event, mostWaiting, ordinary, atHead, inQueue}
-use Rattle.slots.specs.Slots.{slotWords, blank, encode, decode, encode-long, eventsOf, Whole, Held}
+use Rattle.slots.specs.Slots.{slotWords, blank, encode, decode, encode-long, eventsOf, Whole, Held, IsDue}
+use Rattle.slots.specs.declared.Due.{Due}
 use Rattle.slots.proofs.SlotLaws.{events-long}
 use Rattle.queue.specs.Queue.{oneIf, ofStamp, goesOf}
+use Rattle.queue.specs.declared.Stamp.{Stamp}
 use Rattle.queue.specs.declared.Which.{Which}
 
 -- ---- which go
@@ -27,6 +32,27 @@ module _ (w : Which) (e : Event) {r : Bool} where
   pub goes-in : w .«by_tag» ≡ false → r ≡ has (w .inside .words) (e .queue) → r ≡ goesOf w e
   unfolding goesOf
   goes-in t h = simp t h
+
+-- an event that is due so
+module _ (d : Due) (q : ℕ) (t : Stamp) (e : Event) (h : IsDue d e) where
+  at-due : (eqb (d .queue) q && sameTag (at (d .offset) (d .microstep)) (ofStamp t)) ≡ atHead q (ofStamp t) e
+  unfolding atHead inQueue
+  at-due = rw (h .queue, h .tag)
+
+  pub due-here : {r : Bool} → d .offset ≡ t .0 → d .queue ≡ q → r ≡ eqb (d .microstep) (t .1) → r ≡ atHead q (ofStamp t) e
+  unfolding sameTag
+  due-here o k m = m ∙ (simp (eq-eqb _ _ o, eq-eqb _ _ k) refl ∙ at-due)
+
+  pub due-elsewhere : (d .queue ≡ q → ⊥) → false ≡ atHead q (ofStamp t) e
+  unfolding sameTag
+  due-elsewhere k = simp (ne-eqb _ _ k) refl ∙ at-due
+
+  pub due-otherwise : (d .offset ≡ t .0 → ⊥) → false ≡ atHead q (ofStamp t) e
+  unfolding sameTag
+  due-otherwise o = sym (and-no (eqb (d .queue) q)) ∙ (simp (ne-eqb _ _ o) refl ∙ at-due)
+
+  pub due-in : {r : Bool} (ws : List ℕ) → r ≡ has ws (d .queue) → r ≡ has ws (e .queue)
+  due-in ws p = p ∙ ap (has ws) (h .queue)
 
 -- ---- the ordinary ones that went
 
@@ -57,7 +83,7 @@ taken-none p ws h = record { kept = loops.compact-none decode encode slotWords m
 
 module _ (p : Event → Bool) (ws : List ℕ) (n i m k : ℕ) (out : List ℕ) (b : i < n) (f : n ≤ mostWaiting) (h : Taken p ws i m k out) (e : Event)
     (r : e ≡ getD (eventsOf out) i blank) (x : Bool) (t : x ≡ p e) where
-  original : e ≡ getD (eventsOf ws) i blank
+  pub original : e ≡ getD (eventsOf ws) i blank
   original =
       let es = eventsOf ws in
       let s : length (lose p (take i es)) ≤ i = omega (arith, lose-shorter p (take i es), length-take i es) in

@@ -6,14 +6,15 @@ ghost use lib.ListN.{length, getD, set, take};
 ghost use Rattle.lists.specs.Lists.{lose, keep, count};
 ghost use Rattle.lists.specs.Lists as lists;
 ghost use Rattle.lists.specs.Lay.{lay};
-ghost use Rattle.machine.specs.State.{mostWaiting, ordinary, atHead};
+ghost use Rattle.machine.specs.State.{Event, mostWaiting, ordinary, atHead};
 ghost use Rattle.machine.specs.Heads.{noTag, least, lesser};
-ghost use Rattle.tags.specs.Tags.{earlier};
-ghost use Rattle.slots.specs.Slots.{eventsOf, eventOf, blank};
+ghost use Rattle.tags.specs.Tags.{at, earlier};
+ghost use Rattle.slots.specs.Slots.{eventsOf, eventOf, blank, IsDue};
 ghost use Rattle.slots.specs.Slots as slot;
 ghost use Rattle.queue.specs.Queue.{acceptedAt, ofStamp, ofEarliest, entryOf, leastsOf, Whole, Held, headsOf, goesOf, oneIf};
 use key_set::KeySet;
 use refusals::Refusal;
+use slots::Due;
 use slots::Slot;
 
 // A tag on its queue's own scale.
@@ -112,25 +113,23 @@ fn put_least(heads: &mut [u64; HEADS], k: usize, t: Stamp)
     heads[b + 2] = t.1 as u64;
 }
 
-// The lesser of two tags.
-fn lesser_of(t: Stamp, old: Earliest) -> Stamp
-    ensures { λ r. ⌜ least (ofStamp r) ≡ lesser (ofStamp t) (ofEarliest old) ⌝ }
-{
-    match old {
-        Earliest::Nothing => t,
-        Earliest::At(u) => { if u.earlier(t) { u } else { t } }
-    }
-}
-
-// One event more.
-fn note(heads: &mut [u64; HEADS], s: Slot)
+// One event more; where its queue has an earlier one nothing is written.
+fn note(heads: &mut [u64; HEADS], d: Due)
     requires { ⌜ Whole (now heads) ⌝ }
-    ensures { λ _. ⌜ Held (now (heads .exit)) (set (leastsOf (now (heads .entry))) (entryOf (s .queue)) (lesser (eventOf s .tag) (getD (leastsOf (now (heads .entry))) (entryOf (s .queue)) noTag))) ⌝ }
+    ensures { λ _. ⌜ Held (now (heads .exit)) (set (leastsOf (now (heads .entry))) (entryOf (d .queue)) (lesser (at (d .offset) (d .microstep)) (getD (leastsOf (now (heads .entry))) (entryOf (d .queue)) noTag))) ⌝ }
 {
-    let k = entry_of(s.queue);
-    let old = least_at(heads, k);
-    let t = lesser_of(Stamp(s.offset, s.microstep), old);
-    put_least(heads, k, t);
+    let k = entry_of(d.queue);
+    let t = Stamp(d.offset, d.microstep);
+    match least_at(heads, k) {
+        Earliest::Nothing => {
+            put_least(heads, k, t);
+        }
+        Earliest::At(u) => {
+            if u.earlier(t) {} else {
+                put_least(heads, k, t);
+            }
+        }
+    }
 }
 
 // Every queue's least tag, in one pass.
@@ -142,8 +141,8 @@ pub fn heads(rows: &[u64; slots::ROOM], n: usize) -> [u64; HEADS]
     let mut i = n;
     while 0 < i {
         i -= 1;
-        let s = slots::slot_at(rows, i);
-        note(&mut out, s);
+        let d = slots::due_at(rows, i);
+        note(&mut out, d);
     }
     out
 }
@@ -164,30 +163,32 @@ pub struct Removed {
     pub ordinary: usize,
 }
 
-fn is_at(s: Slot, queue: u16, t: Stamp) -> bool
-    ensures { λ r. ⌜ r ≡ atHead queue (ofStamp t) (eventOf s) ⌝ }
+// Offsets differ more often than queues.
+fn is_at(d: Due, queue: u16, t: Stamp) -> bool
+    ensures { λ r. ⌜ ((e : Event) → IsDue d e → r ≡ atHead queue (ofStamp t) e) ⌝ }
 {
-    if s.queue == queue {
-        if s.offset == t.0 {
-            return s.microstep == t.1;
+    if d.offset == t.0 {
+        if d.queue == queue {
+            return d.microstep == t.1;
         }
     }
     false
 }
 
 impl Which {
-    pub fn goes(self, s: Slot) -> bool
-        ensures { λ r. ⌜ r ≡ goesOf self (eventOf s) ⌝ }
+    // An event goes if it is due so.
+    pub fn goes(self, d: Due) -> bool
+        ensures { λ r. ⌜ ((e : Event) → IsDue d e → r ≡ goesOf self e) ⌝ }
     {
         if self.by_tag {
-            return is_at(s, self.queue, self.stamp);
+            return is_at(d, self.queue, self.stamp);
         }
         let inside = self.inside;
-        inside.contains(s.queue as usize)
+        inside.contains(d.queue as usize)
     }
 }
 
-fn one_if(b: bool) -> usize
+pub fn one_if(b: bool) -> usize
     ensures { λ r. ⌜ (r ≡ oneIf b) × (r < 2) ⌝ }
 {
     if b {
@@ -197,7 +198,7 @@ fn one_if(b: bool) -> usize
 }
 
 // The event of row `from` stays, in row `to`.
-fn stay(rows: &mut [u64; slots::ROOM], from: usize, to: usize)
+pub fn stay(rows: &mut [u64; slots::ROOM], from: usize, to: usize)
     requires { ⌜ slot.Whole (now rows) ⌝ }
     requires { ⌜ (from < mostWaiting) × (to ≤ from) ⌝ }
     ensures { λ _. ⌜ slot.Held (now (rows .exit)) (set (eventsOf (now (rows .entry))) to (getD (eventsOf (now (rows .entry))) from blank)) ⌝ }
@@ -220,10 +221,11 @@ fn compact(rows: &mut [u64; slots::ROOM], n: usize, which: Which) -> Removed
     let mut ordinary: usize = 0;
     let mut i: usize = 0;
     while i < n {
-        let s = slots::slot_at(rows, i);
+        let d = slots::due_at(rows, i);
         let at = i;
         i += 1;
-        if which.goes(s) {
+        if which.goes(d) {
+            let s = slots::slot_at(rows, at);
             ordinary += one_if(s.is_ordinary());
         } else {
             stay(rows, at, w);
@@ -234,7 +236,7 @@ fn compact(rows: &mut [u64; slots::ROOM], n: usize, which: Which) -> Removed
 }
 
 // The rows from w to n blank.
-fn clear(rows: &mut [u64; slots::ROOM], w: usize, n: usize)
+pub fn clear(rows: &mut [u64; slots::ROOM], w: usize, n: usize)
     requires { ⌜ slot.Whole (now rows) ⌝ }
     requires { ⌜ (w ≤ n) × (n ≤ mostWaiting) ⌝ }
     ensures { λ _. ⌜ slot.Held (now (rows .exit)) (lay blank (eventsOf (now (rows .entry))) (take w (eventsOf (now (rows .entry)))) n) ⌝ }

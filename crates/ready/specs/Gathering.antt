@@ -3,16 +3,17 @@
 use mathlib.Core.Bool.{Bool, true, false, cond, _||_}
 use mathlib.Core.Path.{_≡_, refl, ap, _∙_, sym}
 use mathlib.Core.List.{List, [], _∷_, _++_}
-use Prim.Native.Nat.{ℕ, _+_}
+use Prim.Native.Nat.{ℕ, _+_, _≤_}
 use lib.ListN.{length, take, set}
 use lib.Dec.{eqb}
-use Rattle.lists.specs.Lists.{any, foldl}
+use Rattle.lists.specs.Lists.{any, foldl, keep, lose, count}
 use Rattle.key_set.specs.Sets.{unionOf, noKeys, wordCount}
 use Rattle.tags.specs.Tags.{Tag}
 use Rattle.rows.specs.Rows.{none}
-use Rattle.machine.specs.State.{Event, ordinary}
+use Rattle.machine.specs.State.{Event, mostWaiting, ordinary}
 use Rattle.machine.specs.Heads.{Ready, addAction, readyOf}
 use Rattle.ready.specs.declared.Gathered.{Gathered}
+use Rattle.ready.specs.declared.Taken.{Taken}
 
 -- a ready event without its tag
 pub record Gathering : Type 0 where
@@ -60,3 +61,12 @@ countAfter keys n a = cond (isNew (take n keys) a) (n + 1) n
 
 abbrev pub keysAfter : List ℕ → ℕ → ℕ → List ℕ
 keysAfter keys n a = cond (isNew (take n keys) a) (set keys n a) keys
+
+-- what taking out comes to: the events that go are gathered behind what there was, with no more keys than there may be;
+-- how many stay, and how many ordinary ones went
+pub record Sifted (p : Event → Bool) (es : List Event) (start : Gathering) (first : ℕ) (r : Taken) (keys : List ℕ) : Type 0 where
+  pub folds : gatheringOf (r .gathered) keys ≡ foldl addedTo start (keep p es)
+  pub near : r .gathered .actions ≤ first + length (keep p es)
+  pub long : length keys ≡ mostWaiting
+  pub left : r .count ≡ length (lose p es)
+  pub went : r .ordinary ≡ count ordinary (keep p es)

@@ -4,11 +4,12 @@ ghost use mathlib.Core.Bool.{_||_};
 ghost use Prim.Native.Nat.{_+_, _≤_, _<_};
 ghost use lib.ListN.{length, take};
 ghost use lib.Dec.{eqb};
-ghost use Rattle.lists.specs.Lists.{any, keep, foldl};
+ghost use Rattle.lists.specs.Lists.{any, lose, over};
+ghost use Rattle.lists.specs.Lay.{lay};
 ghost use Rattle.machine.specs.State.{mostWaiting, ordinary};
-ghost use Rattle.slots.specs.Slots.{eventsOf, eventOf};
+ghost use Rattle.slots.specs.Slots.{eventsOf, eventOf, blank, Whole, Held};
 ghost use Rattle.queue.specs.Queue.{goesOf};
-ghost use Rattle.ready.specs.Gathering.{nothingYet, addedTo, gatheringOf, countAfter, keysAfter};
+ghost use Rattle.ready.specs.Gathering.{nothingYet, addedTo, gatheringOf, countAfter, keysAfter, Sifted};
 use key_set::KeySet;
 use queue::Which;
 use slots::Slot;
@@ -99,26 +100,64 @@ fn either(a: bool, b: bool) -> bool
     b
 }
 
-// All events that go, in order of acceptance.
-pub fn gather(
-    rows: &[u64; slots::ROOM],
+// What was gathered, how many events are left, and how many ordinary ones went.
+pub struct Taken {
+    pub gathered: Gathered,
+    pub count: usize,
+    pub ordinary: usize,
+}
+
+// The events that go are gathered, in order of acceptance; those that stay, over the front.
+fn sift(
+    rows: &mut [u64; slots::ROOM],
     n: usize,
     which: Which,
     keys: &mut [u16; slots::MOST_WAITING],
     g: Gathered,
-) -> Gathered
+) -> Taken
+    requires { ⌜ Whole (now rows) × (n ≤ mostWaiting) ⌝ }
     requires { ⌜ (length (now keys) ≡ mostWaiting) × (g .actions + n ≤ mostWaiting) ⌝ }
-    ensures { λ r. ⌜ gatheringOf r (now (keys .exit)) ≡ foldl addedTo (gatheringOf g (now (keys .entry))) (keep (goesOf which) (take n (eventsOf (now (rows .entry))))) ⌝ }
-    ensures { λ r. ⌜ (r .actions ≤ g .actions + length (keep (goesOf which) (take n (eventsOf (now (rows .entry)))))) × (length (now (keys .exit)) ≡ length (now (keys .entry))) ⌝ }
+    ensures { λ r. ⌜ Sifted (goesOf which) (take n (eventsOf (now (rows .entry)))) (gatheringOf g (now (keys .entry))) (g .actions) r (now (keys .exit)) ⌝ }
+    ensures { λ _. ⌜ Held (now (rows .exit)) (over (lose (goesOf which) (take n (eventsOf (now (rows .entry))))) (eventsOf (now (rows .entry)))) ⌝ }
 {
     let mut out = g;
+    let mut w: usize = 0;
+    let mut ordinary: usize = 0;
     let mut i: usize = 0;
     while i < n {
-        let s = slots::slot_at(rows, i);
+        let d = slots::due_at(rows, i);
+        let at = i;
         i += 1;
-        if which.goes(s) {
+        if which.goes(d) {
+            let s = slots::slot_at(rows, at);
             out = add(keys, out, s);
+            ordinary += queue::one_if(s.is_ordinary());
+        } else {
+            queue::stay(rows, at, w);
+            w += 1;
         }
     }
-    out
+    Taken {
+        gathered: out,
+        count: w,
+        ordinary,
+    }
+}
+
+// The events that go are taken out and gathered; the slots that they free are blank.
+pub fn take_out(
+    rows: &mut [u64; slots::ROOM],
+    n: usize,
+    which: Which,
+    keys: &mut [u16; slots::MOST_WAITING],
+    g: Gathered,
+) -> Taken
+    requires { ⌜ Whole (now rows) × (n ≤ mostWaiting) ⌝ }
+    requires { ⌜ (length (now keys) ≡ mostWaiting) × (g .actions + n ≤ mostWaiting) ⌝ }
+    ensures { λ r. ⌜ Sifted (goesOf which) (take n (eventsOf (now (rows .entry)))) (gatheringOf g (now (keys .entry))) (g .actions) r (now (keys .exit)) ⌝ }
+    ensures { λ _. ⌜ Held (now (rows .exit)) (lay blank (eventsOf (now (rows .entry))) (lose (goesOf which) (take n (eventsOf (now (rows .entry))))) n) ⌝ }
+{
+    let r = sift(rows, n, which, keys, g);
+    queue::clear(rows, r.count, n);
+    r
 }

@@ -1,6 +1,6 @@
 -- What the two word functions go by, and what others may ask of slots in rows. Assumes nothing.
 use mathlib.Core.Bool.{Bool, true, false}
-use mathlib.Core.Path.{_≡_, refl, sym, _∙_}
+use mathlib.Core.Path.{_≡_, refl, sym, ap, _∙_}
 use mathlib.Core.List.{List, [], _∷_}
 use Prim.Native.Nat.{ℕ, _+_, _*_, _/_, _%_, _<_, _≤_}
 use native.Mathlib.Omega.{arith}
@@ -10,9 +10,11 @@ use lib.Dec.{eqb}
 use Rattle.lists.specs.Rows.{tab, stores}
 use Rattle.lists.specs.Held as H
 use Rattle.key_set.specs.Sets.{wordCount}
+use Rattle.tags.specs.Tags.{at}
 use Rattle.machine.specs.State.{Event, mostWaiting}
-use Rattle.slots.specs.Slots.{slotWords, blank, bitOf, headWord, stepsWord, encode, decode, encode-long, eventOf, eventsOf, Whole, Held}
+use Rattle.slots.specs.Slots.{slotWords, blank, bitOf, headWord, stepsWord, encode, decode, encode-long, eventOf, eventsOf, Whole, Held, IsDue}
 use Rattle.slots.specs.declared.Slot.{Slot}
+use Rattle.slots.specs.declared.Due.{Due}
 
 -- what is known of an event in the code
 pub record Proper (e : Event) : Type 0 where
@@ -93,6 +95,12 @@ module _ (ws : List ℕ) (k : ℕ) where
 
   pub read-there : k < mostWaiting → decode (tab (λ j. getD ws (k * slotWords + j) 0) 0 slotWords) ≡ getD (eventsOf ws) k blank
   read-there h = sym (H.thing-get decode encode slotWords mostWaiting encode-long ws k blank h)
+
+  pub due-there :
+      {d : Due} → k < mostWaiting → d .queue ≡ getD ws (k * slotWords + 0) 0 % 65536 → d .offset ≡ getD ws (k * slotWords + 1) 0 →
+      d .microstep ≡ getD ws (k * slotWords + 2) 0 % 4294967296 → IsDue d (getD (eventsOf ws) k blank)
+  unfolding decode tab
+  due-there h q o m = record { queue = q ∙ ap (λ e. e .queue) (read-there h); tag = rw (o, m) (ap (λ e. e .tag) (read-there h)) }
 
   module _ (s : Event) (h : Whole ws) where
     pub put-none : mostWaiting ≤ k → Held ws (set (eventsOf ws) k s)

@@ -11,6 +11,7 @@ use Rattle.tags.specs.Tags.{at, zeroTag}
 use Rattle.tags.specs.Views.{ofGlobal}
 use Rattle.machine.specs.State.{Event, mostWaiting}
 use Rattle.slots.specs.declared.Slot.{Slot}
+use Rattle.slots.specs.declared.Due.{Due}
 
 -- the event in a slot
 abbrev pub eventOf : Slot → Event
@@ -25,6 +26,11 @@ eventOf s =
       action = s .action;
       stored = ofGlobal (s .stored);
     }
+
+-- an event's queue and tag
+pub record IsDue (d : Due) (e : Event) : Type 0 where
+  pub queue : d .queue ≡ e .queue
+  pub tag : at (d .offset) (d .microstep) ≡ e .tag
 
 -- what stands in a slot that is free
 abbrev pub blank : Event

@@ -3,7 +3,7 @@
 ghost use mathlib.Core.Path.{_≡_};
 ghost use Prim.Native.Nat.{_<_};
 ghost use lib.ListN.{getD, set, replicate};
-ghost use Rattle.slots.specs.Slots.{blank, bitOf, headWord, stepsWord, eventsOf, Whole, Held, eventOf};
+ghost use Rattle.slots.specs.Slots.{blank, bitOf, headWord, stepsWord, eventsOf, Whole, Held, eventOf, IsDue};
 ghost use Rattle.machine.specs.State.{ordinary, mostWaiting};
 use key_set::KeySet;
 use tags::GlobalTag;
@@ -32,6 +32,13 @@ pub struct Slot {
     pub network: bool,
     pub action: u16,
     pub stored: GlobalTag,
+}
+
+// When an event is due: its queue, and its tag on that queue's scale.
+pub struct Due {
+    pub queue: u16,
+    pub offset: u64,
+    pub microstep: u32,
 }
 
 fn bit(b: bool) -> u64
@@ -122,6 +129,22 @@ pub fn slot_at(rows: &[u64; ROOM], k: usize) -> Slot
         network: head / 17179869184 % 2 == 1,
         action: (head / 65536 % 65536) as u16,
         stored: GlobalTag(stored, (steps / 4294967296 % 4294967296) as u32),
+    }
+}
+
+// When the event in row k is due: what a search through the rows asks for.
+pub fn due_at(rows: &[u64; ROOM], k: usize) -> Due
+    requires { ⌜ k < mostWaiting ⌝ }
+    ensures { λ r. ⌜ IsDue r (getD (eventsOf (now (rows .entry))) k blank) ⌝ }
+{
+    let b = k * SLOT_WORDS;
+    let head = rows[b + 0];
+    let offset = rows[b + 1];
+    let steps = rows[b + 2];
+    Due {
+        queue: (head % 65536) as u16,
+        offset,
+        microstep: (steps % 4294967296) as u32,
     }
 }
 

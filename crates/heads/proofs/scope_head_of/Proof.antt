@@ -4,12 +4,6 @@ use borrow.Author.Needs.{needs}
 use Rattle.heads.proofs.scope_head_of.Statement.{statement}
 use Rattle.heads.proofs.scope_head_of.Tie as tie
 
-enum-told : tie.Need-enum-told
-enum-told c = search needs
-
-enum-known-found : tie.Need-enum-known-found
-enum-known-found c = search needs
-
 mapped-head-requires : tie.Need-mapped-head-requires
 mapped-head-requires c κs = search needs
 
@@ -19,10 +13,5 @@ returns c = search scopeHeads
 returns-2 : tie.Need-returns-2
 returns-2 c = search scopeHeads
 
-returns-3 : tie.Need-returns-3
-returns-3 c = search scopeHeads
-
 pub scope-head-of-spec : {M : Type 1} → statement M
-scope-head-of-spec =
-    tie.close
-    (tie.spec enum-told enum-known-found mapped-head-requires returns returns-2 returns-3)
+scope-head-of-spec = tie.close (tie.spec mapped-head-requires returns returns-2)

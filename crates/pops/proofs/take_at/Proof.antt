@@ -1,4 +1,5 @@
 -- `pops::take_at` meets its contract. Assumes nothing.
+use mathlib.Core.Path.{_∙_, sym}
 use Rattle.queue.specs.Queue.{ofStamp, goesOf}
 use Rattle.pops.proofs.PopLaws.{went-few, takes-some}
 use borrow.Author.Needs.{needs}
@@ -8,19 +9,22 @@ use Rattle.pops.proofs.take_at.Tie as tie
 empty-requires : tie.Need-empty-requires
 empty-requires c κs = search needs
 
-gather-requires : tie.Need-gather-requires
-gather-requires c κs = search needs
+take-out-requires : tie.Need-take-out-requires
+take-out-requires c κs = search needs
 
-remove-requires : tie.Need-remove-requires
-remove-requires c κs = search needs
-
-sub-t16 : tie.Need-sub-t16
+sub-t15 : tie.Need-sub-t15
 unfolding goesOf
-sub-t16 c = let a = c .before .before .before .before .before .before .before .before .before .before .before in went-few _ _ (a .pre .0) (a .args .h .queue) (ofStamp (a .args .h .stamp)) _ _ (c .before .before .remove .ensures .0) (c .before .before .remove .ensures .1 .0)
+sub-t15 c = let a = c .before .before .before .before .before .before .before .before .before .before in let g = c .before .before .before .take-out .ensures .0 in went-few _ _ (a .pre .0) (a .args .h .queue) (ofStamp (a .args .h .stamp)) _ _ (g .left) (g .went)
 
 returns : tie.Need-returns
 unfolding goesOf
-returns c = let a = c .before .before .before .before .before .before .before .before .before .before .before in let r = c .before .before .remove in let g = c .before .before .before .before .gather in takes-some (a .args .events .now) (a .args .given .counts) (a .pre .0) (a .args .h .queue) (ofStamp (a .args .h .stamp)) (r .result .count) (r .result .ordinary) (r .ensures .0) (r .ensures .1 .0) (a .args .given .gathered) (g .result) (a .args .keys .now) (g .last .1 .1 .1 .0) (r .last .0) (r .ensures .1 .1) (g .ensures .0) (g .ensures .1 .0) (g .ensures .1 .1) (a .pre .1 .0) (a .pre .1 .1)
+returns c =
+    let a = c .before .before .before .before .before .before .before .before .before .before in
+    let g = c .before .before .before .take-out in
+    let r = g .ensures .0 in
+    takes-some (a .args .events .now) (a .args .given .counts) (a .pre .0) (a .args .h .queue) (ofStamp (a .args .h .stamp)) (g .result .count) (g .result .ordinary)
+    (r .left) (r .went) (a .args .given .gathered) (g .result .gathered) (a .args .keys .now) (g .last .1 .1 .1 .0) (g .last .0) (g .ensures .1) (r .folds) (r .near)
+    (r .long ∙ sym (a .pre .1 .0)) (a .pre .1 .0) (a .pre .1 .1)
 
 pub take-at-spec : {M : Type 1} → statement M
-take-at-spec = tie.close (tie.spec empty-requires gather-requires remove-requires sub-t16 returns)
+take-at-spec = tie.close (tie.spec empty-requires take-out-requires sub-t15 returns)

@@ -1,7 +1,8 @@
 -- `queue::compact` meets its contract: those that stay lie over the front, and the ordinary ones that went are counted. Assumes nothing.
 use Prim.Native.Nat.{_-_, _≤_}
-use mathlib.Core.Path.{ap, _∙_}
-use Rattle.slots.specs.Slots.{eventOf}
+use mathlib.Core.Path.{refl, ap, _∙_}
+use lib.ListN.{getD}
+use Rattle.slots.specs.Slots.{eventsOf, eventOf, blank}
 use Rattle.queue.specs.Queue.{goesOf, oneIf}
 use Rattle.queue.proofs.TakeLaws.{Taken, taken-none, taken-goes, taken-stays, taken-room, taken-count, taken-went, taken-held}
 use borrow.Author.Needs.{needs}
@@ -18,14 +19,17 @@ abbrev μ-loop : tie.MeasureT-loop
 loop-holds : tie.Need-loop-holds Inv-loop μ-loop
 loop-holds c = (search needs, taken-none _ _ (c .pre .0))
 
-slot-at-requires : tie.Need-slot-at-requires Inv-loop μ-loop
-slot-at-requires c κs = search needs
+due-at-requires : tie.Need-due-at-requires Inv-loop μ-loop
+due-at-requires c κs = search needs
 
 add-i : tie.Need-add-i Inv-loop μ-loop
 add-i c = search needs
 
 goes-requires : tie.Need-goes-requires Inv-loop μ-loop
 goes-requires c κs = search needs
+
+slot-at-requires : tie.Need-slot-at-requires Inv-loop μ-loop
+slot-at-requires c κs = search needs
 
 is-ordinary-requires : tie.Need-is-ordinary-requires Inv-loop μ-loop
 is-ordinary-requires c κs = search needs
@@ -34,13 +38,21 @@ one-if-requires : tie.Need-one-if-requires Inv-loop μ-loop
 one-if-requires c κs = search needs
 
 add-ordinary : tie.Need-add-ordinary Inv-loop μ-loop
-add-ordinary c = let b = c .before .before .before .before .before .before .before in omega (arith, b .loop .inv .1 .short, c .one-if .ensures .1)
+add-ordinary c = let b = c .before .before .before .before .before .before .before .before .before in omega (arith, b .loop .inv .1 .short, c .one-if .ensures .1)
 
 loop-less : tie.Need-loop-less Inv-loop μ-loop
 loop-less c = search needs
 
 loop-again : tie.Need-loop-again Inv-loop μ-loop
-loop-again c = let b = c .before .before .before .before .before .before .before in (search needs, taken-goes (goesOf (b .before .args .which)) (b .before .args .rows .now) (b .before .args .n) (b .loop .i) (b .loop .w) (b .loop .ordinary) (b .loop .rows) (search needs) (search needs) (b .loop .inv .1) (eventOf (c .before .before .before .before .slot-at .result)) (c .before .before .before .before .slot-at .ensures) (c .before .before .before .goes .result) (c .before .before .before .goes .ensures) (c .one-if .result) (c .before .before .if1 .taken) (c .one-if .ensures .0 ∙ ap oneIf (c .before .is-ordinary .ensures)) (c .one-if .ensures .1))
+loop-again c =
+    let b = c .before .before .before .before .before .before .before .before .before in
+    let s = c .before .before .slot-at in (
+      search needs,
+      taken-goes (goesOf (b .before .args .which)) (b .before .args .rows .now) (b .before .args .n) (b .loop .i) (b .loop .w) (b .loop .ordinary) (b .loop .rows)
+          (search needs) (search needs) (b .loop .inv .1) (eventOf (s .result)) (s .ensures) (c .before .before .before .before .before .goes .result)
+          (c .before .before .before .before .before .goes .ensures (eventOf (s .result)) (rw (s .ensures) (c .before .before .before .before .before .before .due-at .ensures))) (c .one-if .result) (c .before .before .before .before .if1 .taken)
+          (c .one-if .ensures .0 ∙ ap oneIf (c .before .is-ordinary .ensures)) (c .one-if .ensures .1),
+    )
 
 stay-requires : tie.Need-stay-requires Inv-loop μ-loop
 stay-requires c κs = let b = c .before .before .before .before .before .before in (b .loop .inv .1 .kept .held .whole, (search needs, taken-room _ _ _ _ _ _ (b .loop .inv .1)))
@@ -52,7 +64,14 @@ loop-less-2 : tie.Need-loop-less-2 Inv-loop μ-loop
 loop-less-2 c = search needs
 
 loop-again-2 : tie.Need-loop-again-2 Inv-loop μ-loop
-loop-again-2 c = let b = c .before .before .before .before .before .before .before in (search needs, taken-stays (goesOf (b .before .args .which)) (b .before .args .rows .now) (b .before .args .n) (b .loop .i) (b .loop .w) (b .loop .ordinary) (b .loop .rows) (search needs) (search needs) (b .loop .inv .1) (eventOf (c .before .before .before .before .slot-at .result)) (c .before .before .before .before .slot-at .ensures) (c .before .before .before .goes .result) (c .before .before .before .goes .ensures) (c .stay .last .0) (c .before .before .if1 .left) (c .stay .ensures))
+loop-again-2 c =
+    let b = c .before .before .before .before .before .before .before in
+    let d = c .before .before .before .before .due-at .ensures in (
+      search needs,
+      taken-stays (goesOf (b .before .args .which)) (b .before .args .rows .now) (b .before .args .n) (b .loop .i) (b .loop .w) (b .loop .ordinary) (b .loop .rows)
+          (search needs) (search needs) (b .loop .inv .1) (getD (eventsOf (b .loop .rows)) (b .loop .i) blank) refl (c .before .before .before .goes .result)
+          (c .before .before .before .goes .ensures _ d) (c .stay .last .0) (c .before .before .if1 .left) (c .stay .ensures),
+    )
 
 returns : tie.Need-returns Inv-loop μ-loop
 returns c =
@@ -74,9 +93,10 @@ compact-spec =
     Inv-loop
     μ-loop
     loop-holds
-    slot-at-requires
+    due-at-requires
     add-i
     goes-requires
+    slot-at-requires
     is-ordinary-requires
     one-if-requires
     add-ordinary

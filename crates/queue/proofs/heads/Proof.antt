@@ -4,7 +4,7 @@ use Rattle.slots.proofs.SlotLaws.{events-long}
 use Rattle.queue.proofs.HeadLaws.{heads-start, heads-step, heads-end, blank-heads}
 use Prim.Native.Nat.{_≤_}
 use lib.ListN.{take, drop}
-use Rattle.slots.specs.Slots.{eventsOf, eventOf}
+use Rattle.slots.specs.Slots.{eventsOf}
 use Rattle.queue.specs.Queue.{Held, headsOf}
 use borrow.Author.Needs.{needs}
 use Rattle.queue.proofs.heads.Statement.{statement}
@@ -22,8 +22,8 @@ loop-holds c = (search needs, heads-start (eventsOf (c .args .rows .now)) (c .ar
 sub-i : tie.Need-sub-i Inv-loop μ-loop
 sub-i c = search needs
 
-slot-at-requires : tie.Need-slot-at-requires Inv-loop μ-loop
-slot-at-requires c κs = search needs
+due-at-requires : tie.Need-due-at-requires Inv-loop μ-loop
+due-at-requires c κs = search needs
 
 note-requires : tie.Need-note-requires Inv-loop μ-loop
 note-requires c κs = search needs
@@ -37,8 +37,8 @@ loop-again c =
     let a = b .before .args in
     let l = events-long (a .rows .now) in (
       search needs,
-      heads-step (eventsOf (a .rows .now)) (a .n) (b .loop .i) (eventOf (c .before .before .slot-at .result)) (search needs) (search needs) (omega arith)
-          (c .before .before .slot-at .ensures) (b .loop .inv .1) (c .note .ensures),
+      heads-step (eventsOf (a .rows .now)) (a .n) (b .loop .i) (c .before .before .due-at .result) (search needs) (search needs) (omega arith)
+          (c .before .before .due-at .ensures) (b .loop .inv .1) (c .note .ensures),
     )
 
 returns : tie.Need-returns Inv-loop μ-loop
@@ -52,7 +52,7 @@ heads-spec =
     μ-loop
     loop-holds
     sub-i
-    slot-at-requires
+    due-at-requires
     note-requires
     loop-less
     loop-again

@@ -1,21 +1,18 @@
 -- `queue::is_at` meets its contract. Assumes nothing.
 use Rattle.lists.specs.Tests.{tests}
-use Rattle.machine.specs.State.{atHead, inQueue}
-use Rattle.tags.specs.Tags.{sameTag}
+use Rattle.queue.proofs.TakeLaws.{due-here, due-elsewhere, due-otherwise}
+use borrow.Author.Needs.{needs}
 use Rattle.queue.proofs.is_at.Statement.{statement}
 use Rattle.queue.proofs.is_at.Tie as tie
 
 returns : tie.Need-returns
-unfolding atHead inQueue sameTag
-returns c = search tests
+returns c = λ e h. let a = c .before .before .before .before .before .before .before .args in due-here (a .d) (a .queue) (a .t) e h (search needs) (search needs) (search tests)
 
 returns-2 : tie.Need-returns-2
-unfolding atHead inQueue sameTag
-returns-2 c = search tests
+returns-2 c = λ e h. let a = c .before .before .before .before .before .args in due-elsewhere (a .d) (a .queue) (a .t) e h (search needs)
 
 returns-3 : tie.Need-returns-3
-unfolding atHead inQueue sameTag
-returns-3 c = search tests
+returns-3 c = λ e h. let a = c .before .before .before .args in due-otherwise (a .d) (a .queue) (a .t) e h (search needs)
 
 pub is-at-spec : {M : Type 1} → statement M
 is-at-spec = tie.close (tie.spec returns returns-2 returns-3)

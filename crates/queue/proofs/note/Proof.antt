@@ -1,4 +1,6 @@
--- `queue::note` meets its contract: one entry is rewritten. Assumes nothing.
+-- `queue::note` meets its contract: one entry is rewritten, or stays. Assumes nothing.
+use Rattle.queue.proofs.HeadLaws.{note-first, note-lesser, note-kept}
+use Rattle.lists.specs.Tests.{flag}
 use borrow.Author.Needs.{needs}
 use Rattle.queue.proofs.note.Statement.{statement}
 use Rattle.queue.proofs.note.Tie as tie
@@ -9,16 +11,41 @@ entry-of-requires c κs = search needs
 least-at-requires : tie.Need-least-at-requires
 least-at-requires c κs = search needs
 
-lesser-of-requires : tie.Need-lesser-of-requires
-lesser-of-requires c κs = search needs
+enum-told : tie.Need-enum-told
+enum-told c = search needs
 
 put-least-requires : tie.Need-put-least-requires
 put-least-requires c κs = search needs
 
+enum-known-u : tie.Need-enum-known-u
+enum-known-u c = search needs
+
+earlier-requires : tie.Need-earlier-requires
+earlier-requires c κs = search needs
+
+put-least-requires-2 : tie.Need-put-least-requires-2
+put-least-requires-2 c κs = search needs
+
 returns : tie.Need-returns
-returns c = rw (← (c .before .before .before .before .before .entry-of .ensures), ← (c .before .before .before .least-at .ensures), ← (c .before .before .lesser-of .ensures)) (c .put-least .ensures)
+returns c = let a = c .before .before .before .before .before .before .before .args in note-first _ (a .d .queue) (a .d .offset, a .d .microstep) (c .before .before .before .before .before .before .entry-of .ensures) _ (c .before .before .before .before .least-at .ensures) (c .before .before .enum-told .given .1) (c .put-least .ensures)
+
+returns-2 : tie.Need-returns-2
+returns-2 c = let a = c .before .before .before .before .before .before .before .before .args in note-kept _ (a .d .queue) (a .d .offset, a .d .microstep) (c .before .before .before .before .before .before .before .entry-of .ensures) _ (c .before .before .before .before .before .least-at .ensures) (c .before .before .before .before .before .before .before .before .pre) (c .before .before .before .u .given .1) (flag (c .before .earlier .ensures) (c .if1 .taken))
+
+returns-3 : tie.Need-returns-3
+returns-3 c = let a = c .before .before .before .before .before .before .before .before .before .before .args in note-lesser _ (a .d .queue) (a .d .offset, a .d .microstep) (c .before .before .before .before .before .before .before .before .before .entry-of .ensures) _ (c .before .before .before .before .before .before .before .least-at .ensures) (c .before .before .before .before .before .u .given .1) (flag (c .before .before .before .earlier .ensures) (c .before .before .if1 .left)) (c .put-least2 .ensures)
 
 pub note-spec : {M : Type 1} → statement M
 note-spec =
     tie.close
-    (tie.spec entry-of-requires least-at-requires lesser-of-requires put-least-requires returns)
+    (tie.spec
+    entry-of-requires
+    least-at-requires
+    enum-told
+    put-least-requires
+    enum-known-u
+    earlier-requires
+    put-least-requires-2
+    returns
+    returns-2
+    returns-3)

@@ -1,5 +1,5 @@
 -- `queue::Which::goes` meets its contract. Assumes nothing.
-use Rattle.queue.proofs.TakeLaws.{goes-at, goes-in}
+use Rattle.queue.proofs.TakeLaws.{goes-at, goes-in, due-in}
 use borrow.Author.Needs.{needs}
 use Rattle.queue.proofs.Which.goes.Statement.{statement}
 use Rattle.queue.proofs.Which.goes.Tie as tie
@@ -8,7 +8,7 @@ is-at-requires : tie.Need-is-at-requires
 is-at-requires c κs = search needs
 
 returns : tie.Need-returns
-returns c = search (goes-at, goes-in)
+returns c = λ e h. goes-at (c .before .before .args .self) e (c .before .if1 .taken) (c .is-at .ensures e h)
 
 cast-contains : tie.Need-cast-contains
 cast-contains c = search needs
@@ -17,7 +17,7 @@ contains-requires : tie.Need-contains-requires
 contains-requires c κs = search needs
 
 returns-2 : tie.Need-returns-2
-returns-2 c = search (goes-at, goes-in)
+returns-2 c = λ e h. let a = c .before .before .before .before .args in goes-in (a .self) e (c .before .before .before .if1 .left) (due-in (a .d) 0 (a .self .stamp) e h _ (search needs))
 
 pub goes-spec : {M : Type 1} → statement M
 goes-spec = tie.close (tie.spec is-at-requires returns cast-contains contains-requires returns-2)

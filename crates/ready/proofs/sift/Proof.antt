@@ -1,0 +1,108 @@
+-- `ready::sift` meets its contract: one event a turn is gathered or stays. Assumes nothing.
+use Prim.Native.Nat.{_-_}
+use mathlib.Core.Path.{refl, ap, _∙_}
+use native.Mathlib.Omega.{arith}
+use lib.ListN.{getD}
+use Rattle.slots.specs.Slots.{eventsOf, eventOf, blank}
+use Rattle.queue.specs.Queue.{goesOf, oneIf}
+use Rattle.ready.specs.Gathering.{gatheringOf}
+use Rattle.ready.proofs.SiftLaws.{Sifting, sifting-none, sifting-room, sifting-keys, sifting-goes, sifting-stays, sifting-all, sifting-held}
+use borrow.Author.Needs.{needs}
+use Rattle.ready.proofs.sift.Statement.{statement}
+use Rattle.ready.proofs.sift.Tie as tie
+
+abbrev Inv-loop : tie.InvT-loop
+Inv-loop rows₀ n which keys₀ out₀ w₀ ordinary₀ i₀ rows keys out w ordinary i = Sifting (goesOf which) rows₀ n (gatheringOf out₀ keys₀) (out₀ .actions) i w ordinary rows out keys
+
+abbrev μ-loop : tie.MeasureT-loop
+μ-loop rows₀ n which keys₀ out₀ w₀ ordinary₀ i₀ rows keys out w ordinary i = n - i
+
+loop-holds : tie.Need-loop-holds Inv-loop μ-loop
+loop-holds c = sifting-none _ _ _ _ _ (c .pre .0 .0) (c .pre .1 .0)
+
+due-at-requires : tie.Need-due-at-requires Inv-loop μ-loop
+due-at-requires c κs = search needs
+
+add-i : tie.Need-add-i Inv-loop μ-loop
+add-i c = search needs
+
+goes-requires : tie.Need-goes-requires Inv-loop μ-loop
+goes-requires c κs = search needs
+
+slot-at-requires : tie.Need-slot-at-requires Inv-loop μ-loop
+slot-at-requires c κs = search needs
+
+add-requires : tie.Need-add-requires Inv-loop μ-loop
+add-requires c κs =
+    let l = c .before .before .before .before .before .before .before .before .loop in
+    let a = c .before .before .before .before .before .before .before .before .before .args in (l .inv .long, sifting-keys (goesOf (a .which)) (a .rows .now) (a .n) _ _ (l .i) (l .w) (l .ordinary) (l .rows) (l .out) (l .keys) (l .inv) (search needs) (c .before .before .before .before .before .before .before .before .before .pre .1 .1))
+
+is-ordinary-requires : tie.Need-is-ordinary-requires Inv-loop μ-loop
+is-ordinary-requires c κs = search needs
+
+one-if-requires : tie.Need-one-if-requires Inv-loop μ-loop
+one-if-requires c κs = search needs
+
+add-ordinary : tie.Need-add-ordinary Inv-loop μ-loop
+add-ordinary c = omega (arith, c .before .before .before .before .before .before .before .before .before .before .before .loop .inv .taken .short, c .one-if .ensures .1)
+
+loop-less : tie.Need-loop-less Inv-loop μ-loop
+loop-less c = search needs
+
+loop-again : tie.Need-loop-again Inv-loop μ-loop
+loop-again c =
+    let l = c .before .before .before .before .before .before .before .before .before .before .before .loop in
+    let a = c .before .before .before .before .before .before .before .before .before .before .before .before .args in
+    let s = c .before .before .before .before .slot-at in
+    let g = c .before .before .add in
+    sifting-goes (goesOf (a .which)) (a .rows .now) (a .n) _ _ (l .i) (l .w) (l .ordinary) (l .rows) (l .out) (l .keys) (l .inv) (c .before .before .before .before .before .before .before .before .before .before .loop-test .taken) (c .before .before .before .before .before .before .before .before .before .before .before .before .pre .0 .1) (eventOf (s .result)) (s .ensures) (c .before .before .before .before .before .before .before .goes .result)
+    (c .before .before .before .before .before .before .before .goes .ensures (eventOf (s .result)) (rw (s .ensures) (c .before .before .before .before .before .before .before .before .due-at .ensures))) (c .one-if .result) (g .result) (g .last .0)
+    (c .before .before .before .before .before .before .if1 .taken) (c .one-if .ensures .0 ∙ ap oneIf (c .before .is-ordinary .ensures)) (c .one-if .ensures .1) (g .ensures .0) (g .ensures .1 .0) (g .ensures .1 .1)
+
+stay-requires : tie.Need-stay-requires Inv-loop μ-loop
+stay-requires c κs =
+    let l = c .before .before .before .before .before .before .loop in
+    let a = c .before .before .before .before .before .before .before .args in (l .inv .taken .kept .held .whole, (search needs, sifting-room (goesOf (a .which)) (a .rows .now) (a .n) _ _ (l .i) (l .w) (l .ordinary) (l .rows) (l .out) (l .keys) (l .inv)))
+
+add-w : tie.Need-add-w Inv-loop μ-loop
+add-w c =
+    let l = c .before .before .before .before .before .before .before .loop in
+    let a = c .before .before .before .before .before .before .before .before .args in omega (arith, sifting-room (goesOf (a .which)) (a .rows .now) (a .n) _ _ (l .i) (l .w) (l .ordinary) (l .rows) (l .out) (l .keys) (l .inv))
+
+loop-less-2 : tie.Need-loop-less-2 Inv-loop μ-loop
+loop-less-2 c = search needs
+
+loop-again-2 : tie.Need-loop-again-2 Inv-loop μ-loop
+loop-again-2 c =
+    let l = c .before .before .before .before .before .before .before .loop in
+    let a = c .before .before .before .before .before .before .before .before .args in
+    sifting-stays (goesOf (a .which)) (a .rows .now) (a .n) _ _ (l .i) (l .w) (l .ordinary) (l .rows) (l .out) (l .keys) (l .inv) (search needs) (search needs) (getD (eventsOf (l .rows)) (l .i) blank) refl (c .before .before .before .goes .result)
+    (c .before .before .before .goes .ensures _ (c .before .before .before .before .due-at .ensures)) (c .stay .last .0) (c .before .before .if1 .left) (c .stay .ensures)
+
+returns : tie.Need-returns Inv-loop μ-loop
+returns c =
+    let l = c .before .loop in
+    let a = c .before .before .args in (sifting-all (goesOf (a .which)) (a .rows .now) (a .n) _ _ (l .i) (l .w) (l .ordinary) (l .rows) (l .out) (l .keys) (l .inv) (search needs), sifting-held (goesOf (a .which)) (a .rows .now) (a .n) _ _ (l .i) (l .w) (l .ordinary) (l .rows) (l .out) (l .keys) (l .inv) (search needs))
+
+pub sift-spec : {M : Type 1} → statement M
+sift-spec =
+    tie.close
+    (tie.spec
+    Inv-loop
+    μ-loop
+    loop-holds
+    due-at-requires
+    add-i
+    goes-requires
+    slot-at-requires
+    add-requires
+    is-ordinary-requires
+    one-if-requires
+    add-ordinary
+    loop-less
+    loop-again
+    stay-requires
+    add-w
+    loop-less-2
+    loop-again-2
+    returns)
