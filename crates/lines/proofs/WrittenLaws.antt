@@ -64,6 +64,17 @@ pub written-next : {old : List ℕ} {at : ℕ} {mid : List ℕ} {m : ℕ} {new :
     → i < length t → a ≡ getD t i 0 → Written old at (take i t) mid m → Written mid m (a ∷ []) new end → Written old at (take (i + 1) t) new end
 written-next t i a h e v w = written-as (written-then v w) (rw (e, add-one) (sym (take-suc t i 0 h)))
 
+-- the same where there is room for all of it
+pub copied-none : (old : List ℕ) (at : ℕ) (t : List ℕ) → at + length t ≤ length old → Written old at (take 0 t) old (at + 0)
+copied-none old at t r = let e : at + 0 ≡ at = omega arith in rw e (written-none old at (omega arith))
+
+pub copied-next : {old : List ℕ} {at : ℕ} {mid : List ℕ} (t : List ℕ) (i : ℕ) → at + length t ≤ length old → i < length t
+    → Written old at (take i t) mid (at + i) → Written old at (take (i + 1) t) (set mid (at + i) (getD t i 0)) (at + (i + 1))
+copied-next {old} {at} {mid} t i r h w =
+    let l : length mid ≡ length old = written-long w in
+    let e : at + i + 1 ≡ at + (i + 1) = omega arith in
+    rw (← e) (written-next t i (getD t i 0) h refl w (put-in mid (at + i) (getD t i 0) (omega arith)))
+
 pub written-whole : {old : List ℕ} {at : ℕ} {new : List ℕ} {end : ℕ} (t : List ℕ) (i : ℕ) → length t ≤ i → Written old at (take i t) new end → Written old at t new end
 written-whole t i h w = written-as w (take-all i t h)
 
@@ -91,3 +102,17 @@ module _ (n : ℕ) where
       go : (q : ℕ) → n / 10 ≡ q → decimalIn (suc q) q ≡ rest (decimalIn n) q
       go zero z = absurd (omega arith)
       go (suc q) z = decimal-enough (suc (suc q)) n (suc q) (omega arith) (omega arith)
+
+-- two digits at once
+module _ (n : ℕ) where
+  pub decimal-two : 10 ≤ n → n < 100 → digit (n / 10 % 10) ∷ (digit (n % 10) ∷ []) ≡ decimal n
+  decimal-two h k = ap (λ l. l ++ (digit (n % 10) ∷ [])) (decimal-one (n / 10) (omega arith) refl) ∙ decimal-more n h refl
+
+  pub decimal-hundred : 100 ≤ n → decimal (n / 100) ++ (digit (n % 100 / 10 % 10) ∷ (digit (n % 100 % 10) ∷ [])) ≡ decimal n
+  decimal-hundred h =
+      let a : n / 100 ≡ n / 10 / 10 = omega arith in
+      let b : n % 100 / 10 % 10 ≡ n / 10 % 10 = omega arith in
+      let c : n % 100 % 10 ≡ n % 10 = omega arith in
+      rw (a, b, c)
+      (sym (append-assoc (decimal (n / 10 / 10)) (digit (n / 10 % 10) ∷ []) (digit (n % 10) ∷ []))
+      ∙ ap (λ l. l ++ (digit (n % 10) ∷ [])) (decimal-more (n / 10) (omega arith) refl) ∙ decimal-more n (omega arith) refl)

@@ -1,9 +1,9 @@
 // The lines that answer a gate day: document 01, "The bench program". Each is written into a lent buffer, and how many bytes it has is answered.
 // Total: past the buffer's end nothing is written.
 ghost use mathlib.Core.Path.{_≡_};
-ghost use mathlib.Core.Bool.{cond, true};
+ghost use mathlib.Core.Bool.{cond, true, _||_};
 ghost use mathlib.Core.List.{_∷_, [], _++_, map};
-ghost use Prim.Native.Nat.{ℕ, _≤_, _%_};
+ghost use Prim.Native.Nat.{ℕ, _+_, _≤_, _<_, _/_, _%_};
 ghost use lib.Dec.{eqb, leb};
 ghost use lib.ListN.{length, getD, take, drop};
 ghost use Rattle.lists.specs.Lists.{keep, every};
@@ -25,10 +25,19 @@ use tags::GlobalTag;
 // A buffer of so many bytes holds every line; `longest` of specs/ says the same.
 pub const LINE: usize = 2648;
 
+// A level is a byte; `levelCount` of specs/ says the same.
+const LEVELS: u16 = 256;
+
 // The place in the buffer, and whether the list that is being written has an entry yet.
 struct Pen {
     at: usize,
     started: bool,
+}
+
+// What a level leaves: the pen, and the next level that a key has.
+struct Turn {
+    pen: Pen,
+    next: u16,
 }
 
 fn put(buffer: &mut [u8], at: usize, byte: u8) -> usize
@@ -42,7 +51,8 @@ fn put(buffer: &mut [u8], at: usize, byte: u8) -> usize
     at
 }
 
-fn write_text(buffer: &mut [u8], at: usize, text: &[u8]) -> usize
+// As much of it as there is room for.
+fn write_some(buffer: &mut [u8], at: usize, text: &[u8]) -> usize
     requires { ⌜ at ≤ length (now buffer) ⌝ }
     ensures { λ r. ⌜ Written (now (buffer .entry)) at (now (text .entry)) (now (buffer .exit)) r ⌝ }
 {
@@ -56,6 +66,30 @@ fn write_text(buffer: &mut [u8], at: usize, text: &[u8]) -> usize
     end
 }
 
+// A text for which there is room.
+fn copy_text(buffer: &mut [u8], at: usize, text: &[u8]) -> usize
+    requires { ⌜ at + length (now text) ≤ length (now buffer) ⌝ }
+    ensures { λ r. ⌜ Written (now (buffer .entry)) at (now (text .entry)) (now (buffer .exit)) r ⌝ }
+{
+    let mut i: usize = 0;
+    while i < text.len() {
+        buffer[at + i] = text[i];
+        i += 1;
+    }
+    at + i
+}
+
+// The room is tested once.
+fn write_text(buffer: &mut [u8], at: usize, text: &[u8]) -> usize
+    requires { ⌜ at ≤ length (now buffer) ⌝ }
+    ensures { λ r. ⌜ Written (now (buffer .entry)) at (now (text .entry)) (now (buffer .exit)) r ⌝ }
+{
+    if text.len() <= buffer.len() - at {
+        return copy_text(buffer, at, text);
+    }
+    write_some(buffer, at, text)
+}
+
 // The byte of a number's last digit.
 fn last_digit(n: u64) -> u8
     ensures { λ r. ⌜ r ≡ digit (n % 10) ⌝ }
@@ -63,16 +97,43 @@ fn last_digit(n: u64) -> u8
     (n % 10) as u8 + 48
 }
 
+// The last two digits of a number.
+fn write_two(buffer: &mut [u8], at: usize, n: u64) -> usize
+    requires { ⌜ at ≤ length (now buffer) ⌝ }
+    ensures { λ r. ⌜ Written (now (buffer .entry)) at (digit (n / 10 % 10) ∷ (digit (n % 10) ∷ [])) (now (buffer .exit)) r ⌝ }
+{
+    let tens = last_digit(n / 10);
+    let next = put(buffer, at, tens);
+    let ones = last_digit(n);
+    put(buffer, next, ones)
+}
+
+// Two digits a turn.
+fn write_digits(buffer: &mut [u8], at: usize, n: u64) -> usize
+    requires { ⌜ at ≤ length (now buffer) ⌝ }
+    ensures { λ r. ⌜ Written (now (buffer .entry)) at (decimal n) (now (buffer .exit)) r ⌝ }
+{
+    if n < 10 {
+        let digit = last_digit(n);
+        return put(buffer, at, digit);
+    }
+    if n < 100 {
+        return write_two(buffer, at, n);
+    }
+    let end = write_digits(buffer, at, n / 100);
+    write_two(buffer, end, n % 100)
+}
+
+// Most numbers have one digit: no call for those.
 fn write_decimal(buffer: &mut [u8], at: usize, n: u64) -> usize
     requires { ⌜ at ≤ length (now buffer) ⌝ }
     ensures { λ r. ⌜ Written (now (buffer .entry)) at (decimal n) (now (buffer .exit)) r ⌝ }
 {
-    let last = last_digit(n);
     if n < 10 {
-        return put(buffer, at, last);
+        let digit = last_digit(n);
+        return put(buffer, at, digit);
     }
-    let end = write_decimal(buffer, at, n / 10);
-    put(buffer, end, last)
+    write_digits(buffer, at, n)
 }
 
 // ---- lists, an entry at a time
@@ -139,60 +200,52 @@ fn level_of(levels: &[u8], key: u16) -> u8
     0
 }
 
-fn larger(a: u8, b: u8) -> u8
-    ensures { λ r. ⌜ (a ≤ r) × (b ≤ r) ⌝ }
+// The lower of the level and the one found before, where it is above v.
+fn nearer(next: u16, v: u16, level: u16) -> u16
+    requires { ⌜ v < next ⌝ }
+    ensures { λ r. ⌜ (v < r) × (r ≤ next) × ((v < level) → r ≤ level) ⌝ }
 {
-    if a < b {
-        return b;
+    if v < level {
+        if level < next {
+            return level;
+        }
     }
-    a
+    next
 }
 
-// No key has a higher level.
-fn highest(levels: &[u8], keys: &[u16]) -> u8
-    ensures { λ r. ⌜ every (λ k. leb (levelIn (now (levels .entry)) k) r) (now (keys .entry)) ≡ true ⌝ }
-{
-    let mut top: u8 = 0;
-    let mut i: usize = 0;
-    while i < keys.len() {
-        let key = keys[i];
-        let level = level_of(levels, key);
-        top = larger(top, level);
-        i += 1;
-    }
-    top
-}
-
-// The keys at one level.
-fn write_level(buffer: &mut [u8], pen: Pen, levels: &[u8], keys: &[u16], v: u16) -> Pen
+// The keys at one level, and the next level that a key has.
+fn write_level(buffer: &mut [u8], pen: Pen, levels: &[u8], keys: &[u16], v: u16) -> Turn
     requires { ⌜ pen .at ≤ length (now buffer) ⌝ }
-    ensures { λ r. ⌜ Listed (now (buffer .entry)) pen (map (entryOf (levelIn (now (levels .entry)))) (keep (λ k. eqb (levelIn (now (levels .entry)) k) v) (now (keys .entry)))) (now (buffer .exit)) r ⌝ }
+    requires { ⌜ v < levelCount ⌝ }
+    ensures { λ r. ⌜ Listed (now (buffer .entry)) pen (map (entryOf (levelIn (now (levels .entry)))) (keep (λ k. eqb (levelIn (now (levels .entry)) k) v) (now (keys .entry)))) (now (buffer .exit)) (r .pen) ⌝ }
+    ensures { λ r. ⌜ (v < r .next) × (r .next ≤ levelCount) × (every (λ k. leb (levelIn (now (levels .entry)) k) v || leb (r .next) (levelIn (now (levels .entry)) k)) (now (keys .entry)) ≡ true) ⌝ }
 {
     let mut out = pen;
+    let mut next = LEVELS;
     let mut i: usize = 0;
     while i < keys.len() {
         let key = keys[i];
         let level = level_of(levels, key);
+        next = nearer(next, v, level as u16);
         i += 1;
         if level as u16 == v {
             out = write_reaction(buffer, out, level, key);
         }
     }
-    out
+    Turn { pen: out, next }
 }
 
-// Level by level, up to the highest.
+// Level by level, from one to the next that a key has.
 fn write_levels(buffer: &mut [u8], pen: Pen, levels: &[u8], keys: &[u16]) -> Pen
     requires { ⌜ pen .at ≤ length (now buffer) ⌝ }
     ensures { λ r. ⌜ Listed (now (buffer .entry)) pen (map (entryOf (levelIn (now (levels .entry)))) (byLevel (levelIn (now (levels .entry))) (now (keys .entry)) 0 levelCount)) (now (buffer .exit)) r ⌝ }
 {
-    let top = highest(levels, keys);
-    let end = top as u16 + 1;
     let mut out = pen;
     let mut v: u16 = 0;
-    while v < end {
-        out = write_level(buffer, out, levels, keys, v);
-        v += 1;
+    while v < LEVELS {
+        let turn = write_level(buffer, out, levels, keys, v);
+        out = turn.pen;
+        v = turn.next;
     }
     out
 }

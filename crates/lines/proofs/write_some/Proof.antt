@@ -1,4 +1,4 @@
--- `lines::write_text` meets its contract: one byte more a turn. Assumes nothing.
+-- `lines::write_some` meets its contract: one byte more a turn. Assumes nothing.
 use mathlib.Core.Path.{refl}
 use Prim.Native.Nat.{_-_, _≤_}
 use lib.ListN.{length, take}
@@ -6,8 +6,8 @@ use borrow.Author.Needs.{needs}
 use native.Mathlib.Omega.{arith}
 use Rattle.lines.specs.Written.{Written}
 use Rattle.lines.proofs.WrittenLaws.{written-none, written-room, written-long, written-next, written-whole}
-use Rattle.lines.proofs.write_text.Statement.{statement}
-use Rattle.lines.proofs.write_text.Tie as tie
+use Rattle.lines.proofs.write_some.Statement.{statement}
+use Rattle.lines.proofs.write_some.Tie as tie
 
 abbrev Inv-loop : tie.InvT-loop
 Inv-loop buffer₀ at text end₀ i₀ buffer end i = (i ≤ length text) × Written buffer₀ end₀ (take i text) buffer end
@@ -39,8 +39,8 @@ same-length c = written-long (c .before .loop .inv .1)
 returns : tie.Need-returns Inv-loop μ-loop
 returns c = written-whole _ _ (c .loop-test .left) (c .before .loop .inv .1)
 
-pub write-text-spec : {M : Type 1} → statement M
-write-text-spec =
+pub write-some-spec : {M : Type 1} → statement M
+write-some-spec =
     tie.close
     (tie.spec
     Inv-loop

@@ -1,0 +1,62 @@
+-- `lines::copy_text` meets its contract: one byte more a turn. Assumes nothing.
+use Prim.Native.Nat.{_+_, _-_, _≤_}
+use lib.ListN.{length, take}
+use borrow.Author.Needs.{needs}
+use native.Mathlib.Omega.{arith}
+use Rattle.lines.specs.Written.{Written}
+use Rattle.lines.proofs.WrittenLaws.{written-long, copied-none, copied-next, written-whole}
+use Rattle.lines.proofs.copy_text.Statement.{statement}
+use Rattle.lines.proofs.copy_text.Tie as tie
+
+abbrev Inv-loop : tie.InvT-loop
+Inv-loop buffer₀ at text i₀ buffer i = (i ≤ length text) × Written buffer₀ at (take i text) buffer (at + i)
+
+abbrev μ-loop : tie.MeasureT-loop
+μ-loop buffer₀ at text i₀ buffer i = length text - i
+
+loop-holds : tie.Need-loop-holds Inv-loop μ-loop
+loop-holds c = (search needs, copied-none _ _ (c .args .text .now) (c .pre))
+
+shared-slice-read-buffer : tie.Need-shared-slice-read-buffer Inv-loop μ-loop
+shared-slice-read-buffer c = search needs
+
+add-buffer : tie.Need-add-buffer Inv-loop μ-loop
+add-buffer c = search needs
+
+slice-write-buffer : tie.Need-slice-write-buffer Inv-loop μ-loop
+slice-write-buffer c = let l = written-long (c .before .before .loop .inv .1) in omega (arith, l, c .before .loop-test .taken, c .before .before .before .pre)
+
+add-i : tie.Need-add-i Inv-loop μ-loop
+add-i c = search needs
+
+loop-less : tie.Need-loop-less Inv-loop μ-loop
+loop-less c = search needs
+
+loop-again : tie.Need-loop-again Inv-loop μ-loop
+loop-again c = (search needs, copied-next _ _ (c .before .before .before .pre) (c .before .loop-test .taken) (c .before .before .loop .inv .1))
+
+add-result : tie.Need-add-result Inv-loop μ-loop
+add-result c = search needs
+
+same-length : tie.Need-same-length Inv-loop μ-loop
+same-length c = written-long (c .before .loop .inv .1)
+
+returns : tie.Need-returns Inv-loop μ-loop
+returns c = written-whole _ _ (c .loop-test .left) (c .before .loop .inv .1)
+
+pub copy-text-spec : {M : Type 1} → statement M
+copy-text-spec =
+    tie.close
+    (tie.spec
+    Inv-loop
+    μ-loop
+    loop-holds
+    shared-slice-read-buffer
+    add-buffer
+    slice-write-buffer
+    add-i
+    loop-less
+    loop-again
+    add-result
+    same-length
+    returns)
