@@ -3,3 +3,4 @@ pub mod CallLaws
 pub mod RunLaws
 pub mod StepLaws
 pub mod StartLaws
+pub mod WholeLaws

@@ -5,10 +5,14 @@ use mathlib.Core.List.{List, [], _∷_, _++_}
 use lib.Dec.{ltb, leb}
 use lib.ListN.{length, take, drop}
 use Rattle.rows.specs.Bytes.{Image, be}
-use Rattle.machine.specs.State.{State}
+use Rattle.table.specs.Check.{check}
+use Rattle.table.specs.declared.Checked.{Checked}
+use Rattle.table.specs.declared.Checked.the-variants.{Accepted, Refused}
+use Rattle.table.specs.declared.ImageRefusal.the-variants.{Length}
+use Rattle.machine.specs.State.{State, fresh}
 use Rattle.machine.specs.Machine.{Call, Reply, Outcome, step}
-use Rattle.records.specs.Records.{Record, call, malformed, cut, over, bodyOf, mostBytes}
-use Rattle.lines.specs.Lines.{lineOf, refusedLine}
+use Rattle.records.specs.Records.{Record, call, malformed, cut, over, bodyOf, mostBytes, recordsFrom}
+use Rattle.lines.specs.Lines.{lineOf, refusedLine, tableLine}
 
 -- ---- one record: its line, and the state after it
 
@@ -30,9 +34,27 @@ stateAt img s over = s
 
 -- ---- all records
 
+-- a line for each, from a state on
+unfoldable pub answersOf : Image → State → List Record → List (List ℕ)
+answersOf img s [] = []
+answersOf img s (r ∷ rs) = lineAt img s r ∷ answersOf img (stateAt img s r) rs
+
+-- one behind the other
+unfoldable pub together : List (List ℕ) → List ℕ
+together [] = []
+together (l ∷ ls) = l ++ together ls
+
+-- room that the longest line needs, with much to spare
+abbrev pub longest : ℕ
+longest = 4096
+
+-- as many of them, from the first on, as there are while the longest line still has room
+unfoldable pub fitting : ℕ → List (List ℕ) → List ℕ
+fitting room [] = []
+fitting room (l ∷ ls) = cond (ltb room longest) [] (l ++ fitting (room - length l) ls)
+
 unfoldable pub linesOf : Image → State → List Record → List ℕ
-linesOf img s [] = []
-linesOf img s (r ∷ rs) = lineAt img s r ++ linesOf img (stateAt img s r) rs
+linesOf img s rs = together (answersOf img s rs)
 
 -- the calls among them
 unfoldable pub callsOf : List Record → List Call
@@ -79,10 +101,6 @@ endedAt s i = record { state = s; used = i; lines = malformedLine; ended = true 
 abbrev pub behind : List ℕ → Ran → Ran
 behind l r = record { state = r .state; used = r .used; lines = l ++ r .lines; ended = r .ended }
 
--- room that the longest line needs, with much to spare
-abbrev pub longest : ℕ
-longest = 4096
-
 -- a record's line, and the rest of the run behind it
 abbrev pub ranOn : Image → List ℕ → State → ℕ → ℕ → (State → ℕ → ℕ → Ran) → Next → Ran
 ranOn img bytes s i room rest pending = stopped s i
@@ -99,3 +117,35 @@ ranIn (suc n) img bytes s i room = cond (ltb room longest) (stopped s i) (ranOn 
 
 unfoldable pub ran : Image → List ℕ → State → ℕ → Ran
 ran img bytes s room = ranIn (length bytes) img bytes s 0 room
+
+-- ---- a whole day: an image, and all bytes behind it as records
+
+-- the image by its length, which "counts all that follows"
+abbrev pub imageEnd : List ℕ → ℕ
+imageEnd day = 4 + be 4 day 0
+
+abbrev pub imageIn : List ℕ → Image
+imageIn day = take (imageEnd day) day
+
+abbrev pub recordBytes : List ℕ → List ℕ
+recordBytes day = drop (imageEnd day) day
+
+-- "The smallest image has 33 bytes, the largest 3,287."
+abbrev pub largest : ℕ
+largest = 3287
+
+-- "An image cut short or longer than the largest is "table refused 1 0"."
+unfoldable pub opened : List ℕ → Checked
+opened day = cond (ltb (length day) (imageEnd day) || ltb largest (imageEnd day)) (Refused Length) (check (imageIn day))
+
+-- "table ok", and a line for each record; or "table refused N PLACE", "and the run ends"
+abbrev pub answersBy : Checked → List ℕ → List (List ℕ)
+answersBy Accepted day = tableLine Accepted ∷ answersOf (imageIn day) (fresh (imageIn day)) (recordsFrom (recordBytes day) 0)
+answersBy (Refused r) day = tableLine (Refused r) ∷ []
+
+unfoldable pub dayAnswers : List ℕ → List (List ℕ)
+dayAnswers day = answersBy (opened day) day
+
+-- all lines of a gate day
+unfoldable pub dayLines : List ℕ → List ℕ
+dayLines day = together (dayAnswers day)

@@ -9,7 +9,7 @@ ghost use Rattle.slots.specs.Slots.{eventsOf};
 ghost use Rattle.scopes.specs.Scopes.{scopesOf};
 ghost use Rattle.lens.specs.Lens.{Waits};
 ghost use Rattle.pushes.specs.Pushes.{Pushes, replyOf};
-ghost use Rattle.records.specs.Records.{mostKeys};
+ghost use Rattle.records.specs.Records.{mostKeys, recordsFrom};
 ghost use Rattle.records.specs.Views.{keyCount, Parses};
 ghost use Rattle.machine.specs.State.{mostWaiting, fresh as freshState};
 ghost use Rattle.table.specs.Check.{isTable};
@@ -17,7 +17,7 @@ ghost use mathlib.Core.Bool.{true};
 ghost use Rattle.lines.specs.Written.{Written};
 ghost use Rattle.lines.specs.Lines.{lineOf};
 ghost use Rattle.transition.specs.Transiting as transition;
-ghost use Rattle.gate_day.specs.Days.{nextAt, bodyAt, ran};
+ghost use Rattle.gate_day.specs.Days.{nextAt, bodyAt, ran, answersOf, fitting, imageEnd, opened, dayAnswers};
 ghost use Rattle.gate_day.specs.Views.{ofNext, opOf, pushBy, popReplyOf, viewOf, Kept, Pieced};
 use entries::BucketRows;
 use entries::ValueRows;
@@ -27,6 +27,8 @@ use pushes::ActionPush;
 use pushes::Outcome;
 use pushes::Pushed;
 use records::Parsed;
+use table::Checked;
+use table::ImageRefusal;
 use transition::Given;
 
 // The room that the longest line needs, with much to spare; `longest` of specs/ says the same.
@@ -380,5 +382,75 @@ pub fn run_records(image: &[u8], day: Day, bytes: &[u8], out: &mut [u8]) -> Piec
         used,
         written,
         ended,
+    }
+}
+
+// ---- a whole day
+
+// No image is longer; `largest` of specs/ says the same.
+pub const LARGEST: usize = 3287;
+
+// The length that an image begins with.
+pub const IMAGE_LENGTH_BYTES: usize = 4;
+
+// Where the image ends that a day begins with.
+pub fn image_end(day: &[u8]) -> usize
+    ensures { λ r. ⌜ r ≡ imageEnd (now (day .entry)) ⌝ }
+{
+    let n = rows::four_bytes(day, 0);
+    n as usize + IMAGE_LENGTH_BYTES
+}
+
+// The image by its length: cut short, longer than the largest, or checked.
+fn open(day: &[u8]) -> Checked
+    ensures { λ r. ⌜ r ≡ opened (now (day .entry)) ⌝ }
+{
+    let end = image_end(day);
+    if day.len() < end {
+        return Checked::Refused(ImageRefusal::Length);
+    }
+    if LARGEST < end {
+        return Checked::Refused(ImageRefusal::Length);
+    }
+    table::check(&day[..end])
+}
+
+// All records of a day, and what is said of the bytes at its end.
+fn run_whole(image: &[u8], records: &[u8], out: &mut [u8]) -> usize
+    requires { ⌜ isTable (now image) ≡ true ⌝ }
+    ensures { λ r. ⌜ Written (now (out .entry)) 0 (fitting (length (now (out .entry))) (answersOf (now (image .entry)) (freshState (now (image .entry))) (recordsFrom (now (records .entry)) 0))) (now (out .exit)) r ⌝ }
+{
+    let day = start(image);
+    let piece = run_records(image, day, records, out);
+    let written = piece.written;
+    let used = piece.used;
+    if piece.ended {
+        return written;
+    }
+    if used == records.len() {
+        return written;
+    }
+    if out.len() - written < LONGEST {
+        return written;
+    }
+    lines::write_refused(out, written, 1)
+}
+
+// The lines of a whole day, an image and its records, over the front of the buffer: as many as there are while the longest line still has room.
+pub fn run_day(day: &[u8], out: &mut [u8]) -> usize
+    ensures { λ r. ⌜ Written (now (out .entry)) 0 (fitting (length (now (out .entry))) (dayAnswers (now (day .entry)))) (now (out .exit)) r ⌝ }
+{
+    if out.len() < LONGEST {
+        return 0;
+    }
+    let checked = open(day);
+    let first = lines::write_table(out, 0, checked);
+    match checked {
+        Checked::Accepted => {
+            let end = image_end(day);
+            let more = run_whole(&day[..end], &day[end..], &mut out[first..]);
+            first + more
+        }
+        Checked::Refused(_) => first,
     }
 }

@@ -31,14 +31,14 @@ module _ (s : List ℕ) (i : ℕ) where
   record-over e = rw (← e)
 
 -- no byte is left
-none-left : (s : List ℕ) (i : ℕ) → length s ≤ i → missing ≡ lengthAt s i
+pub none-left : (s : List ℕ) (i : ℕ) → length s ≤ i → missing ≡ lengthAt s i
 unfolding lengthAt lengthOf
 none-left s i h =
     let z : length (take 4 (drop i s)) ≡ 0 = length-take 4 (drop i s) ∙ omega (arith, length-drop i s) in
     rw (eq-eqb _ _ z)
 
 -- how many turns are left does not matter, once they are as many as the bytes
-turns : (s : List ℕ) (m n i : ℕ) → length s ≤ i + m → length s ≤ i + n → recordsIn m s i ≡ recordsIn n s i
+pub turns : (s : List ℕ) (m n i : ℕ) → length s ≤ i + m → length s ≤ i + n → recordsIn m s i ≡ recordsIn n s i
 unfolding recordsIn
 turns s zero zero i h k = refl
 turns s zero (suc n) i h k = rw (record-over s i (none-left s i (omega arith)))
