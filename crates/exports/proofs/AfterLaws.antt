@@ -6,7 +6,7 @@ use Prim.Native.Nat.{ℕ, zero, suc, _+_, _-_, _≤_, _<_}
 use lib.Dec.{ltb, eqb}
 use native.Mathlib.Omega.{arith}
 use lib.ListN.{length, take, drop, length-drop}
-use lib.Seq.{take-all, drop-drop}
+use lib.Seq.{drop-drop}
 use borrow.Author.Tests.{eq-eqb, ne-eqb}
 use Rattle.rows.specs.Bytes.{Image}
 use Rattle.machine.specs.State.{State, fresh}
@@ -15,6 +15,7 @@ use Rattle.kept.specs.Kept.{step-keeps}
 use Rattle.unpacked.specs.Unpacked.{state-is}
 use Rattle.records.specs.Records.{Record, call, malformed, cut, over}
 use Rattle.gate_day.specs.Days.{Next, pending, broken, whole, Ran, stateAt, bodyAt, nextAt, longest, stopped, ranIn, ranOn, ran}
+use Rattle.gate_day.proofs.WholeLaws.{rest-is}
 use Rattle.gate_day.specs.Views.{Kept, Pieced, viewOf}
 use Rattle.gate_day.specs.declared.Day.{Day}
 use Rattle.gate_day.specs.declared.Pieces.{Pieces}
@@ -83,10 +84,6 @@ module _ {img : Image} {bytes : List ℕ} {d : Day} {p : Pieces} {old new : List
 pub after-begins : (img : Image) (records : List ℕ) (d : Day) → viewOf img d ≡ fresh img → afterAll img records ≡ afterIn (length records) img (drop 0 records) (viewOf img d)
 unfolding afterAll
 after-begins img records d e = ap (afterIn (length records) img records) (sym e)
-
--- the part of a list behind a place
-pub rest-is : (l : List ℕ) (at : ℕ) → take (length l - at) (drop at l) ≡ drop at l
-rest-is l at = take-all (length l - at) (drop at l) (let e = length-drop at l in omega (arith, e))
 
 -- ---- one turn of the loop
 

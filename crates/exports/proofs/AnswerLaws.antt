@@ -9,9 +9,10 @@ use borrow.Author.Tests.{le-leb, lt-leb}
 use Rattle.lists.specs.Tests.{and-both}
 use Rattle.table.specs.Check.{isTable}
 use Rattle.machine.specs.State.{State}
+use Rattle.gate_day.specs.Days.{imageEnd, imageIn, recordBytes}
 use Rattle.gate_day.specs.Views.{viewOf}
 use Rattle.gate_day.specs.declared.Day.{Day}
-use Rattle.exports.specs.Words.{imageEnd, imageIn, recordsIn, opens, stateWords, stateOver, afterAll, answers, afterNumber, afterWords}
+use Rattle.exports.specs.Words.{opens, stateWords, stateOver, afterAll, answers, afterNumber, afterWords}
 
 pub off-right : (a b : Bool) → b ≡ false → (a && b) ≡ false
 off-right true b e = e
@@ -23,7 +24,7 @@ module _ (day ws : List ℕ) where
 
   none : answers day ws ≡ false → Kept-back
   unfolding afterNumber afterWords
-  none e = (sym (ap (λ b. cond b 0 1) e), sym (ap (λ b. cond b (stateOver (imageIn day) (afterAll (imageIn day) (recordsIn day)) ws) ws) e))
+  none e = (sym (ap (λ b. cond b 0 1) e), sym (ap (λ b. cond b (stateOver (imageIn day) (afterAll (imageIn day) (recordBytes day)) ws) ws) e))
 
   pub few-words : length ws < stateWords → Kept-back
   unfolding answers
@@ -54,7 +55,7 @@ module _ (day ws : List ℕ) where
     sym (ap (λ b. cond b 0 1) go),
     n ∙ (ap (λ s. stateOver (take end day) s ws) (v ∙ ap (afterAll (take end day)) q) ∙
         (ap (λ m. stateOver (take m day) (afterAll (take m day) (drop m day)) ws) e ∙
-        sym (ap (λ b. cond b (stateOver (imageIn day) (afterAll (imageIn day) (recordsIn day)) ws) ws) go))),
+        sym (ap (λ b. cond b (stateOver (imageIn day) (afterAll (imageIn day) (recordBytes day)) ws) ws) go))),
   )
     where
       go : answers day ws ≡ true

@@ -2,7 +2,7 @@
 use mathlib.Core.Bool.{Bool, true, cond}
 use mathlib.Core.Path.{_≡_, refl, ap, _∙_, sym}
 use mathlib.Core.List.{List, [], _∷_, _++_}
-use Prim.Native.Nat.{ℕ, _≤_}
+use Prim.Native.Nat.{ℕ, _*_, _≤_}
 use lib.ListN.{length, take}
 use Rattle.lists.specs.Held.{held-words, whole-long}
 use Rattle.rows.specs.Bytes.{Image}
@@ -25,7 +25,7 @@ use Rattle.pops.proofs.AsMachine.{peek-is, control-is}
 use Rattle.unpacked.specs.Unpacked.{most-scopes, rules-table}
 use Rattle.gate_day.specs.Views.{Kept, viewOf}
 use Rattle.gate_day.specs.declared.Day.{Day}
-use Rattle.exports.specs.Words.{peekWords, flagWord, firstWords, over, stateOver, modesIn, scopesIn, eventsIn, valuesIn, bucketsIn}
+use Rattle.exports.specs.Words.{peekWords, flagWord, firstWords, over, stateOver, modesAt, scopesAt, eventsAt, valuesAt, bucketsAt, modesIn, scopesIn, eventsIn, valuesIn, bucketsIn}
 
 over-of : {a b c v w : List ℕ} (at : ℕ) → a ≡ over b at v → b ≡ c → v ≡ w → a ≡ over c at w
 over-of {a} {b} {c} {v} {w} at e p q = e ∙ (ap (λ x. over x at v) p ∙ ap (over c at) q)
@@ -37,16 +37,16 @@ module _ {img : Image} {d : Day} (k : Kept img d) where
   pub modes-long : length (d .modes) ≡ mostReactors
   modes-long = ap length (k .unpacked .in-modes) ∙ padded-length 0 mostReactors _
 
-  pub scopes-long : length (d .scopes) ≡ 224
+  pub scopes-long : length (d .scopes) ≡ mostScopes * scope.scopeWords
   scopes-long = whole-long scope.decode scope.encode scope.scopeWords mostScopes scope.encode-long (d .scopes) (k .unpacked .in-scopes .whole)
 
-  pub events-long : length (d .events) ≡ 1536
+  pub events-long : length (d .events) ≡ mostWaiting * slot.slotWords
   events-long = whole-long slot.decode slot.encode slot.slotWords mostWaiting slot.encode-long (d .events) (k .unpacked .in-events .held .whole)
 
-  pub values-long : length (d .values) ≡ 1024
+  pub values-long : length (d .values) ≡ mostHeld * valueWords
   values-long = whole-long decodeValue encodeValue valueWords mostHeld long-value (d .values) (k .unpacked .in-store .values .whole)
 
-  pub buckets-long : length (d .buckets) ≡ 768
+  pub buckets-long : length (d .buckets) ≡ mostHeld * bucketWords
   buckets-long = whole-long decodeBucket encodeBucket bucketWords mostHeld long-bucket (d .buckets) (k .unpacked .in-store .buckets .whole)
 
   abbrev es : List Event
@@ -67,15 +67,15 @@ module _ {img : Image} {d : Day} (k : Kept img d) where
       ap (λ l. l ++ (c ∷ d .counts .work ∷ d .counts .waiting ∷ d .held .values ∷ d .held .buckets ∷ [])) a ∙
       rw (b, ← (k .unpacked .in-events .waiting), ← (k .unpacked .in-store .some-values), ← (k .unpacked .in-store .some-buckets))
 
-  pub all-over : {first a b c e f g : List ℕ} (ws : List ℕ) → first ≡ firstWords img (viewOf img d) → a ≡ over ws 0 first → b ≡ over a 8 (d .modes) → c ≡ over b 24 (d .scopes) →
-      e ≡ over c 248 (d .events) → f ≡ over e 1784 (d .values) → g ≡ over f 2808 (d .buckets) → g ≡ stateOver img (viewOf img d) ws
+  pub all-over : {first a b c e f g : List ℕ} (ws : List ℕ) → first ≡ firstWords img (viewOf img d) → a ≡ over ws 0 first → b ≡ over a modesAt (d .modes) → c ≡ over b scopesAt (d .scopes) →
+      e ≡ over c eventsAt (d .events) → f ≡ over e valuesAt (d .values) → g ≡ over f bucketsAt (d .buckets) → g ≡ stateOver img (viewOf img d) ws
   unfolding stateOver
   all-over ws i ea eb ec ee ef eg =
       let u = k .unpacked in
-      over-of 2808 eg
-      (over-of 1784 ef
-      (over-of 248 ee
-      (over-of 24 ec (over-of 8 eb (over-of 0 ea refl i) (u .in-modes)) (held-words scope.decode scope.encode scope.scopeWords mostScopes scope.encode-long _ _ (u .in-scopes)))
+      over-of bucketsAt eg
+      (over-of valuesAt ef
+      (over-of eventsAt ee
+      (over-of scopesAt ec (over-of modesAt eb (over-of 0 ea refl i) (u .in-modes)) (held-words scope.decode scope.encode scope.scopeWords mostScopes scope.encode-long _ _ (u .in-scopes)))
       (held-words slot.decode slot.encode slot.slotWords mostWaiting slot.encode-long _ _ (u .in-events .held)))
       (held-words decodeValue encodeValue valueWords mostHeld long-value _ _ (u .in-store .values)))
       (held-words decodeBucket encodeBucket bucketWords mostHeld long-bucket _ _ (u .in-store .buckets))

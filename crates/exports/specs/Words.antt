@@ -1,12 +1,12 @@
 -- The state after a day's records, as words in the order that harness/barnshiver.h names. Assumes nothing.
-use Prim.Native.Nat.{ℕ, zero, suc, _+_}
+use Prim.Native.Nat.{ℕ, zero, suc, _+_, _*_}
 use mathlib.Core.Bool.{Bool, true, false, cond, _&&_, _||_}
 use mathlib.Core.List.{List, [], _∷_, _++_}
 use lib.Dec.{leb, eqb}
 use lib.ListN.{length, take, drop}
 use lib.Seq.{paste}
 use Rattle.lists.specs.Held.{wordsOf}
-use Rattle.rows.specs.Bytes.{Image, be}
+use Rattle.rows.specs.Bytes.{Image}
 use Rattle.table.specs.Check.{isTable}
 use Rattle.entries.specs.Entries.{mostHeld, blankValue, blankBucket}
 use Rattle.entries.specs.Words.{decodeValue, encodeValue, valueWords, long-value, decodeBucket, encodeBucket, bucketWords, long-bucket}
@@ -19,18 +19,9 @@ use Rattle.scopes.specs.Scopes.{mostScopes}
 use Rattle.lens.specs.Padded.{padded}
 use Rattle.lens.specs.Lens.{scopesFrom}
 use Rattle.unpacked.specs.Unpacked.{mostReactors}
-use Rattle.gate_day.specs.Days.{ran}
+use Rattle.gate_day.specs.Days.{ran, imageEnd, imageIn, recordBytes}
 
 -- ---- a day: an image by its length, and its records
-
-abbrev pub imageEnd : List ℕ → ℕ
-imageEnd day = 4 + be 4 day 0
-
-abbrev pub imageIn : List ℕ → Image
-imageIn day = take (imageEnd day) day
-
-abbrev pub recordsIn : List ℕ → List ℕ
-recordsIn day = drop (imageEnd day) day
 
 -- the image is all there, and it is a table
 unfoldable pub opens : List ℕ → Bool
@@ -90,11 +81,27 @@ bucketsIn s = wordsOf decodeBucket encodeBucket bucketWords mostHeld long-bucket
 unfoldable pub over : List ℕ → ℕ → List ℕ → List ℕ
 over ws at new = paste ws at new (length new)
 
-unfoldable pub stateOver : Image → State → List ℕ → List ℕ
-stateOver img s ws = over (over (over (over (over (over ws 0 (firstWords img s)) 8 (modesIn s)) 24 (scopesIn s)) 248 (eventsIn s)) 1784 (valuesIn s)) 2808 (bucketsIn s)
+-- where each kind begins, one behind the other
+abbrev pub modesAt : ℕ
+modesAt = 8
+
+abbrev pub scopesAt : ℕ
+scopesAt = modesAt + mostReactors
+
+abbrev pub eventsAt : ℕ
+eventsAt = scopesAt + mostScopes * scope.scopeWords
+
+abbrev pub valuesAt : ℕ
+valuesAt = eventsAt + mostWaiting * slot.slotWords
+
+abbrev pub bucketsAt : ℕ
+bucketsAt = valuesAt + mostHeld * valueWords
 
 abbrev pub stateWords : ℕ
-stateWords = 3576
+stateWords = bucketsAt + mostHeld * bucketWords
+
+unfoldable pub stateOver : Image → State → List ℕ → List ℕ
+stateOver img s ws = over (over (over (over (over (over ws 0 (firstWords img s)) modesAt (modesIn s)) scopesAt (scopesIn s)) eventsAt (eventsIn s)) valuesAt (valuesIn s)) bucketsAt (bucketsIn s)
 
 -- ---- what is answered, and what the words are then
 
@@ -105,4 +112,4 @@ unfoldable pub afterNumber : List ℕ → List ℕ → ℕ
 afterNumber day ws = cond (answers day ws) 0 1
 
 unfoldable pub afterWords : List ℕ → List ℕ → List ℕ
-afterWords day ws = cond (answers day ws) (stateOver (imageIn day) (afterAll (imageIn day) (recordsIn day)) ws) ws
+afterWords day ws = cond (answers day ws) (stateOver (imageIn day) (afterAll (imageIn day) (recordBytes day)) ws) ws

@@ -4,11 +4,12 @@ ghost use mathlib.Core.Bool.{true};
 ghost use mathlib.Core.List.{[], _∷_};
 ghost use Prim.Native.Nat.{_+_, _≤_};
 ghost use lib.ListN.{length};
-ghost use Rattle.rows.specs.Bytes.{be};
 ghost use Rattle.table.specs.Check.{isTable};
 ghost use Rattle.pops.specs.Pops.{replyOf};
+ghost use Rattle.lines.specs.Written.{Written};
+ghost use Rattle.gate_day.specs.Days.{fitting, dayAnswers};
 ghost use Rattle.gate_day.specs.Views.{Kept, viewOf};
-ghost use Rattle.exports.specs.Words.{imageEnd, peekWords, flagWord, firstWords, over, stateOver, stateWords, afterAll, afterNumber, afterWords};
+ghost use Rattle.exports.specs.Words.{peekWords, flagWord, firstWords, over, stateOver, stateWords, afterAll, afterNumber, afterWords};
 ghost use Prim.Native.Nat.{_%_};
 ghost use lib.ListN.{getD, set};
 ghost use lib.Dec.{leb};
@@ -31,26 +32,18 @@ use tags::ScopeClock;
 // Room for the lines of a piece; `scratch` of specs/ says the same.
 const SCRATCH: usize = 65536;
 
-// Words of a state, and where its rows begin.
-const STATE_WORDS: usize = 3576;
-
+// Where the rows of a state begin, one kind behind the other, and how many words it has.
 const MODES_AT: usize = 8;
 
-const SCOPES_AT: usize = 24;
+const SCOPES_AT: usize = MODES_AT + plan::MOST_REACTORS;
 
-const EVENTS_AT: usize = 248;
+const EVENTS_AT: usize = SCOPES_AT + scopes::ROOM;
 
-const VALUES_AT: usize = 1784;
+const VALUES_AT: usize = EVENTS_AT + slots::ROOM;
 
-const BUCKETS_AT: usize = 2808;
+const BUCKETS_AT: usize = VALUES_AT + entries::MOST_HELD * entries::VALUE_WORDS;
 
-// Where the image ends that a day begins with.
-fn image_end(day: &[u8]) -> usize
-    ensures { λ r. ⌜ r ≡ imageEnd (now (day .entry)) ⌝ }
-{
-    let n = rows::four_bytes(day, 0);
-    n as usize + 4
-}
+const STATE_WORDS: usize = BUCKETS_AT + entries::MOST_HELD * entries::BUCKET_WORDS;
 
 // The place so many bytes on.
 fn behind(bytes: &[u8], at: usize, n: usize) -> usize
@@ -200,7 +193,7 @@ pub extern "C" fn barnshiver_state_after(day: &[u8], state: &mut [u64]) -> u8
     if state.len() < STATE_WORDS {
         return 1;
     }
-    let end = image_end(day);
+    let end = gate_day::image_end(day);
     if day.len() < end {
         return 1;
     }
@@ -210,6 +203,16 @@ pub extern "C" fn barnshiver_state_after(day: &[u8], state: &mut [u64]) -> u8
         return 0;
     }
     1
+}
+
+// ---- the run of a day
+
+// The lines of a day's answers over the front of the buffer, as many as there are while the longest line still has room; how many bytes they take.
+#[no_mangle]
+pub extern "C" fn barnshiver_run_day(day: &[u8], lines: &mut [u8]) -> usize
+    ensures { λ r. ⌜ Written (now (lines .entry)) 0 (fitting (length (now (lines .entry))) (dayAnswers (now (day .entry)))) (now (lines .exit)) r ⌝ }
+{
+    gate_day::run_day(day, lines)
 }
 
 // ---- the table check

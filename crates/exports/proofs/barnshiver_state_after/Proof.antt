@@ -1,4 +1,4 @@
-use Rattle.exports.proofs.AfterLaws.{rest-is}
+use Rattle.gate_day.proofs.WholeLaws.{rest-is}
 use Rattle.exports.proofs.AnswerLaws.{few-words, cut-short, no-table, all-told}
 use lib.Seq.{length-take-le}
 use mathlib.Core.Path.{sym, _∙_}
@@ -7,7 +7,7 @@ use Rattle.exports.proofs.barnshiver_state_after.Statement.{statement}
 use Rattle.exports.proofs.barnshiver_state_after.Tie as tie
 use Rattle.exports.proofs.barnshiver_state_after.Reads as reads
 use Rattle.exports.proofs.barnshiver_state_after.Lts as lts
-use Rattle.exports.proofs.image_end.Reads as image-end-reads
+use Rattle.gate_day.proofs.image_end.Reads as image-end-reads
 use Rattle.exports.proofs.put_state.Reads as put-state-reads
 use Rattle.exports.proofs.run_all.Reads as run-all-reads
 use Rattle.table.proofs.accepted.Reads as accepted-reads
