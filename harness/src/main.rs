@@ -1,6 +1,7 @@
 //! The library beside the oracle: clock maps, images, runs of days, and the state after every record.
 
 use std::io::Write;
+use std::path::Path;
 use std::process::ExitCode;
 use std::sync::atomic::{AtomicU64, AtomicUsize, Ordering};
 use std::sync::Mutex;
@@ -18,8 +19,10 @@ mod seen;
 const USAGE: &str = "\
 harness maps SEED COUNT      clock maps against the published clock's and 01's answers
 harness tables SEED COUNT    the table check on images, valid and damaged
+harness tables days FOLDER   the same on the images of recorded days
 harness days FROM TO         made days of every kind, seeds FROM to TO - 1: the lines, and the state after every record
                              against the Rust's and the plain machine's
+harness days recorded FOLDER the same on recorded days
 
 Exit status: 0 all agrees, 1 a difference, 2 the arguments are at fault.";
 
@@ -27,9 +30,15 @@ fn main() -> ExitCode {
     let arguments: Vec<String> = std::env::args().skip(1).collect();
     let words: Vec<&str> = arguments.iter().map(String::as_str).collect();
     let outcome = match words[..] {
+        ["tables", "days", folder] => {
+            scripts::table::write_days(Path::new(folder)).and_then(tables)
+        }
+        ["days", "recorded", folder] => recorded(Path::new(folder)),
         [what, first, second] => match (what, first.parse(), second.parse()) {
             ("maps", Ok(seed), Ok(count)) => maps(seed, count),
-            ("tables", Ok(seed), Ok(count)) => tables(seed, count),
+            ("tables", Ok(seed), Ok(count)) => {
+                scripts::table::write(seed, count as usize).and_then(tables)
+            }
             ("days", Ok(from), Ok(to)) => days(from, to),
             _ => return usage(),
         },
@@ -122,8 +131,7 @@ fn maps(seed: u64, count: u64) -> Result<String, String> {
     ))
 }
 
-fn tables(seed: u64, count: u64) -> Result<String, String> {
-    let written = scripts::table::write(seed, count as usize)?;
+fn tables(written: scripts::Written) -> Result<String, String> {
     let mut script = &written.script[..];
     let mut answers = written.answers.chunks(5);
     let (mut images, mut accepted) = (0, 0);
@@ -150,6 +158,9 @@ fn tables(seed: u64, count: u64) -> Result<String, String> {
                 differs,
             ));
         }
+    }
+    if images == 0 {
+        return Err("there is no image".to_string());
     }
     Ok(format!(
         "{images} images, {accepted} accepted: no difference"
@@ -204,6 +215,30 @@ fn days(from: u64, to: u64) -> Result<String, String> {
         (to.saturating_sub(from)) * KINDS.len() as u64,
         states.into_inner(),
         with_rust.into_inner()
+    ))
+}
+
+fn recorded(folder: &Path) -> Result<String, String> {
+    let entries =
+        std::fs::read_dir(folder).map_err(|error| format!("{}: {error}", folder.display()))?;
+    let mut files: Vec<_> = entries.flatten().map(|entry| entry.path()).collect();
+    files.retain(|file| file.extension().is_some_and(|end| end == "day"));
+    files.sort();
+    if files.is_empty() {
+        return Err(format!("{} has no day", folder.display()));
+    }
+    let (mut states, mut with_rust) = (0, 0);
+    for file in &files {
+        let name = file.display().to_string();
+        let day = std::fs::read(file).map_err(|error| format!("{name}: {error}"))?;
+        let counts = one_day(&day)
+            .map_err(|words| shrink::shown(&name, &words, &day, |day| one_day(day).err()))?;
+        states += counts.0;
+        with_rust += counts.1;
+    }
+    Ok(format!(
+        "{} recorded days; {states} states like the plain machine's, {with_rust} of them like the Rust's too: no difference",
+        files.len()
     ))
 }
 
