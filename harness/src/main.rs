@@ -323,18 +323,19 @@ fn lines(day: &[u8]) -> Result<(), String> {
     for room in [0, LINE_ROOM - 1, LINE_ROOM, LINE_ROOM + expected.len() / 2] {
         let mut short = vec![FILL; room + LINE_ROOM];
         let length = slices::run_day(&longer, &mut short[..room]);
-        let (front, rest) = short.split_at(length.min(room));
-        let whole = front.is_empty() || front.ends_with(b"\n");
-        let enough = length == expected.len() || room - front.len() < LINE_ROOM;
-        if length > room
-            || !expected.starts_with(front)
-            || !whole
-            || !enough
-            || rest.iter().any(|&byte| byte != FILL)
-        {
+        // As many lines as there are while the longest still has room.
+        let mut fit = 0;
+        for line in expected.split_inclusive(|&byte| byte == b'\n') {
+            if room - fit < LINE_ROOM {
+                break;
+            }
+            fit += line.len();
+        }
+        let (front, rest) = short.split_at(fit);
+        if length != fit || front != &expected[..fit] || rest.iter().any(|&byte| byte != FILL) {
             return Err(format!(
-                "with {POPS} pops behind it, in a room of {room} bytes, the lines took {length} of {}: wrong, cut, too few, or \
-                 something is written behind them",
+                "with {POPS} pops behind it, in a room of {room} bytes, the lines took {length} of {}, where {fit} are due: wrong, cut, \
+                 too few, or something is written behind them",
                 expected.len()
             ));
         }
