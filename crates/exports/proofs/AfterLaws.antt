@@ -1,31 +1,81 @@
 -- The state after a day's records, piece by piece: what a piece leaves keeps the rules and is what its arrays hold. Assumes nothing.
 use mathlib.Core.Bool.{Bool, true, false, cond, _||_}
 use mathlib.Core.Path.{_≡_, refl, ap, _∙_, sym}
-use mathlib.Core.List.{List}
+use mathlib.Core.Logic.{_⊎_, inl, inr}
+use mathlib.Core.List.{List, [], append-nil}
 use Prim.Native.Nat.{ℕ, zero, suc, _+_, _-_, _≤_, _<_}
 use lib.Dec.{ltb, eqb}
 use native.Mathlib.Omega.{arith}
 use lib.ListN.{length, take, drop, length-drop}
 use lib.Seq.{drop-drop}
 use borrow.Author.Tests.{eq-eqb, ne-eqb}
+use Rattle.lists.specs.Tests.{same?}
 use Rattle.rows.specs.Bytes.{Image}
 use Rattle.machine.specs.State.{State, fresh}
-use Rattle.machine.specs.Machine.{rules}
-use Rattle.kept.specs.Kept.{step-keeps}
+use Rattle.machine.specs.Machine.{rules, run}
 use Rattle.unpacked.specs.Unpacked.{state-is}
-use Rattle.records.specs.Records.{Record, call, malformed, cut, over}
-use Rattle.gate_day.specs.Days.{Next, pending, broken, whole, Ran, stateAt, bodyAt, nextAt, longest, stopped, ranIn, ranOn, ran}
-use Rattle.gate_day.proofs.WholeLaws.{rest-is}
+use Rattle.records.specs.Records.{recordsFrom}
+use Rattle.records.proofs.DayLaws.{records-behind}
+use Rattle.gate_day.specs.Days.{Next, pending, broken, whole, Ran, stateAt, bodyAt, nextAt, longest, stopped, callsOf, ranIn, ranOn, ran}
+use Rattle.gate_day.proofs.RunLaws.{state-keeps}
+use Rattle.gate_day.proofs.WholeLaws.{rest-is, over-rests, ran-state, rests-calls}
 use Rattle.gate_day.specs.Views.{Kept, Pieced, viewOf}
 use Rattle.gate_day.specs.declared.Day.{Day}
 use Rattle.gate_day.specs.declared.Pieces.{Pieces}
-use Rattle.exports.specs.Words.{scratch, afterIn, afterAll}
+use Rattle.exports.specs.Words.{afterAll}
 
-state-keeps : (img : Image) (s : State) (r : Record) → rules img s ≡ true → rules img (stateAt img s r) ≡ true
-state-keeps img s (call c) k = step-keeps img s c k
-state-keeps img s malformed k = k
-state-keeps img s cut k = k
-state-keeps img s over k = k
+-- ---- piece by piece
+
+-- room for the lines of a piece
+abbrev pub scratch : ℕ
+scratch = 65536
+
+-- the state after as many pieces as there are, or n; each but the last takes four bytes or more
+unfoldable pub afterIn : ℕ → Image → List ℕ → State → State
+afterIn zero img bytes s = s
+afterIn (suc n) img bytes s =
+    let r = ran img bytes s scratch in
+    cond (r .ended || eqb (r .used) 0) (r .state) (afterIn n img (drop (r .used) bytes) (r .state))
+
+abbrev called : Image → List ℕ → State → ℕ → State
+called img bytes s i = run img s (callsOf (recordsFrom bytes i))
+
+module _ (img : Image) (bytes : List ℕ) (s : State) where
+  abbrev first : Ran
+  first = ran img bytes s scratch
+
+  -- the state after a piece, or after the pieces behind it
+  abbrev pieces : ℕ → Bool → State
+  pieces n b = cond b (first .state) (afterIn n img (drop (first .used) bytes) (first .state))
+
+  abbrev calls : Bool → State
+  calls b = cond b (first .state) (called img bytes (first .state) (first .used))
+
+  all : called img bytes s 0 ≡ calls (first .ended)
+  all = rw (append-nil bytes) at (ran-state img bytes [] s scratch)
+
+  one-more : (n : ℕ) → length bytes ≤ suc n → (e : Bool) → first .ended ≡ e → (first .used ≡ 0) ⊎ (first .used ≡ 0 → ⊥) →
+      ((b : List ℕ) (t : State) → length b ≤ n → afterIn n img b t ≡ called img b t 0) → pieces n (first .ended || eqb (first .used) 0) ≡ called img bytes s 0
+  one-more n h true e u f = ap (λ b. pieces n (b || eqb (first .used) 0)) e ∙ sym (all ∙ ap calls e)
+  one-more n h false e (inl u) f =
+      ap (λ b. pieces n (b || eqb (first .used) 0)) e ∙
+      (ap (pieces n) (eq-eqb (first .used) 0 u) ∙
+      sym (all ∙ (ap calls e ∙ (ap (called img bytes (first .state)) u ∙ rests-calls img bytes s (first .state) scratch (omega arith) u e))))
+  one-more n h false e (inr u) f =
+      let d = length-drop (first .used) bytes in
+      ap (λ b. pieces n (b || eqb (first .used) 0)) e ∙
+      (ap (pieces n) (ne-eqb (first .used) 0 u) ∙
+      (f (drop (first .used) bytes) (first .state) (omega (arith, d, h, u)) ∙
+      sym (all ∙ (ap calls e ∙ ap (λ rs. run img (first .state) (callsOf rs)) (records-behind bytes (first .used))))))
+
+-- it is the state after all calls
+after-called : (n : ℕ) (img : Image) (bytes : List ℕ) (s : State) → length bytes ≤ n → afterIn n img bytes s ≡ called img bytes s 0
+unfolding afterIn callsOf run
+after-called zero img bytes s h = sym (ap (λ rs. run img s (callsOf rs)) (over-rests bytes 0 h))
+after-called (suc n) img bytes s h =
+    one-more img bytes s n h (ran img bytes s scratch .ended) refl (same? (ran img bytes s scratch .used) 0) λ b t k. after-called n img b t k
+
+-- ---- what a piece leaves
 
 abbrev Keeps : Image → Ran → Type 0
 Keeps img r = rules img (r .state) ≡ true
@@ -83,7 +133,8 @@ module _ {img : Image} {bytes : List ℕ} {d : Day} {p : Pieces} {old new : List
 
 pub after-begins : (img : Image) (records : List ℕ) (d : Day) → viewOf img d ≡ fresh img → afterAll img records ≡ afterIn (length records) img (drop 0 records) (viewOf img d)
 unfolding afterAll
-after-begins img records d e = ap (afterIn (length records) img records) (sym e)
+after-begins img records d e =
+    sym (after-called (length records) img records (fresh img) (omega arith)) ∙ ap (afterIn (length records) img records) (sym e)
 
 -- ---- one turn of the loop
 

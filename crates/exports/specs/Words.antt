@@ -1,9 +1,9 @@
 -- The state after a day's records, as words in the order that harness/barnshiver.h names. Assumes nothing.
-use Prim.Native.Nat.{ℕ, zero, suc, _+_, _*_}
-use mathlib.Core.Bool.{Bool, true, false, cond, _&&_, _||_}
+use Prim.Native.Nat.{ℕ, _+_, _*_}
+use mathlib.Core.Bool.{Bool, true, false, cond, _&&_}
 use mathlib.Core.List.{List, [], _∷_, _++_}
-use lib.Dec.{leb, eqb}
-use lib.ListN.{length, take, drop}
+use lib.Dec.{leb}
+use lib.ListN.{length}
 use lib.Seq.{paste}
 use Rattle.lists.specs.Held.{wordsOf}
 use Rattle.rows.specs.Bytes.{Image}
@@ -12,14 +12,15 @@ use Rattle.entries.specs.Entries.{mostHeld, blankValue, blankBucket}
 use Rattle.entries.specs.Words.{decodeValue, encodeValue, valueWords, long-value, decodeBucket, encodeBucket, bucketWords, long-bucket}
 use Rattle.machine.specs.State.{State, mostWaiting, fresh}
 use Rattle.machine.specs.Heads.{peek, controlOnly}
-use Rattle.machine.specs.Machine.{Reply, ok, refusal, nothing, ready, tag, flag, number, peekAt}
+use Rattle.machine.specs.Machine.{Reply, ok, refusal, nothing, ready, tag, flag, number, peekAt, run}
 use Rattle.slots.specs.Slots as slot
 use Rattle.scopes.specs.Scopes as scope
 use Rattle.scopes.specs.Scopes.{mostScopes}
 use Rattle.lens.specs.Padded.{padded}
 use Rattle.lens.specs.Lens.{scopesFrom}
 use Rattle.unpacked.specs.Unpacked.{mostReactors}
-use Rattle.gate_day.specs.Days.{ran, imageEnd, imageIn, recordBytes}
+use Rattle.records.specs.Records.{recordsFrom}
+use Rattle.gate_day.specs.Days.{callsOf, imageEnd, imageIn, recordBytes}
 
 -- ---- a day: an image by its length, and its records
 
@@ -27,19 +28,9 @@ use Rattle.gate_day.specs.Days.{ran, imageEnd, imageIn, recordBytes}
 unfoldable pub opens : List ℕ → Bool
 opens day = leb (imageEnd day) (length day) && isTable (imageIn day)
 
--- room for the lines of a piece
-abbrev pub scratch : ℕ
-scratch = 65536
-
--- the state after as many pieces as there are, or n; each but the last takes four bytes or more
-unfoldable pub afterIn : ℕ → Image → List ℕ → State → State
-afterIn zero img bytes s = s
-afterIn (suc n) img bytes s =
-    let r = ran img bytes s scratch in
-    cond (r .ended || eqb (r .used) 0) (r .state) (afterIn n img (drop (r .used) bytes) (r .state))
-
+-- the plain machine's state after the calls among the records
 unfoldable pub afterAll : Image → List ℕ → State
-afterAll img bytes = afterIn (length bytes) img bytes (fresh img)
+afterAll img bytes = run img (fresh img) (callsOf (recordsFrom bytes 0))
 
 -- ---- its words
 

@@ -29,7 +29,7 @@ use tags::ScopeClock;
 
 // ---- the state after a day
 
-// Room for the lines of a piece; `scratch` of specs/ says the same.
+// Room for the lines of a piece; `scratch` of proofs/ says the same.
 const SCRATCH: usize = 65536;
 
 // Where the rows of a state begin, one kind behind the other, and how many words it has.

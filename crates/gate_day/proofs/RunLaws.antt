@@ -30,7 +30,7 @@ pub record Running (img : Image) (bytes : List ℕ) (first : State) (old : List 
   pub rest : ran img bytes first (length old) ≡ behind lines (ranIn turns img bytes state used (length old - length lines))
   pub inside : used ≤ length bytes
 
-state-keeps : (img : Image) (s : State) (r : Record) → rules img s ≡ true → rules img (stateAt img s r) ≡ true
+pub state-keeps : (img : Image) (s : State) (r : Record) → rules img s ≡ true → rules img (stateAt img s r) ≡ true
 state-keeps img s (call c) k = step-keeps img s c k
 state-keeps img s malformed k = k
 state-keeps img s cut k = k

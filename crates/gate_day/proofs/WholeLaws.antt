@@ -18,15 +18,15 @@ use Rattle.table.specs.declared.Checked.the-variants.{Accepted, Refused}
 use Rattle.table.specs.declared.ImageRefusal.{ImageRefusal}
 use Rattle.table.specs.declared.ImageRefusal.the-variants.{Length}
 use Rattle.machine.specs.State.{State, fresh}
-use Rattle.machine.specs.Machine.{Call}
-use Rattle.records.specs.Records.{Record, call, malformed, cut, counts, version, mostBytes, lengthOf, lengthAt, plainOf, networkOf, controlOf, actionOf, transitionOf, popOf, opOf, bodyOf, recordAt, goesOn, recordsFrom, isBit, keysFill}
+use Rattle.machine.specs.Machine.{Call, run}
+use Rattle.records.specs.Records.{Record, call, malformed, cut, over, counts, version, mostBytes, lengthOf, lengthAt, plainOf, networkOf, controlOf, actionOf, transitionOf, popOf, opOf, bodyOf, recordAt, goesOn, recordsFrom, isBit, keysFill}
 use Rattle.records.specs.Records as R
 use Rattle.records.proofs.Laws.{length-short, length-counts, length-over}
-use Rattle.records.proofs.DayLaws.{none-left, record-there, record-short, record-broken, record-over, records-step}
+use Rattle.records.proofs.DayLaws.{none-left, record-there, record-short, record-broken, record-over, records-step, records-behind}
 use Rattle.lines.specs.Lines.{tableLine}
 use Rattle.lines.specs.Written.{Written}
 use Rattle.lines.proofs.WrittenLaws.{written-none, written-then, written-as, written-long, written-room}
-use Rattle.gate_day.specs.Days.{Next, pending, broken, whole, nextAt, bytesLeft, bodyAt, Ran, stopped, endedAt, behind, longest, malformedLine, lineAt, stateAt, answersOf, together, fitting, ranIn, ranOn, ran, imageEnd, imageIn, largest, opened, answersBy, dayAnswers, recordBytes}
+use Rattle.gate_day.specs.Days.{Next, pending, broken, whole, nextAt, bytesLeft, bodyAt, Ran, stopped, endedAt, behind, longest, malformedLine, lineAt, stateAt, answersOf, together, linesOf, callsOf, fitting, ranIn, ranOn, ran, imageEnd, imageIn, largest, opened, answersBy, dayAnswers, recordBytes}
 use Rattle.gate_day.specs.Views.{viewOf, Pieced}
 use Rattle.gate_day.specs.declared.Day.{Day}
 use Rattle.gate_day.specs.declared.Pieces.{Pieces}
@@ -110,36 +110,37 @@ module _ (a b : List ℕ) (i : ℕ) (h : i ≤ length a) (four : 4 ≤ bytesLeft
   pub broken-stops : mostBytes < be 4 a i → recordsFrom (a ++ b) i ≡ cut ∷ []
   broken-stops l = records-step (a ++ b) i ∙ ap (λ r. goesOn r (recordsFrom (a ++ b) (R.behind i (lengthAt (a ++ b) i)))) (broken-there l)
 
--- ---- the run of a piece, and what is left behind it; f puts lines one behind the other, all of them or while there is room
+-- ---- the run of a piece, and what is left behind it: for whatever is told of records one behind the other, with their lines put before what follows
 
-module _ (f : ℕ → List (List ℕ) → List ℕ) (f-none : (k : ℕ) → f k [] ≡ []) (f-more : (k : ℕ) (l : List ℕ) (ls : List (List ℕ)) → longest ≤ k → f k (l ∷ ls) ≡ l ++ f (k - length l) ls)
-    (img : Image) (a b : List ℕ) where
-  abbrev from : ℕ → State → ℕ → List ℕ
-  from room s i = f room (answersOf img s (recordsFrom (a ++ b) i))
+module _ {X : Type 0} (img : Image) (g : ℕ → State → List Record → X) (put : List ℕ → X → X) (stop : State → X)
+    (put-none : (x : X) → put [] x ≡ x) (put-two : (l m : List ℕ) (x : X) → put l (put m x) ≡ put (l ++ m) x)
+    (g-stops : (room : ℕ) (s : State) → longest ≤ room → g room s (cut ∷ []) ≡ put malformedLine (stop s))
+    (g-more : (room : ℕ) (s : State) (r : Record) (rs : List Record) → longest ≤ room →
+    g room s (r ∷ rs) ≡ put (lineAt img s r) (g (room - length (lineAt img s r)) (stateAt img s r) rs))
+    (a b : List ℕ) where
+  abbrev from : ℕ → State → ℕ → X
+  from room s i = g room s (recordsFrom (a ++ b) i)
 
-  abbrev left-over : ℕ → Ran → List ℕ
-  left-over room r = cond (r .ended) [] (from (room - length (r .lines)) (r .state) (r .used))
+  abbrev left-over : ℕ → Ran → X
+  left-over room r = cond (r .ended) (stop (r .state)) (from (room - length (r .lines)) (r .state) (r .used))
 
   abbrev Tells : State → ℕ → ℕ → Ran → Type 0
-  Tells s i room r = from room s i ≡ r .lines ++ left-over room r
+  Tells s i room r = from room s i ≡ put (r .lines) (left-over room r)
 
   stays : (s : State) (i room : ℕ) → Tells s i room (stopped s i)
-  stays s i room = let z : room - 0 ≡ room = omega arith in rw z
+  stays s i room = let z : room - 0 ≡ room = omega arith in ap (λ k. from k s i) (sym z) ∙ sym (put-none (from (room - 0) s i))
 
   ends : (s : State) (i room : ℕ) → longest ≤ room → recordsFrom (a ++ b) i ≡ cut ∷ [] → Tells s i room (endedAt s i)
-  unfolding answersOf
-  ends s i room l e = ap (λ rs. f room (answersOf img s rs)) e ∙ (f-more room malformedLine [] l ∙ ap (λ x. malformedLine ++ x) (f-none _))
+  ends s i room l e = ap (g room s) e ∙ g-stops room s l
 
   goes-on : (s : State) (i j room : ℕ) (r : Record) (q : Ran) → longest ≤ room → recordsFrom (a ++ b) i ≡ r ∷ recordsFrom (a ++ b) j →
       Tells (stateAt img s r) j (room - length (lineAt img s r)) q → Tells s i room (behind (lineAt img s r) q)
-  unfolding answersOf
   goes-on s i j room r q l e t =
       let m = lineAt img s r in
       let z : room - length m - length (q .lines) ≡ room - length (m ++ q .lines) = rw length-append (omega arith) in
-      ap (λ rs. f room (answersOf img s rs)) e ∙
-      (f-more room m (answersOf img (stateAt img s r) (recordsFrom (a ++ b) j)) l ∙
-      (ap (λ x. m ++ x) t ∙
-      (sym (append-assoc m (q .lines) _) ∙ ap (λ k. (m ++ q .lines) ++ cond (q .ended) [] (from k (q .state) (q .used))) z)))
+      ap (g room s) e ∙
+      (g-more room s r (recordsFrom (a ++ b) j) l ∙
+      (ap (put m) t ∙ (put-two m (q .lines) _ ∙ ap (λ k. put (m ++ q .lines) (cond (q .ended) (stop (q .state)) (from k (q .state) (q .used)))) z)))
 
   tells-in : (n : ℕ) (s : State) (i room : ℕ) → i ≤ length a → Tells s i room (ranIn n img a s i room)
   unfolding ranIn nextAt
@@ -161,10 +162,25 @@ module _ (f : ℕ → List (List ℕ) → List ℕ) (f-none : (k : ℕ) → f k 
           (whole-goes a b i h (ltb-false (bytesLeft a i) 4 (sym ep)) (ltb-false mostBytes (be 4 a i) (sym eq)) fit)
           (g _ (i + 4 + be 4 a i) _ (omega (arith, fit, e)))
 
-  -- the lines of all records are those of the piece's, and behind them those of the records that are left
+  -- of all records is told what the piece's run tells, and behind it what the records tell that are left
   pub ran-tells : (s : State) (room : ℕ) → Tells s 0 room (ran img a s room)
   unfolding ran
   ran-tells s room = tells-in (length a) s 0 room (omega arith)
+
+-- ---- the state: after the calls of a piece, and then of those that are left
+
+calls-on : (img : Image) (s : State) (r : Record) (rs : List Record) → run img s (callsOf (r ∷ rs)) ≡ run img (stateAt img s r) (callsOf rs)
+unfolding callsOf run
+calls-on img s (call c) rs = refl
+calls-on img s malformed rs = refl
+calls-on img s cut rs = refl
+calls-on img s over rs = refl
+
+pub ran-state : (img : Image) (a b : List ℕ) (s : State) (room : ℕ) → let r = ran img a s room in
+    run img s (callsOf (recordsFrom (a ++ b) 0)) ≡ cond (r .ended) (r .state) (run img (r .state) (callsOf (recordsFrom (a ++ b) (r .used))))
+unfolding callsOf run
+ran-state img a b s room =
+    ran-tells img (λ k t rs. run img t (callsOf rs)) (λ l x. x) (λ t. t) (λ x. refl) (λ l m x. refl) (λ k t l. refl) (λ k t r rs l. calls-on img t r rs) a b s room
 
 -- ---- all lines, and those that fit
 
@@ -180,6 +196,25 @@ fitting-more room l ls h = rw (le-ltb room longest h)
 fitting-none : (room : ℕ) → fitting room [] ≡ []
 unfolding fitting
 fitting-none room = refl
+
+-- lines put one behind the other by f, all of them or while there is room: those of a piece, and behind them those of the records that are left
+module _ (f : ℕ → List (List ℕ) → List ℕ) (f-none : (room : ℕ) → f room [] ≡ [])
+    (f-more : (room : ℕ) (l : List ℕ) (ls : List (List ℕ)) → longest ≤ room → f room (l ∷ ls) ≡ l ++ f (room - length l) ls) (img : Image) (a b : List ℕ) (s : State) (room : ℕ) where
+  pub ran-lines : let r = ran img a s room in
+      f room (answersOf img s (recordsFrom (a ++ b) 0)) ≡ r .lines ++ cond (r .ended) [] (f (room - length (r .lines)) (answersOf img (r .state) (recordsFrom (a ++ b) (r .used))))
+  unfolding answersOf
+  ran-lines =
+      ran-tells img (λ k t rs. f k (answersOf img t rs)) (λ l x. l ++ x) (λ t. []) (λ x. refl) (λ l m x. sym (append-assoc l m x))
+      (λ k t l. f-more k malformedLine [] l ∙ ap (λ x. malformedLine ++ x) (f-none _)) (λ k t r rs l. f-more k (lineAt img t r) (answersOf img (stateAt img t r) rs) l) a b s room
+
+-- so a day that comes in pieces has the lines of each piece, and behind them those of the bytes that the piece left and of what comes behind it
+pub piece-lines : (img : Image) (a b : List ℕ) (s : State) (room : ℕ) → let r = ran img a s room in
+    linesOf img s (recordsFrom (a ++ b) 0) ≡ r .lines ++ cond (r .ended) [] (linesOf img (r .state) (recordsFrom (drop (r .used) (a ++ b)) 0))
+unfolding linesOf together
+piece-lines img a b s room =
+    let r = ran img a s room in
+    ran-lines (λ k. together) (λ k. refl) (λ k l ls h. refl) img a b s room ∙
+    ap (λ rs. r .lines ++ cond (r .ended) [] (together (answersOf img (r .state) rs))) (records-behind (a ++ b) (r .used))
 
 -- room for all of them and for a longest line more is enough
 pub fitting-all : (ls : List (List ℕ)) (room : ℕ) → length (together ls) + longest ≤ room → fitting room ls ≡ together ls
@@ -264,6 +299,38 @@ module _ (img : Image) (a : List ℕ) where
   unfolding ran
   ran-rests s room = rests-in (length a) s 0 room (omega arith) (omega arith)
 
+  -- a run that takes nothing and has not ended has no line
+  abbrev Moves : ℕ → Ran → Type 0
+  Moves i r = (i ≤ r .used) × (r .used ≡ i → r .ended ≡ false → r .lines ≡ [])
+
+  moves-in : (n : ℕ) (s : State) (i room : ℕ) → Moves i (ranIn n img a s i room)
+  unfolding ranIn
+  moves-in zero s i room = (omega arith, λ u e. refl)
+  moves-in (suc n) s i room = turn (λ t j k. moves-in n t j k) (ltb room longest) (nextAt a i)
+    where
+      turn : ((t : State) (j k : ℕ) → Moves j (ranIn n img a t j k)) → (o : Bool) (x : Next) → Moves i (cond o (stopped s i) (ranOn img a s i room (ranIn n img a) x))
+      turn g true x = (omega arith, λ u e. refl)
+      turn g false pending = (omega arith, λ u e. refl)
+      turn g false broken = (omega arith, λ u e. no-way (sym e))
+      turn g false (whole m) = let h = g (stateAt img s (bodyAt a i m)) (i + 4 + m) (room - length (lineAt img s (bodyAt a i m))) .0 in (omega (arith, h), λ u e. absurd (omega (arith, h, u)))
+
+  pub ran-none : (s : State) (room : ℕ) → let r = ran img a s room in r .used ≡ 0 → r .ended ≡ false → r .lines ≡ []
+  unfolding ran
+  ran-none s room = moves-in (length a) s 0 room .1
+
+  -- so where nothing is taken though a line has room, no call is left
+  pub rests-calls : (s t : State) (room : ℕ) → let r = ran img a s room in longest ≤ room → r .used ≡ 0 → r .ended ≡ false → run img t (callsOf (recordsFrom a 0)) ≡ t
+  unfolding callsOf run
+  rests-calls s t room l u e =
+      let r = ran img a s room in
+      let n = ap length (ran-none s room u e) in
+      ap (λ i. run img t (callsOf (recordsFrom a i))) (sym u) ∙
+      (ap (λ rs. run img t (callsOf rs)) (ran-rests s room e (omega (arith, n, l))) ∙ no-calls (eqb (r .used) (length a)))
+    where
+      no-calls : (b : Bool) → run img t (callsOf (cond b [] (cut ∷ []))) ≡ t
+      no-calls true = refl
+      no-calls false = refl
+
 -- ---- a day's records in one run: its lines, and what is said of the bytes at the end
 
 module _ (img : Image) (a : List ℕ) (s : State) (room : ℕ) where
@@ -277,7 +344,7 @@ module _ (img : Image) (a : List ℕ) (s : State) (room : ℕ) where
   Left = fitting (room - length (Q .lines)) (answersOf img (Q .state) (recordsFrom a (Q .used)))
 
   fits : All ≡ Q .lines ++ cond (Q .ended) [] Left
-  fits = rw (append-nil a) at (ran-tells fitting fitting-none fitting-more img a [] s room)
+  fits = rw (append-nil a) at (ran-lines fitting fitting-none fitting-more img a [] s room)
 
   pub whole-ended : Q .ended ≡ true → Q .lines ≡ All
   whole-ended e = sym (fits ∙ (ap (λ t. Q .lines ++ cond t [] Left) e ∙ append-nil (Q .lines)))

@@ -7,6 +7,7 @@ use Prim.Native.Nat.{ℕ, zero, suc, _+_, _-_, _≤_, _<_}
 use native.Mathlib.Omega.{arith}
 use lib.Dec.{ltb, leb, eqb}
 use lib.ListN.{length, take, drop, length-take, length-drop}
+use lib.Seq.{drop-drop}
 use borrow.Author.Tests.{le-leb, lt-leb, eq-eqb}
 use Rattle.lists.specs.Tests.{below?, same?}
 use Rattle.records.specs.Records.{Record, call, malformed, cut, over, Length, counts, broken, missing, lengthOf, lengthAt, bodyOf, recordOf, recordAt, behind, goesOn, recordsIn, recordsFrom}
@@ -55,3 +56,35 @@ turns s (suc m) (suc n) i h k = go (lengthAt s i) refl λ j l. turns s m n j (om
 pub records-step : (s : List ℕ) (i : ℕ) → recordsFrom s i ≡ goesOn (recordAt s i) (recordsFrom s (behind i (lengthAt s i)))
 unfolding recordsFrom recordsIn
 records-step s i = turns s (length s) (suc (length s)) i (omega arith) (omega arith)
+
+-- ---- from a place on, a day is the part behind that place
+
+module _ (s : List ℕ) (i j : ℕ) where
+  same-length : lengthAt s (i + j) ≡ lengthAt (drop i s) j
+  unfolding lengthAt
+  same-length = ap (λ l. lengthOf (take 4 l)) (sym (drop-drop j i s))
+
+  same-record : recordAt s (i + j) ≡ recordAt (drop i s) j
+  unfolding recordAt
+  same-record =
+      let e : i + j + 4 ≡ i + (j + 4) = omega arith in
+      ap (λ w. recordOf w (drop (i + j + 4) s)) same-length ∙ ap (recordOf (lengthAt (drop i s) j)) (ap (λ n. drop n s) e ∙ sym (drop-drop (j + 4) i s))
+
+same-in : (n : ℕ) (s : List ℕ) (i j : ℕ) → recordsIn n s (i + j) ≡ recordsIn n (drop i s) j
+unfolding recordsIn
+same-in zero s i j = ap (λ r. goesOn r []) (same-record s i j)
+same-in (suc n) s i j =
+    ap (λ r. goesOn r (recordsIn n s (behind (i + j) (lengthAt s (i + j))))) (same-record s i j) ∙
+    (ap (λ w. goesOn (recordAt (drop i s) j) (recordsIn n s (behind (i + j) w))) (same-length s i j) ∙ ap (goesOn (recordAt (drop i s) j)) (go (lengthAt (drop i s) j) λ k. same-in n s i k))
+  where
+    go : (w : Length) → ((k : ℕ) → recordsIn n s (i + k) ≡ recordsIn n (drop i s) k) → recordsIn n s (behind (i + j) w) ≡ recordsIn n (drop i s) (behind j w)
+    go (counts l) f = let e : i + j + 4 + l ≡ i + (j + 4 + l) = omega arith in ap (recordsIn n s) e ∙ f (j + 4 + l)
+    go broken f = f j
+    go missing f = f j
+
+pub records-behind : (s : List ℕ) (i : ℕ) → recordsFrom s i ≡ recordsFrom (drop i s) 0
+unfolding recordsFrom
+records-behind s i =
+    let e = length-drop i s in
+    let z : i ≡ i + 0 = omega arith in
+    ap (recordsIn (length s) s) z ∙ (same-in (length s) s i 0 ∙ turns (drop i s) (length s) (length (drop i s)) 0 (omega (arith, e)) (omega arith))
