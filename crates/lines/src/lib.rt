@@ -40,7 +40,7 @@ struct Turn {
     next: u16,
 }
 
-fn put(buffer: &mut [u8], at: usize, byte: u8) -> usize
+pub fn put(buffer: &mut [u8], at: usize, byte: u8) -> usize
     requires { ⌜ at ≤ length (now buffer) ⌝ }
     ensures { λ r. ⌜ Written (now (buffer .entry)) at (byte ∷ []) (now (buffer .exit)) r ⌝ }
 {
@@ -80,7 +80,7 @@ fn copy_text(buffer: &mut [u8], at: usize, text: &[u8]) -> usize
 }
 
 // The room is tested once.
-fn write_text(buffer: &mut [u8], at: usize, text: &[u8]) -> usize
+pub fn write_text(buffer: &mut [u8], at: usize, text: &[u8]) -> usize
     requires { ⌜ at ≤ length (now buffer) ⌝ }
     ensures { λ r. ⌜ Written (now (buffer .entry)) at (now (text .entry)) (now (buffer .exit)) r ⌝ }
 {
@@ -125,7 +125,7 @@ fn write_digits(buffer: &mut [u8], at: usize, n: u64) -> usize
 }
 
 // Most numbers have one digit: no call for those.
-fn write_decimal(buffer: &mut [u8], at: usize, n: u64) -> usize
+pub fn write_decimal(buffer: &mut [u8], at: usize, n: u64) -> usize
     requires { ⌜ at ≤ length (now buffer) ⌝ }
     ensures { λ r. ⌜ Written (now (buffer .entry)) at (decimal n) (now (buffer .exit)) r ⌝ }
 {

@@ -1,6 +1,6 @@
 // The check of a table image: document 01, "The table image". An accepted image is the table itself: nothing is copied.
 ghost use mathlib.Core.Path.{_≡_};
-ghost use Prim.Native.Nat.{_+_, _<_};
+ghost use Prim.Native.Nat.{_+_};
 ghost use lib.ListN.{getD};
 ghost use Rattle.table.specs.Rules.{key, keyFields, keyCount, keyExists, keysExist, parentRule, agrees, scopeRule, initialRule, reactorRule, modeRule, reactionRule, actionRule, timerRule, ownRule, rowRule};
 ghost use Rattle.table.specs.Check.{numberOf, placeOf, wrongLength, countFits, badCount, badRow, checkRows, isTable, check as checkOf};
@@ -62,13 +62,13 @@ pub fn place_of(refusal: ImageRefusal) -> usize
 // ---- the rules of a row
 
 // A field that is a key: its row's kind, its place in the row, and the kind that it names.
-struct KeyField {
-    kind: u8,
-    offset: u8,
-    names: u8,
+pub struct KeyField {
+    pub kind: u8,
+    pub offset: u8,
+    pub names: u8,
 }
 
-const KEYS: usize = 13;
+pub const KEYS: usize = 13;
 
 // Every key that must exist.
 const KEY_FIELDS: [KeyField; KEYS] = [
@@ -139,15 +139,22 @@ const KEY_FIELDS: [KeyField; KEYS] = [
     },
 ];
 
-fn key_field(j: usize) -> KeyField
-    requires { ⌜ j < keyCount ⌝ }
+// The field j; past the last, zeros.
+pub fn key_field(j: usize) -> KeyField
     ensures { λ r. ⌜ r ≡ getD keyFields j (key 0 0 0) ⌝ }
 {
-    KEY_FIELDS[j]
+    if j < KEYS {
+        return KEY_FIELDS[j];
+    }
+    KeyField {
+        kind: 0,
+        offset: 0,
+        names: 0,
+    }
 }
 
 // Row i of the kind k has no such field, or its key exists.
-fn key_exists(image: &[u8], k: u8, i: u16, f: KeyField) -> bool
+pub fn key_exists(image: &[u8], k: u8, i: u16, f: KeyField) -> bool
     ensures { λ r. ⌜ r ≡ keyExists (now (image .entry)) k i f ⌝ }
 {
     if k != f.kind {
@@ -313,7 +320,7 @@ fn row_rule(image: &[u8], k: u8, i: u16) -> bool
 // ---- the check
 
 // The first row of the kind k that breaks a rule, or how many there are.
-fn bad_row(image: &[u8], k: u8) -> u16
+pub fn bad_row(image: &[u8], k: u8) -> u16
     ensures { λ r. ⌜ r ≡ badRow (now (image .entry)) k ⌝ }
 {
     let total = rows::count(image, k);

@@ -13,8 +13,8 @@ use Rattle.lists.specs.Tests.{gt-ltb, gt-eqb, flag, flag-no, flag-yes, and-left
 use Rattle.lists.specs.Walk.{Result, done, refused}
 use Rattle.refusals.specs.declared.Refusal.{Refusal}
 use Rattle.refusals.specs.declared.Refusal.the-variants.{ArgumentTag, MappedTag, StateRule}
-use Rattle.tags.specs.Tags.{Tag, Clock, Answer, Shifted, at, maxOffset, maxMicrostep, within, withinClock, sameTag, earlier, delayed, shifted, settled, settledTag, heldBack, heldBackTag, checked, toLocal, toGlobal, globalToLocal, localToGlobal}
-use Rattle.tags.specs.Views.{ofFields, answered, wide, placeOf, placeAt, settledAt, heldBackAt, placedAt}
+use Rattle.tags.specs.Tags.{Tag, Clock, Answer, Shifted, at, maxOffset, maxMicrostep, within, withinClock, sameTag, earlier, delayed, shifted, settled, settledTag, heldBack, heldBackTag, checked, toLocal, toGlobal, isHeld, globalToLocal, localToGlobal}
+use Rattle.tags.specs.Views.{ofFields, answered, wide, placeOf, placeAt, settledAt, heldBackAt, heldAt, placedAt}
 use Rattle.tags.specs.declared.Fields.{Fields}
 use Rattle.tags.specs.declared.Settled.{Settled}
 use Rattle.tags.specs.declared.Settled.the-variants as S
@@ -226,6 +226,20 @@ placed-place : (G : Tag) (allowed : Bool) (o : ℤ) (m : ℕ) → G .offset < wi
 placed-place G allowed (pos o) m g = placed-pos G allowed o m (ltb o wide) g refl
 placed-place G allowed (negsuc o) m g = refl
 
+pub held-there : (G : Tag) (allowed : Bool) (p : Place) {r : Bool} {o m : ℕ} → p ≡ At o m → r ≡ heldBackAt G allowed o m → r ≡ heldAt G allowed p
+held-there G allowed p e h = rw e h
+
+pub ruleset holds = (held-there)
+
+held-pos : (G : Tag) (allowed : Bool) (o m : ℕ) (b : Bool) → G .offset < wide → ltb o wide ≡ b →
+    heldAt G allowed (cond b (At o m) Beyond) ≡ heldBackTag G allowed (pos o) m
+held-pos G allowed o m true g e = refl
+held-pos G allowed o m false g e = sym (late-place G allowed o m g (ltb-false _ _ e))
+
+held-place : (G : Tag) (allowed : Bool) (o : ℤ) (m : ℕ) → G .offset < wide → heldAt G allowed (placeAt o m) ≡ heldBackTag G allowed o m
+held-place G allowed (pos o) m g = held-pos G allowed o m (ltb o wide) g refl
+held-place G allowed (negsuc o) m g = refl
+
 -- ---- the maps
 
 module _ (c : Clock) (g : Tag) where
@@ -267,6 +281,18 @@ module _ (c : Clock) (x : Tag) where
       let u = shifted (c .G) (c .L) x in
       simp s (k ∙ h ∙ ap (placedAt (c .G) (c .allowed)) e ∙ placed-place (c .G) (c .allowed) (u .offset) (u .microstep) g)
 
+  pub held-identity : (sameTag (c .G) (c .L) && c .allowed) ≡ true → false ≡ isHeld c x
+  unfolding isHeld
+  held-identity s = simp s
+
+  pub held-shifted :
+      {p : Place} {r : Bool} → c .G .offset < wide → (sameTag (c .G) (c .L) && c .allowed) ≡ false → p ≡ placeOf (shifted (c .G) (c .L) x) →
+      r ≡ heldAt (c .G) (c .allowed) p → r ≡ isHeld c x
+  unfolding isHeld
+  held-shifted g s e h =
+      let u = shifted (c .G) (c .L) x in
+      simp s (h ∙ ap (heldAt (c .G) (c .allowed)) e ∙ held-place (c .G) (c .allowed) (u .offset) (u .microstep) g)
+
   pub global-11 : withinClock c ≡ false → refused StateRule ≡ localToGlobal c x
   unfolding localToGlobal checked
   global-11 w = simp w
@@ -278,5 +304,7 @@ module _ (c : Clock) (x : Tag) where
   pub global-checked : {a : Answer} → withinClock c ≡ true → within x ≡ true → a ≡ toGlobal c x → a ≡ localToGlobal c x
   unfolding localToGlobal checked
   global-checked w t h = simp (w, t) h
+
+pub ruleset helds = (held-identity, held-shifted, flag, flag-no, flag-yes)
 
 pub ruleset globals = (global-identity, global-shifted, global-11, global-6, global-checked, flag, flag-no, flag-yes)

@@ -105,6 +105,10 @@ toGlobal c x =
     cond (sameTag (c .G) (c .L) && c .allowed) (done x)
     (let p = shifted (c .G) (c .L) x in cond (heldBack c p) (delayed (c .G)) (settled p))
 
+-- the image of x is G delayed by zero in place of its own
+unfoldable pub isHeld : Clock → Tag → Bool
+isHeld c x = not (sameTag (c .G) (c .L) && c .allowed) && heldBack c (shifted (c .G) (c .L) x)
+
 -- ---- the calls: 11 of a clock beyond the limits, then 6 of an argument beyond them, then 7
 
 unfoldable pub withinClock : Clock → Bool

@@ -84,6 +84,11 @@ settledAt Below = refused MappedTag
 abbrev pub heldBackAt : Tag → Bool → ℕ → ℕ → Bool
 heldBackAt G allowed o m = heldBackTag G allowed (pos o) m
 
+abbrev pub heldAt : Tag → Bool → Place → Bool
+heldAt G allowed (At o m) = heldBackAt G allowed o m
+heldAt G allowed Beyond = false
+heldAt G allowed Below = true
+
 abbrev pub placedAt : Tag → Bool → Place → Answer
 placedAt G allowed (At o m) = cond (heldBackAt G allowed o m) (delayed G) (settledAt (At o m))
 placedAt G allowed Beyond = refused MappedTag

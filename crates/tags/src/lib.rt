@@ -2,8 +2,8 @@
 // Carried over from boomerang_runtime's time.rs (`Tag`) and sched/modal.rs (`ScopeClockState`, both maps).
 ghost use mathlib.Core.Path.{_≡_};
 ghost use mathlib.Core.Bool.{true, _&&_};
-ghost use Rattle.tags.specs.Tags.{within, sameTag, earlier, delayed, shifted, withinClock, toLocal, toGlobal, globalToLocal, localToGlobal, freshClock};
-ghost use Rattle.tags.specs.Views.{ofGlobal, ofLocal, ofFields, ofClock, answered, delayedGlobal, delayedLocal, mappedGlobal, mappedLocal, placeOf, settledAt, heldBackAt, placedAt};
+ghost use Rattle.tags.specs.Tags.{within, sameTag, earlier, delayed, shifted, withinClock, toLocal, toGlobal, isHeld, globalToLocal, localToGlobal, freshClock};
+ghost use Rattle.tags.specs.Views.{ofGlobal, ofLocal, ofFields, ofClock, answered, delayedGlobal, delayedLocal, mappedGlobal, mappedLocal, placeOf, settledAt, heldBackAt, heldAt, placedAt};
 use refusals::Refusal;
 
 // The largest offset, 2^62 - 1 nanoseconds.
@@ -172,6 +172,17 @@ fn is_held_back(g: Fields, allowed: bool, offset: u64, microstep: u64) -> bool
         return false;
     }
     !allowed
+}
+
+// The same of any place: below zero it is earlier, beyond 64 bits it is later than every G.
+fn is_held_at(g: Fields, allowed: bool, p: Place) -> bool
+    ensures { λ r. ⌜ r ≡ heldAt (ofFields g) allowed p ⌝ }
+{
+    match p {
+        Place::Below => true,
+        Place::Beyond => false,
+        Place::At(offset, microstep) => is_held_back(g, allowed, offset, microstep),
+    }
 }
 
 // A place that is held back becomes G delayed by zero.
@@ -355,6 +366,19 @@ impl ScopeClock {
         let from = self.activation_local;
         let p = shift(Fields(to.0, to.1), Fields(from.0, from.1), Fields(x.0, x.1));
         as_global(hold_back(Fields(to.0, to.1), self.allowed, p))
+    }
+
+    // Local x is held back: G delayed by zero stands in for its own image.
+    pub fn holds_back(self, x: LocalTag) -> bool
+        ensures { λ r. ⌜ r ≡ isHeld (ofClock self) (ofLocal x) ⌝ }
+    {
+        if self.is_identity() {
+            return false;
+        }
+        let to = self.activation_global;
+        let from = self.activation_local;
+        let p = shift(Fields(to.0, to.1), Fields(from.0, from.1), Fields(x.0, x.1));
+        is_held_at(Fields(to.0, to.1), self.allowed, p)
     }
 
     pub fn global_to_local(self, g: GlobalTag) -> MappedLocal
