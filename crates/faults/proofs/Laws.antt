@@ -1,0 +1,115 @@
+-- Chains of tests that choose a rule, in the form that the code meets them: `search` applies a law and finds the facts by itself. Assumes nothing.
+use Prim.Native.Nat.{ℕ, _≤_, _<_}
+use mathlib.Core.Path.{_≡_, refl, sym, ap, _∙_}
+use mathlib.Core.Bool.{Bool, true, false, cond, not, _||_}
+use mathlib.Core.List.{List, [], _∷_}
+use lib.Dec.{ltb, leb, eqb}
+use borrow.Author.Tests.{le-leb, lt-leb, eq-eqb, ne-eqb}
+use Rattle.lists.specs.Steps.{chains, is-same, is-below, is-other, is-not-same, or-stop, or-pass}
+use Rattle.lists.specs.Tests.{or-neither}
+use Rattle.rows.specs.Kinds.{count, scope, mode, reaction, action, startup, timer}
+use Rattle.rows.specs.Bytes.{Image}
+use Rattle.rows.specs.Rows.{none, field, modeReactor, rootScope, modeScope, scopeMode, initialMode, timerOffset, timerMicrostep, parent, scopeReactor}
+use Rattle.rows.specs.Lineage.{under}
+use Rattle.tags.specs.Tags.{at, within}
+use Rattle.table.specs.declared.KeyField.{KeyField}
+use Rattle.faults.specs.declared.Rule.{Rule}
+use Rattle.faults.specs.declared.Rule.the-variants.{Kept, NotUnder, NotNamedBack}
+use Rattle.faults.specs.Faults.{modeFault, initialFault, modeRowFault, logicalFault, timerFault, ownFault, brokenRule, ruleNumber, fieldOf, fieldAt, faultWords, rowWords}
+
+pub if-yes : {A : Type 0} {b : Bool} {x r : A} (y : A) → b ≡ true → r ≡ x → r ≡ cond b x y
+if-yes y e h = rw e h
+
+pub if-no : {A : Type 0} {b : Bool} {y r : A} (x : A) → b ≡ false → r ≡ y → r ≡ cond b x y
+if-no x e h = rw e h
+
+-- x is what the code has of the definition's a
+module _ {x a : ℕ} (b : ℕ) (e : x ≡ a) where
+  pub is-at-most : x ≤ b → leb a b ≡ true
+  is-at-most h = rw (← e) (le-leb x b h)
+
+  pub is-above : b < x → leb a b ≡ false
+  is-above h = rw (← e) (lt-leb x b h)
+
+module _ (s : Image) where
+  -- by what the code read
+  pub by-root : (i r : ℕ) {x : ℕ} {b v : Bool} → x ≡ rootScope s r → b ≡ under s x i → b ≡ v → under s (rootScope s r) i ≡ v
+  by-root i r e h k = rw (← e) (sym h ∙ k)
+
+  pub by-back : (i : ℕ) {x y : ℕ} → x ≡ modeScope s i → y ≡ scopeMode s x → y ≡ scopeMode s (modeScope s i)
+  by-back i e h = rw (← e) h
+
+  pub by-initial : (i : ℕ) {m : ℕ} {r : Rule} → m ≡ initialMode s i → r ≡ initialFault s i m → r ≡ initialFault s i (initialMode s i)
+  by-initial i e h = rw (← e) h
+
+  pub by-mode :
+      (i : ℕ) {p r m : ℕ} {v : Rule} → m ≡ scopeMode s i → p ≡ parent s i → r ≡ scopeReactor s i → v ≡ modeFault s i p r m →
+      v ≡ modeFault s i (parent s i) (scopeReactor s i) (scopeMode s i)
+  by-mode i e f g h = rw (← e, ← f, ← g) h
+
+  pub by-timer : (i : ℕ) {o m : ℕ} {b v : Bool} → o ≡ timerOffset s i → m ≡ timerMicrostep s i → b ≡ within (at o m) → b ≡ v → within (at (timerOffset s i) (timerMicrostep s i)) ≡ v
+  by-timer i e f h k = rw (← e, ← f) (sym h ∙ k)
+
+pub ruleset faults = (if-yes, if-no, is-at-most, is-above, by-root, by-back, by-initial, by-mode, by-timer, chains)
+
+-- ---- where the search would go too deep
+
+-- all is agreed on but, perhaps, the root
+pub mode-agreed :
+    (s : Image) (i p r m : ℕ) {n x y : ℕ} {v : Rule} → n ≡ count s mode → m < n → (p ≡ none → ⊥) → x ≡ modeScope s m → x ≡ i → y ≡ modeReactor s m → y ≡ r →
+    v ≡ cond (under s (rootScope s r) i) Kept NotUnder → v ≡ modeFault s i p r m
+unfolding modeFault
+mode-agreed s i p r m e h q f a g b v =
+    if-yes _ (is-below refl e h) (if-yes _ (is-not-same p none q) (if-yes _ (is-same f refl a) (if-yes _ (is-same g refl b) v)))
+
+pub back-other : (s : Image) (i : ℕ) {x y : ℕ} → x ≡ modeScope s i → y ≡ scopeMode s x → (y ≡ i → ⊥) → NotNamedBack ≡ modeRowFault s i
+unfolding modeRowFault
+back-other s i e h n = if-no _ (is-other i (by-back s i e h) n) refl
+
+pub back-same : (s : Image) (i : ℕ) {x y : ℕ} → x ≡ modeScope s i → y ≡ scopeMode s x → y ≡ i → Kept ≡ modeRowFault s i
+unfolding modeRowFault
+back-same s i e h n = if-yes _ (is-same (by-back s i e h) refl n) refl
+
+module _ (s : Image) (k i : ℕ) {r : Rule} where
+  pub own-action : k ≡ action → r ≡ logicalFault s i → r ≡ ownFault s k i
+  unfolding ownFault
+  own-action e h = rw e h
+
+  pub own-timer : k ≡ timer → r ≡ timerFault s i → r ≡ ownFault s k i
+  unfolding ownFault
+  own-timer e h = rw e h
+
+-- ---- words
+
+pub fault-words-are :
+    (s : Image) (k i : ℕ) {rule : Rule} {n j : ℕ} {f : KeyField} → rule ≡ brokenRule s k i → n ≡ ruleNumber rule → j ≡ fieldOf rule → f ≡ fieldAt j →
+    (k ∷ i ∷ n ∷ f .offset ∷ f .names ∷ []) ≡ faultWords s k i
+unfolding faultWords
+fault-words-are s k i e f g h = rw (h, g, f, e)
+
+module _ (s : Image) (k i : ℕ) where
+  pub row-timer : {a b d : ℕ} → k ≡ timer → a ≡ field 2 s k i 0 → b ≡ field 8 s k i 2 → d ≡ field 4 s k i 10 → (k ∷ i ∷ a ∷ b ∷ d ∷ []) ≡ rowWords s k i
+  unfolding rowWords
+  row-timer e f g h = if-yes _ (eq-eqb k timer e) (rw (f, g, h))
+
+  module _ (t : k ≡ timer → ⊥) where
+    pub row-reaction : {a : ℕ} → k ≡ reaction → a ≡ field 1 s k i 0 → (k ∷ i ∷ a ∷ 0 ∷ 0 ∷ []) ≡ rowWords s k i
+    unfolding rowWords
+    row-reaction e f = if-no _ (ne-eqb k timer t) (if-yes _ (eq-eqb k reaction e) (rw f))
+
+    module _ (n : k ≡ reaction → ⊥) {a : ℕ} (f : a ≡ field 2 s k i 0) where
+      pub row-action : {b : ℕ} → k ≡ action → b ≡ field 1 s k i 2 → (k ∷ i ∷ a ∷ b ∷ 0 ∷ []) ≡ rowWords s k i
+      unfolding rowWords
+      row-action e g = if-no _ (ne-eqb k timer t) (if-no _ (ne-eqb k reaction n) (if-yes _ (eq-eqb k action e) (rw (f, g))))
+
+      module _ (o : k ≡ action → ⊥) {b : ℕ} (g : b ≡ field 2 s k i 2) where
+        pub row-three : {d : ℕ} → (eqb k scope || eqb k startup) ≡ true → d ≡ field 2 s k i 4 → (k ∷ i ∷ a ∷ b ∷ d ∷ []) ≡ rowWords s k i
+        unfolding rowWords
+        row-three e h = if-no _ (ne-eqb k timer t) (if-no _ (ne-eqb k reaction n) (if-no _ (ne-eqb k action o) (if-yes _ e (rw (f, g, h)))))
+
+        pub row-two : (k ≡ scope → ⊥) → (k ≡ startup → ⊥) → (k ∷ i ∷ a ∷ b ∷ 0 ∷ []) ≡ rowWords s k i
+        unfolding rowWords
+        row-two p q =
+            if-no _ (ne-eqb k timer t)
+            (if-no _ (ne-eqb k reaction n)
+            (if-no _ (ne-eqb k action o) (if-no _ (or-neither (eqb k scope) (eqb k startup) (ne-eqb k scope p) (ne-eqb k startup q)) (rw (f, g)))))

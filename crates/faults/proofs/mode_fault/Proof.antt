@@ -1,0 +1,60 @@
+-- `faults::mode_fault` meets its contract. Assumes nothing.
+use mathlib.Core.Path.{refl}
+use Rattle.faults.proofs.Laws.{faults, if-yes, if-no, by-root, mode-agreed}
+use Rattle.faults.specs.Faults.{modeFault}
+use borrow.Author.Needs.{needs}
+use Rattle.faults.proofs.mode_fault.Statement.{statement}
+use Rattle.faults.proofs.mode_fault.Tie as tie
+
+count-requires : tie.Need-count-requires
+count-requires c κs = search needs
+
+returns : tie.Need-returns
+unfolding modeFault
+returns c = search faults
+
+returns-2 : tie.Need-returns-2
+unfolding modeFault
+returns-2 c = search faults
+
+mode-scope-requires : tie.Need-mode-scope-requires
+mode-scope-requires c κs = search needs
+
+returns-3 : tie.Need-returns-3
+unfolding modeFault
+returns-3 c = search faults
+
+mode-reactor-requires : tie.Need-mode-reactor-requires
+mode-reactor-requires c κs = search needs
+
+returns-4 : tie.Need-returns-4
+unfolding modeFault
+returns-4 c = search faults
+
+root-scope-requires : tie.Need-root-scope-requires
+root-scope-requires c κs = search needs
+
+under-requires : tie.Need-under-requires
+under-requires c κs = search needs
+
+returns-5 : tie.Need-returns-5
+returns-5 c = mode-agreed _ _ _ _ _ (c .before .before .before .before .before .before .before .before .before .count .ensures) (c .before .before .before .before .before .before .before .before .if1 .left) (c .before .before .before .before .before .before .before .if2 .left) (c .before .before .before .before .before .before .mode-scope .ensures) (c .before .before .before .before .before .if3 .left) (c .before .before .before .before .mode-reactor .ensures) (c .before .before .before .if4 .left) (if-yes _ (by-root _ _ _ (c .before .before .root-scope .ensures) (c .before .under .ensures) (c .if5 .taken)) refl)
+
+returns-6 : tie.Need-returns-6
+returns-6 c = mode-agreed _ _ _ _ _ (c .before .before .before .before .before .before .before .before .before .count .ensures) (c .before .before .before .before .before .before .before .before .if1 .left) (c .before .before .before .before .before .before .before .if2 .left) (c .before .before .before .before .before .before .mode-scope .ensures) (c .before .before .before .before .before .if3 .left) (c .before .before .before .before .mode-reactor .ensures) (c .before .before .before .if4 .left) (if-no _ (by-root _ _ _ (c .before .before .root-scope .ensures) (c .before .under .ensures) (c .if5 .left)) refl)
+
+pub mode-fault-spec : {M : Type 1} → statement M
+mode-fault-spec =
+    tie.close
+    (tie.spec
+    count-requires
+    returns
+    returns-2
+    mode-scope-requires
+    returns-3
+    mode-reactor-requires
+    returns-4
+    root-scope-requires
+    under-requires
+    returns-5
+    returns-6)

@@ -1,0 +1,21 @@
+-- `faults::mode_row_fault` meets its contract. Assumes nothing.
+use Rattle.faults.proofs.Laws.{back-other, back-same}
+use borrow.Author.Needs.{needs}
+use Rattle.faults.proofs.mode_row_fault.Statement.{statement}
+use Rattle.faults.proofs.mode_row_fault.Tie as tie
+
+mode-scope-requires : tie.Need-mode-scope-requires
+mode-scope-requires c κs = search needs
+
+scope-mode-requires : tie.Need-scope-mode-requires
+scope-mode-requires c κs = search needs
+
+returns : tie.Need-returns
+returns c = back-other _ _ (c .before .before .mode-scope .ensures) (c .before .scope-mode .ensures) (c .if1 .taken)
+
+returns-2 : tie.Need-returns-2
+returns-2 c = back-same _ _ (c .before .before .mode-scope .ensures) (c .before .scope-mode .ensures) (c .if1 .left)
+
+pub mode-row-fault-spec : {M : Type 1} → statement M
+mode-row-fault-spec =
+    tie.close (tie.spec mode-scope-requires scope-mode-requires returns returns-2)

@@ -1,0 +1,20 @@
+-- `faults::parent_fits` meets its contract. Assumes nothing.
+use Rattle.table.specs.Rules.{parentRule}
+use Rattle.faults.proofs.Laws.{faults}
+use borrow.Author.Needs.{needs}
+use Rattle.faults.proofs.parent_fits.Statement.{statement}
+use Rattle.faults.proofs.parent_fits.Tie as tie
+
+parent-requires : tie.Need-parent-requires
+parent-requires c κs = search needs
+
+returns : tie.Need-returns
+unfolding parentRule
+returns c = search faults
+
+returns-2 : tie.Need-returns-2
+unfolding parentRule
+returns-2 c = search faults
+
+pub parent-fits-spec : {M : Type 1} → statement M
+parent-fits-spec = tie.close (tie.spec parent-requires returns returns-2)

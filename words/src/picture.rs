@@ -1,0 +1,228 @@
+//! The facts of a day as a picture: a band for each reactor's mode, one for each scope while it is active, and in the rows of the queues the
+//! pushes where they are due and the events where they became ready. Every moment named has a column of its own; the axis is not to scale.
+
+use crate::facts::{Day, Record, Scope, Tag, NONE};
+use crate::words::Teller;
+use std::collections::BTreeSet;
+use std::fmt::Write;
+
+const LEFT: f64 = 96.0;
+const TOP: f64 = 64.0;
+const ROW: f64 = 22.0;
+const BOTTOM: f64 = 150.0;
+/// The bands of modes, and of active scopes; what is pushed, ready, held back or refused.
+const MODES: [&str; 6] = ["#1a5fa8", "#b45a00", "#2e7d32", "#6a3d9a", "#00695c", "#8d6e00"];
+const ACTIVE: &str = "#dbe7f3";
+const INK: &str = "#222222";
+const ALARM: &str = "#c01818";
+/// At most so many moments have their time written below.
+const LABELS: usize = 40;
+
+fn escaped(words: &str) -> String {
+    words.replace('&', "&amp;").replace('<', "&lt;").replace('>', "&gt;")
+}
+
+/// Where a record's push is due: on the global scale if its scope is active, else where it was asked for.
+fn due(record: &Record) -> Tag {
+    match record.into {
+        Some(place) if place.active => place.image.unwrap_or(record.tag()),
+        _ => record.tag(),
+    }
+}
+
+fn ready(record: &Record) -> Option<Tag> {
+    let mut words = record.answer.strip_prefix("ready ")?.split(' ');
+    Some(Tag { offset: words.next()?.parse().ok()?, microstep: words.next()?.parse().ok()? })
+}
+
+fn is_push(record: &Record) -> bool {
+    (1..=4).contains(&record.call[0])
+}
+
+/// The moment that a record is drawn at.
+fn moment(record: &Record) -> Option<Tag> {
+    match record.call[0] {
+        _ if record.cut.is_some() => None,
+        0 => None,
+        6 => ready(record),
+        _ if is_push(record) && record.answer == "ok" => Some(due(record)),
+        _ => Some(record.tag()),
+    }
+}
+
+struct Picture<'a> {
+    day: &'a Day,
+    columns: Vec<Tag>,
+    step: f64,
+    reactors: usize,
+    scopes: usize,
+    out: String,
+}
+
+impl Picture<'_> {
+    fn x(&self, tag: Tag) -> f64 {
+        let at = self.columns.binary_search(&tag).unwrap_or_else(|at| at);
+        LEFT + self.step * (at as f64 + 0.5)
+    }
+
+    fn end(&self) -> f64 {
+        LEFT + self.step * self.columns.len().max(1) as f64
+    }
+
+    fn row(&self, at: usize) -> f64 {
+        TOP + ROW * at as f64
+    }
+
+    /// The root's row comes behind the reactors', the scopes' behind it.
+    fn queue_row(&self, queue: u64) -> usize {
+        if queue == NONE {
+            self.reactors
+        } else {
+            self.reactors + 1 + (queue as usize).min(self.scopes)
+        }
+    }
+
+    fn text(&mut self, x: f64, y: f64, more: &str, words: &str) {
+        let _ = writeln!(self.out, "<text x=\"{x:.1}\" y=\"{y:.1}\" {more}>{}</text>", escaped(words));
+    }
+
+    fn band(&mut self, row: usize, from: f64, to: f64, colour: &str, title: &str) {
+        let y = self.row(row) + 3.0;
+        let width = (to - from).max(1.0);
+        let height = ROW - 6.0;
+        let _ = writeln!(
+            self.out,
+            "<rect x=\"{from:.1}\" y=\"{y:.1}\" width=\"{width:.1}\" height=\"{height:.1}\" fill=\"{colour}\"><title>{}</title></rect>",
+            escaped(title)
+        );
+    }
+
+    fn dot(&mut self, row: usize, x: f64, style: &str, title: &str) {
+        let y = self.row(row) + ROW / 2.0;
+        let _ = writeln!(self.out, "<circle cx=\"{x:.1}\" cy=\"{y:.1}\" r=\"4.5\" {style}><title>{}</title></circle>", escaped(title));
+    }
+
+    /// The names of the rows, and a line for each.
+    fn rows(&mut self) {
+        for at in 0..=self.reactors + self.scopes {
+            let name = match at {
+                at if at < self.reactors => format!("reactor {at}"),
+                at if at == self.reactors => "root queue".to_string(),
+                at => format!("scope {}", at - self.reactors - 1),
+            };
+            let y = self.row(at) + ROW / 2.0;
+            let end = self.end();
+            self.text(8.0, y + 4.0, "", &name);
+            let _ = writeln!(self.out, "<line x1=\"{LEFT}\" y1=\"{y:.1}\" x2=\"{end:.1}\" y2=\"{y:.1}\" stroke=\"#cccccc\"/>");
+        }
+    }
+
+    /// What holds from one moment to another: each reactor's mode, and the active scopes.
+    fn state(&mut self, modes: &[u64], scopes: &[Scope], from: f64, to: f64) {
+        for (reactor, mode) in modes.iter().enumerate() {
+            if *mode != NONE {
+                let colour = MODES[*mode as usize % MODES.len()];
+                self.band(reactor, from, to, colour, &format!("reactor {reactor} is in mode {mode}"));
+                if to - from > 14.0 {
+                    let y = self.row(reactor) + ROW / 2.0 + 4.0;
+                    self.text(from + 3.0, y, "fill=\"#ffffff\"", &mode.to_string());
+                }
+            }
+        }
+        for (i, scope) in scopes.iter().enumerate() {
+            if scope.active {
+                self.band(self.reactors + 1 + i, from, to, ACTIVE, &format!("scope {i} is active"));
+            }
+        }
+    }
+
+    /// The bands, from one accepted transition to the next that is later.
+    fn bands(&mut self) {
+        let day = self.day;
+        let (mut modes, mut scopes) = (&day.table.modes, &day.table.scopes);
+        let mut from = LEFT;
+        for record in day.records.iter().filter(|record| record.call[0] == 5 && record.answer == "ok") {
+            let to = self.x(record.tag()).max(from);
+            self.state(modes, scopes, from, to);
+            (modes, scopes, from) = (&record.modes, &record.scopes, to);
+        }
+        let end = self.end();
+        self.state(modes, scopes, from, end);
+    }
+
+    fn marks(&mut self, lines: &[String]) {
+        let day = self.day;
+        let skipped = lines.len().saturating_sub(day.records.len());
+        for (record, words) in day.records.iter().zip(&lines[skipped..]) {
+            let Some(tag) = moment(record) else { continue };
+            let x = self.x(tag);
+            if record.answer.starts_with("refused") {
+                let y = TOP - 6.0;
+                let _ = writeln!(
+                    self.out,
+                    "<text x=\"{x:.1}\" y=\"{y:.1}\" fill=\"{ALARM}\" text-anchor=\"middle\">x<title>{}</title></text>",
+                    escaped(words)
+                );
+            } else if record.call[0] == 5 {
+                let (top, low) = (TOP, self.row(self.reactors + self.scopes + 1));
+                let _ = writeln!(
+                    self.out,
+                    "<line x1=\"{x:.1}\" y1=\"{top:.1}\" x2=\"{x:.1}\" y2=\"{low:.1}\" stroke=\"{INK}\" stroke-dasharray=\"3 3\"><title>{}</title></line>",
+                    escaped(words)
+                );
+            } else if record.call[0] == 6 {
+                for place in &record.takes {
+                    let edge = if place.held { ALARM } else { INK };
+                    self.dot(self.queue_row(place.queue), x, &format!("fill=\"{edge}\""), words);
+                }
+            } else if let Some(place) = record.into {
+                let dashes = if place.active { "" } else { " stroke-dasharray=\"2 2\"" };
+                let edge = if place.held { ALARM } else { INK };
+                self.dot(self.queue_row(place.queue), x - 2.0, &format!("fill=\"#ffffff\" stroke=\"{edge}\"{dashes}"), words);
+            }
+        }
+    }
+
+    /// The times below, as many as there is room for.
+    fn labels(&mut self) {
+        let teller = Teller::new(self.day);
+        let every = self.columns.len() / LABELS + 1;
+        let low = self.row(self.reactors + self.scopes + 1);
+        for tag in self.columns.clone().into_iter().step_by(every) {
+            let (x, y) = (self.x(tag), low + 8.0);
+            let turned = format!("transform=\"rotate(60 {x:.1} {y:.1})\" font-size=\"9\"");
+            self.text(x, y, &turned, &teller.time(tag));
+        }
+    }
+}
+
+/// The picture of a day; the lines are its words, and stand behind the marks.
+pub fn drawn(day: &Day, lines: &[String]) -> String {
+    let columns: BTreeSet<Tag> = day.records.iter().filter_map(moment).collect();
+    let columns: Vec<Tag> = columns.into_iter().collect();
+    let step = (1100.0 / columns.len().max(1) as f64).clamp(5.0, 48.0);
+    let mut picture =
+        Picture { day, step, columns, reactors: day.table.modes.len(), scopes: day.table.scopes.len(), out: String::new() };
+    let width = (picture.end() + 120.0).max(720.0);
+    let height = picture.row(picture.reactors + picture.scopes + 1) + BOTTOM;
+    let _ = writeln!(
+        picture.out,
+        "<svg xmlns=\"http://www.w3.org/2000/svg\" width=\"{width:.0}\" height=\"{height:.0}\" viewBox=\"0 0 {width:.0} {height:.0}\" font-family=\"sans-serif\" font-size=\"11\" fill=\"{INK}\">"
+    );
+    let _ = writeln!(picture.out, "<rect width=\"100%\" height=\"100%\" fill=\"#ffffff\"/>");
+    picture.text(8.0, 18.0, "font-size=\"13\"", lines.first().map_or("", String::as_str));
+    picture.text(
+        8.0,
+        36.0,
+        "",
+        "Coloured: the mode that is current. Shaded: the scope is active. Ring: pushed, due there (dashed: asleep). Dot: ready. Red: held back; x refused. Not to scale.",
+    );
+    if day.table.answer == "table ok" {
+        picture.rows();
+        picture.bands();
+        picture.marks(lines);
+        picture.labels();
+    }
+    picture.out.push_str("</svg>\n");
+    picture.out
+}
