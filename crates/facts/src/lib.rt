@@ -34,6 +34,12 @@ fn bit(flag: bool) -> u64
     0
 }
 
+fn wide(key: u16) -> u64
+    ensures { λ r. ⌜ r ≡ key ⌝ }
+{
+    key as u64
+}
+
 // ---- time
 
 // An offset, and its whole days; its hours, minutes, seconds and nanoseconds.
@@ -203,7 +209,7 @@ fn lacking_reaction(image: &[u8], keys: &[u16]) -> [u64; 3]
         if key < total {
             i += 1;
         } else {
-            return [1, rows::REACTION as u64, key as u64];
+            return [1, rows::REACTION as u64, wide(key)];
         }
     }
     [0, 0, 0]

@@ -1,0 +1,67 @@
+-- `facts::lacking_reaction` meets its contract: what is left of the keys decides. Assumes nothing.
+use Rattle.rows.specs.Kinds.{reaction}
+use Prim.Native.Nat.{_-_, _≤_}
+use lib.ListN.{length, drop}
+use mathlib.Core.Path.{_≡_, refl, sym, ap, _∙_}
+use Rattle.facts.specs.Facts.{lack, lackingReaction}
+use Rattle.facts.proofs.Laws.{lacking-pass, lacking-here, lacking-none, lacking-by}
+use borrow.Author.Needs.{needs}
+use Rattle.facts.proofs.lacking_reaction.Statement.{statement}
+use Rattle.facts.proofs.lacking_reaction.Tie as tie
+
+abbrev Inv-loop : tie.InvT-loop
+Inv-loop image keys total i₀ i = (i ≤ length keys) × (lackingReaction total keys ≡ lackingReaction total (drop i keys))
+
+abbrev μ-loop : tie.MeasureT-loop
+μ-loop image keys total i₀ i = length keys - i
+
+count-requires : tie.Need-count-requires Inv-loop μ-loop
+count-requires c κs = search needs
+
+loop-holds : tie.Need-loop-holds Inv-loop μ-loop
+loop-holds c = (search needs, refl)
+
+mul-key : tie.Need-mul-key Inv-loop μ-loop
+mul-key c = search needs
+
+shared-slice-read-key : tie.Need-shared-slice-read-key Inv-loop μ-loop
+shared-slice-read-key c = search needs
+
+add-i : tie.Need-add-i Inv-loop μ-loop
+add-i c = search needs
+
+loop-less : tie.Need-loop-less Inv-loop μ-loop
+loop-less c = search needs
+
+loop-again : tie.Need-loop-again Inv-loop μ-loop
+loop-again c = (search needs, c .before .before .before .loop .inv .1 ∙ lacking-pass _ _ _ (c .before .before .loop-test .taken) (c .if1 .taken))
+
+cast-t10 : tie.Need-cast-t10 Inv-loop μ-loop
+cast-t10 c = search needs
+
+wide-requires : tie.Need-wide-requires Inv-loop μ-loop
+wide-requires c κs = search needs
+
+returns : tie.Need-returns Inv-loop μ-loop
+returns c = lacking-by _ (c .before .before .before .before .before .count .ensures) (c .before .before .before .before .loop .inv .1 ∙ (lacking-here _ _ _ (c .before .before .before .loop-test .taken) (c .before .if1 .left) ∙ ap (lack reaction) (sym (c .wide .ensures))))
+
+returns-2 : tie.Need-returns-2 Inv-loop μ-loop
+returns-2 c = lacking-by _ (c .before .before .count .ensures) (c .before .loop .inv .1 ∙ lacking-none _ _ _ (c .loop-test .left))
+
+pub lacking-reaction-spec : {M : Type 1} → statement M
+lacking-reaction-spec =
+    tie.close
+    (tie.spec
+    Inv-loop
+    μ-loop
+    count-requires
+    loop-holds
+    mul-key
+    shared-slice-read-key
+    add-i
+    loop-less
+    loop-again
+    cast-t10
+    wide-requires
+    returns
+    returns-2)

@@ -1,0 +1,12 @@
+-- `facts::time_words` meets its contract. Assumes nothing.
+use mathlib.Core.Path.{refl}
+use Rattle.facts.specs.Facts.{timeWords}
+use Rattle.facts.proofs.time_words.Statement.{statement}
+use Rattle.facts.proofs.time_words.Tie as tie
+
+returns : tie.Need-returns
+unfolding timeWords
+returns c = refl
+
+pub time-words-spec : {M : Type 1} → statement M
+time-words-spec = tie.close (tie.spec returns)
