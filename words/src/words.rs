@@ -9,6 +9,17 @@ const LAST: u64 = 4_611_686_018_427_387_903;
 const NAMED: usize = 3;
 const KINDS: [&str; 9] = ["scope", "reactor", "mode", "reaction", "action", "trigger", "startup", "reset", "timer"];
 
+impl Table {
+    /// "only action 0", "actions 0 to 3".
+    fn keys(&self, k: u64) -> String {
+        match self.total(k as usize) {
+            0 => format!("no {}", kind(k)),
+            1 => format!("only {} 0", kind(k)),
+            total => format!("{}s 0 to {}", kind(k), total - 1),
+        }
+    }
+}
+
 /// A kind of row by its number.
 fn kind(k: u64) -> &'static str {
     KINDS.get(k as usize).copied().unwrap_or("row")
@@ -162,19 +173,15 @@ impl<'a> Teller<'a> {
                     2 => second,
                     _ => third,
                 };
-                let has = match table.total(names as usize) {
-                    0 => format!("the table has no {}", kind(names)),
-                    total => format!("the table has {}s 0 to {}", kind(names), total - 1),
-                };
-                format!("every key must exist: it names {} {value}, and {has}", kind(names))
+                format!("every key must exist: it names {} {value}, and the table has {}", kind(names), table.keys(names))
             }
             2 => format!("a parent is lower than its scope: scope {i} names the parent {first}"),
-            3 => format!("every key must exist: it names mode {third}, and the table has {}", plural(table.total(2), "mode")),
+            3 => format!("every key must exist: it names mode {third}, and the table has {}", table.keys(2)),
             4 => format!("a scope with a mode has a parent: scope {i} names mode {third} and no parent"),
             5 => format!("a mode and its scope agree on each other: scope {i} names mode {third}, and that mode's row names another scope"),
             6 => format!("a mode and its scope agree on the reactor: scope {i} is of reactor {second}, and mode {third}, which it names, is of another"),
             7 => format!("a scope with a mode lies strictly under the reactor's root scope: scope {i} does not lie under that of reactor {second}"),
-            8 => format!("every key must exist: the initial mode is {second}, and the table has {}", plural(table.total(2), "mode")),
+            8 => format!("every key must exist: the initial mode is {second}, and the table has {}", table.keys(2)),
             9 => format!("an initial mode is of that reactor: mode {second} is of another than reactor {i}"),
             10 => format!("a mode and its scope agree on each other: mode {i} names scope {first}, and that scope's row does not name it back"),
             11 => format!("a level is at most 15: this is {first}"),
@@ -213,7 +220,7 @@ impl<'a> Teller<'a> {
             4 => format!("push of action {first} at {at}{terminal}, {}", reactions(&record.keys)),
             5 => format!("reactor {first} to mode {second} by {} at {at}", if flag == 1 { "reset" } else { "history" }),
             6 => "pop".to_string(),
-            _ => "a record that says nothing".to_string(),
+            _ => "a record that is not well formed".to_string(),
         }
     }
 
@@ -391,11 +398,7 @@ impl<'a> Teller<'a> {
             "1" => malformed(record),
             "5" => {
                 let [_, k, i] = record.lacks;
-                let has = match table.total(k as usize) {
-                    0 => "there is none".to_string(),
-                    total => format!("there are {}s 0 to {}", kind(k), total - 1),
-                };
-                format!("the table lacks {} {i}; {has}", kind(k))
+                format!("the table lacks {} {i}; it has {}", kind(k), table.keys(k))
             }
             "6" => format!("the tag given lies beyond the limits: {} ns, and the last is {LAST} ns", record.call[4]),
             "7" if op == 4 && !unmapped.is_empty() => format!("on the clock of {} that moment lies before zero or beyond the limits", unmapped.join(", ")),
@@ -430,9 +433,9 @@ fn few(words: &[String]) -> String {
 
 fn malformed(record: &Record) -> String {
     match record {
-        Record { bytes: 0..=5, .. } => "malformed: too short for a version and an op".to_string(),
-        Record { version, .. } if *version != 1 => format!("malformed: version {version}, and only version 1 is known"),
-        Record { op, .. } if !(1..=6).contains(op) => format!("malformed: op {op}, and there are ops 1 to 6"),
+        Record { bytes: 0..=5, .. } => "too short for a version and an op".to_string(),
+        Record { version, .. } if *version != 1 => format!("version {version}, and only version 1 is known"),
+        Record { op, .. } if !(1..=6).contains(op) => format!("op {op}, and there are ops 1 to 6"),
         Record { op, bytes, .. } => {
             let what = match op {
                 1 | 4 => "terminal is not 0 or 1, there are more than 128 reactions, or the reactions do not fill it",
@@ -440,7 +443,7 @@ fn malformed(record: &Record) -> String {
                 5 => "kind is not 0 or 1, or the operands do not fill it",
                 _ => "the operands do not fill it",
             };
-            format!("malformed: op {op} with {} bytes behind the length: {what}", bytes.saturating_sub(4))
+            format!("op {op} with {} bytes behind the length: {what}", bytes.saturating_sub(4))
         }
     }
 }

@@ -5,6 +5,7 @@ ghost use mathlib.Core.Bool.{true};
 ghost use Prim.Native.Nat.{_≤_};
 ghost use lib.ListN.{length};
 ghost use Rattle.machine.specs.State.{mostWaiting};
+ghost use Rattle.records.specs.Records.{mostKeys};
 ghost use Rattle.slots.specs.Slots.{Whole};
 ghost use Rattle.table.specs.Check.{isTable};
 ghost use Rattle.gate_day.specs.Views.{Kept};
@@ -50,6 +51,10 @@ fn say_time(offset: u64) {
 fn say_answer(line: &[u8]) {
     io::write_all(STDOUT_FILENO, b"answer ");
     io::write_all(STDOUT_FILENO, line);
+}
+
+fn wide(key: u16) -> u64 {
+    key as u64
 }
 
 // ---- the table
@@ -186,11 +191,12 @@ fn say_modes(image: &[u8], modes: &[u16; plan::MOST_REACTORS]) {
     let total = rows::count(image, rows::REACTOR) as usize;
     let mut i: usize = 0;
     while i < plan::MOST_REACTORS {
-        let mode = modes[i];
-        if i < total {
-            say_two(b"mode", i as u64, mode as u64);
-        }
+        let mode = wide(modes[i]);
+        let reactor = i;
         i += 1;
+        if reactor < total {
+            say_two(b"mode", reactor as u64, mode);
+        }
     }
 }
 
@@ -319,39 +325,60 @@ fn say_pop(image: &[u8], day: Day)
 
 // ---- a record
 
-// The reaction keys of a record.
-fn key_count(parsed: Parsed) -> usize {
+// How many reaction keys a record has.
+fn key_count(parsed: Parsed) -> u16 {
     match parsed {
-        Parsed::Plain(_, _, n) => n as usize,
-        Parsed::Network(_, n) => n as usize,
+        Parsed::Plain(_, _, n) => n,
+        Parsed::Network(_, n) => n,
         Parsed::Control(_) => 0,
-        Parsed::Action(_, _, _, n) => n as usize,
+        Parsed::Action(_, _, _, n) => n,
         Parsed::Transition(_, _, _, _) => 0,
         Parsed::Pop => 0,
         Parsed::Malformed => 0,
     }
 }
 
-// The reactions named, and the first key that the table lacks.
-fn say_keys(image: &[u8], parsed: Parsed, keys: &[u16]) {
-    let mut i: usize = 0;
-    while i < keys.len() {
-        let key = keys[i];
-        say_two(b"key", i as u64, key as u64);
-        i += 1;
+fn keys_end(parsed: Parsed) -> usize
+    ensures { λ r. ⌜ r ≤ mostKeys ⌝ }
+{
+    let n = key_count(parsed) as usize;
+    if n < records::MOST_KEYS {
+        return n;
     }
-    let lack = facts::lacking(image, parsed, keys);
-    say(b"lacks", &lack);
+    records::MOST_KEYS
 }
 
-fn say_call(image: &[u8], parsed: Parsed, keys: &[u16; records::MOST_KEYS]) {
+fn say_call(parsed: Parsed) {
     let words = facts::call_words(parsed);
     say(b"call", &words);
     say_time(words[4]);
-    let n = key_count(parsed);
-    if n <= records::MOST_KEYS {
-        say_keys(image, parsed, &keys[..n]);
+}
+
+// The reactions named.
+fn say_keys(keys: &[u16]) {
+    let mut i: usize = 0;
+    while i < keys.len() {
+        let key = wide(keys[i]);
+        say_two(b"key", i as u64, key);
+        i += 1;
     }
+}
+
+// The first key that the table lacks.
+fn say_lack(image: &[u8], parsed: Parsed, keys: &[u16]) {
+    let words = facts::lacking(image, parsed, keys);
+    say(b"lacks", &words);
+}
+
+// What a record asks.
+fn say_asked(image: &[u8], body: &[u8]) -> Parsed {
+    let mut keys = [0u16; records::MOST_KEYS];
+    let parsed = records::parse(body, &mut keys);
+    let n = keys_end(parsed);
+    say_call(parsed);
+    say_keys(&keys[..n]);
+    say_lack(image, parsed, &keys[..n]);
+    parsed
 }
 
 // A global tag on a scope's scale.
@@ -444,15 +471,22 @@ fn say_after(image: &[u8], day: Day, parsed: Parsed)
     }
 }
 
+// How many bytes a record has, its length included, its version and its op, whatever they are.
+fn say_record(bytes: &[u8]) {
+    let version = rows::one_byte(bytes, LENGTH);
+    let op = rows::one_byte(bytes, LENGTH + 1);
+    let words = [bytes.len() as u64, version as u64, op as u64];
+    say(b"record", &words);
+}
+
 // One record, its length included: what it asks, its line, and the day after it.
 fn tell(image: &[u8], day: Day, bytes: &[u8]) -> Day
     requires { ⌜ Kept (now image) day ⌝ }
     requires { ⌜ 4 ≤ length (now bytes) ⌝ }
     ensures { λ r. ⌜ Kept (now (image .entry)) r ⌝ }
 {
-    let mut keys = [0u16; records::MOST_KEYS];
-    let parsed = records::parse(&bytes[LENGTH..], &mut keys);
-    say_call(image, parsed, &keys);
+    say_record(bytes);
+    let parsed = say_asked(image, &bytes[LENGTH..]);
     say_before(image, day, parsed);
     let mut output = io::buffer();
     let piece = gate_day::run_records(image, day, bytes, &mut output);
@@ -474,7 +508,7 @@ fn say_cut(said: u64, there: u64) {
 // The next record over the front of the space; how many bytes it has, or 0 where the run ends.
 fn read_record(space: &mut [u8]) -> usize
     requires { ⌜ 4096 ≤ length (now space) ⌝ }
-    ensures { λ r. ⌜ (r ≤ 516) × (length (now (space .exit)) ≡ length (now (space .entry))) ⌝ }
+    ensures { λ r. ⌜ (r ≤ length (now (space .exit))) × (length (now (space .exit)) ≡ length (now (space .entry))) ⌝ }
 {
     let got = io::read_full(STDIN_FILENO, &mut space[..LENGTH]);
     if got == 0 {
@@ -498,14 +532,6 @@ fn read_record(space: &mut [u8]) -> usize
     end
 }
 
-// How many bytes a record has, its length included, its version and its op, whatever they are.
-fn say_record(bytes: &[u8]) {
-    let version = rows::one_byte(bytes, LENGTH);
-    let op = rows::one_byte(bytes, LENGTH + 1);
-    let words = [bytes.len() as u64, version as u64, op as u64];
-    say(b"record", &words);
-}
-
 // The records, one after another.
 fn run(image: &[u8])
     requires { ⌜ isTable (now image) ≡ true ⌝ }
@@ -520,7 +546,6 @@ fn run(image: &[u8])
         if end < LENGTH {
             return;
         }
-        say_record(&input[..end]);
         day = tell(image, day, &input[..end]);
     }
 }
