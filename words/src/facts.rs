@@ -77,7 +77,10 @@ pub struct Table {
 
 impl Table {
     pub fn row(&self, kind: u64, i: u64) -> [u64; 3] {
-        self.rows.iter().find(|row| (row.0, row.1) == (kind, i)).map_or([NONE; 3], |row| row.2)
+        self.rows
+            .iter()
+            .find(|row| (row.0, row.1) == (kind, i))
+            .map_or([NONE; 3], |row| row.2)
     }
 
     pub fn total(&self, kind: usize) -> u64 {
@@ -112,7 +115,10 @@ pub struct Record {
 
 impl Record {
     pub fn tag(&self) -> Tag {
-        Tag { offset: self.call[4], microstep: self.call[5] }
+        Tag {
+            offset: self.call[4],
+            microstep: self.call[5],
+        }
     }
 }
 
@@ -134,12 +140,24 @@ fn tag(offset: u64, microstep: u64) -> Tag {
 
 fn place(words: &[u64]) -> Place {
     let [queue, offset, microstep, active, found, image, step, held] = numbers(words);
-    Place { queue, tag: tag(offset, microstep), active: active == 1, image: (found == 1).then(|| tag(image, step)), held: held == 1 }
+    Place {
+        queue,
+        tag: tag(offset, microstep),
+        active: active == 1,
+        image: (found == 1).then(|| tag(image, step)),
+        held: held == 1,
+    }
 }
 
 fn scope(words: &[u64]) -> Scope {
     let [_, active, _, allowed, g, g_step, l, l_step, s, s_step] = numbers(words);
-    Scope { active: active == 1, allowed: allowed == 1, activation: tag(g, g_step), activation_local: tag(l, l_step), suspended: tag(s, s_step) }
+    Scope {
+        active: active == 1,
+        allowed: allowed == 1,
+        activation: tag(g, g_step),
+        activation_local: tag(l, l_step),
+        suspended: tag(s, s_step),
+    }
 }
 
 /// All fact lines, to their end.
@@ -148,7 +166,10 @@ pub fn read(input: impl BufRead) -> std::io::Result<Day> {
     for line in input.lines() {
         let line = line?;
         let (name, rest) = line.split_once(' ').unwrap_or((&line, ""));
-        let words: Vec<u64> = rest.split(' ').filter_map(|word| word.parse().ok()).collect();
+        let words: Vec<u64> = rest
+            .split(' ')
+            .filter_map(|word| word.parse().ok())
+            .collect();
         take(&mut day, name, rest, &words);
     }
     Ok(day)
@@ -158,15 +179,32 @@ fn take(day: &mut Day, name: &str, rest: &str, words: &[u64]) {
     match name {
         "time" => {
             let [offset, days, hours, minutes, seconds, nanoseconds] = numbers(words);
-            day.times.insert(offset, Time { days, hours, minutes, seconds, nanoseconds });
+            day.times.insert(
+                offset,
+                Time {
+                    days,
+                    hours,
+                    minutes,
+                    seconds,
+                    nanoseconds,
+                },
+            );
         }
         "record" => {
             let [bytes, version, op] = numbers(words);
-            day.records.push(Record { bytes, version, op, ..Record::default() });
+            day.records.push(Record {
+                bytes,
+                version,
+                op,
+                ..Record::default()
+            });
         }
         "cut" => {
             let [said, there] = numbers(words);
-            day.records.push(Record { cut: Some((said, there)), ..Record::default() });
+            day.records.push(Record {
+                cut: Some((said, there)),
+                ..Record::default()
+            });
         }
         _ => match day.records.last_mut() {
             Some(record) => take_record(record, name, rest, words),
@@ -179,7 +217,12 @@ fn take_table(table: &mut Table, name: &str, rest: &str, words: &[u64]) {
     let [first, second, third, fourth, fifth] = numbers(words);
     match name {
         "answer" => table.answer = rest.to_string(),
-        "count" => table.counts.push(Count { total: second, least: third, most: fourth, place: fifth }),
+        "count" => table.counts.push(Count {
+            total: second,
+            least: third,
+            most: fourth,
+            place: fifth,
+        }),
         "row" => table.rows.push((first, second, [third, fourth, fifth])),
         "image" => table.image = (first, second),
         "refusal" => table.refusal = (first, second),
@@ -198,7 +241,10 @@ fn take_record(record: &mut Record, name: &str, rest: &str, words: &[u64]) {
         "call" => record.call = numbers(words),
         "key" => record.keys.push(second),
         "lacks" => record.lacks = numbers(words),
-        "local" => record.locals.push(Local { scope: first, tag: (second == 1).then(|| tag(third, fourth)) }),
+        "local" => record.locals.push(Local {
+            scope: first,
+            tag: (second == 1).then(|| tag(third, fourth)),
+        }),
         "queue" if record.answer.is_empty() => record.queues.push(place(words)),
         "queue" => record.queues_after.push(place(words)),
         "take" => record.takes.push(place(words)),

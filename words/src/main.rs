@@ -18,7 +18,10 @@ fn told(day: &facts::Day) -> Vec<String> {
 }
 
 fn run(args: &[String]) -> Result<(), String> {
-    let read = || facts::read(std::io::stdin().lock()).map_err(|error| format!("the facts cannot be read: {error}"));
+    let read = || {
+        facts::read(std::io::stdin().lock())
+            .map_err(|error| format!("the facts cannot be read: {error}"))
+    };
     match args {
         [what] if what == "tell" => {
             let mut text = told(&read()?).join("\n");
@@ -29,7 +32,8 @@ fn run(args: &[String]) -> Result<(), String> {
         }
         [what, out] if what == "draw" => {
             let day = read()?;
-            std::fs::write(out, picture::drawn(&day, &told(&day))).map_err(|error| format!("{out} cannot be written: {error}"))
+            std::fs::write(out, picture::drawn(&day, &told(&day)))
+                .map_err(|error| format!("{out} cannot be written: {error}"))
         }
         _ => Err("give tell, or draw OUT".to_string()),
     }

@@ -9,9 +9,11 @@ use std::fmt::Write;
 const LEFT: f64 = 96.0;
 const TOP: f64 = 64.0;
 const ROW: f64 = 22.0;
-const BOTTOM: f64 = 150.0;
+const BOTTOM: f64 = 220.0;
 /// The bands of modes, and of active scopes; what is pushed, ready, held back or refused.
-const MODES: [&str; 6] = ["#1a5fa8", "#b45a00", "#2e7d32", "#6a3d9a", "#00695c", "#8d6e00"];
+const MODES: [&str; 6] = [
+    "#1a5fa8", "#b45a00", "#2e7d32", "#6a3d9a", "#00695c", "#8d6e00",
+];
 const ACTIVE: &str = "#dbe7f3";
 const INK: &str = "#222222";
 const ALARM: &str = "#c01818";
@@ -19,7 +21,10 @@ const ALARM: &str = "#c01818";
 const LABELS: usize = 40;
 
 fn escaped(words: &str) -> String {
-    words.replace('&', "&amp;").replace('<', "&lt;").replace('>', "&gt;")
+    words
+        .replace('&', "&amp;")
+        .replace('<', "&lt;")
+        .replace('>', "&gt;")
 }
 
 /// Where a record's push is due: on the global scale if its scope is active, else where it was asked for.
@@ -32,7 +37,10 @@ fn due(record: &Record) -> Tag {
 
 fn ready(record: &Record) -> Option<Tag> {
     let mut words = record.answer.strip_prefix("ready ")?.split(' ');
-    Some(Tag { offset: words.next()?.parse().ok()?, microstep: words.next()?.parse().ok()? })
+    Some(Tag {
+        offset: words.next()?.parse().ok()?,
+        microstep: words.next()?.parse().ok()?,
+    })
 }
 
 fn is_push(record: &Record) -> bool {
@@ -50,12 +58,61 @@ fn moment(record: &Record) -> Option<Tag> {
     }
 }
 
+/// What a row is for.
+#[derive(Clone, Copy, PartialEq)]
+enum Row {
+    Reactor(usize),
+    Root,
+    Scope(usize),
+}
+
+fn queue_row(queue: u64) -> Row {
+    if queue == NONE {
+        Row::Root
+    } else {
+        Row::Scope(queue as usize)
+    }
+}
+
+/// The rows that have something to show: reactors that are ever in a mode, the root, and scopes that are ever active or have an event.
+fn rows(day: &Day) -> Vec<Row> {
+    let turns = || day.records.iter().filter(|record| record.answer == "ok");
+    let moded = |reactor: usize| {
+        let mut states =
+            std::iter::once(&day.table.modes).chain(turns().map(|record| &record.modes));
+        states.any(|modes| modes.get(reactor).is_some_and(|mode| *mode != NONE))
+    };
+    let woken = |i: usize| {
+        let mut states =
+            std::iter::once(&day.table.scopes).chain(turns().map(|record| &record.scopes));
+        states.any(|scopes| scopes.get(i).is_some_and(|scope| scope.active))
+    };
+    let used = |i: usize| {
+        day.records.iter().any(|record| {
+            record
+                .into
+                .iter()
+                .chain(&record.takes)
+                .any(|place| place.queue == i as u64)
+        })
+    };
+    let reactors = (0..day.table.modes.len())
+        .filter(|reactor| moded(*reactor))
+        .map(Row::Reactor);
+    let scopes = (0..day.table.scopes.len())
+        .filter(|i| woken(*i) || used(*i))
+        .map(Row::Scope);
+    reactors
+        .chain(std::iter::once(Row::Root))
+        .chain(scopes)
+        .collect()
+}
+
 struct Picture<'a> {
     day: &'a Day,
     columns: Vec<Tag>,
     step: f64,
-    reactors: usize,
-    scopes: usize,
+    rows: Vec<Row>,
     out: String,
 }
 
@@ -69,25 +126,29 @@ impl Picture<'_> {
         LEFT + self.step * self.columns.len().max(1) as f64
     }
 
-    fn row(&self, at: usize) -> f64 {
-        TOP + ROW * at as f64
+    /// The top of a row, if it is drawn.
+    fn y(&self, row: Row) -> Option<f64> {
+        let at = self.rows.iter().position(|other| *other == row)?;
+        Some(TOP + ROW * at as f64)
     }
 
-    /// The root's row comes behind the reactors', the scopes' behind it.
-    fn queue_row(&self, queue: u64) -> usize {
-        if queue == NONE {
-            self.reactors
-        } else {
-            self.reactors + 1 + (queue as usize).min(self.scopes)
-        }
+    /// Below the last row.
+    fn low(&self) -> f64 {
+        TOP + ROW * self.rows.len() as f64
     }
 
     fn text(&mut self, x: f64, y: f64, more: &str, words: &str) {
-        let _ = writeln!(self.out, "<text x=\"{x:.1}\" y=\"{y:.1}\" {more}>{}</text>", escaped(words));
+        let _ = writeln!(
+            self.out,
+            "<text x=\"{x:.1}\" y=\"{y:.1}\" {more}>{}</text>",
+            escaped(words)
+        );
     }
 
-    fn band(&mut self, row: usize, from: f64, to: f64, colour: &str, title: &str) {
-        let y = self.row(row) + 3.0;
+    fn band(&mut self, row: Row, from: f64, to: f64, colour: &str, title: &str) {
+        let Some(y) = self.y(row).map(|y| y + 3.0) else {
+            return;
+        };
         let width = (to - from).max(1.0);
         let height = ROW - 6.0;
         let _ = writeln!(
@@ -97,21 +158,27 @@ impl Picture<'_> {
         );
     }
 
-    fn dot(&mut self, row: usize, x: f64, style: &str, title: &str) {
-        let y = self.row(row) + ROW / 2.0;
-        let _ = writeln!(self.out, "<circle cx=\"{x:.1}\" cy=\"{y:.1}\" r=\"4.5\" {style}><title>{}</title></circle>", escaped(title));
+    fn dot(&mut self, row: Row, x: f64, style: &str, title: &str) {
+        let Some(y) = self.y(row).map(|y| y + ROW / 2.0) else {
+            return;
+        };
+        let _ = writeln!(
+            self.out,
+            "<circle cx=\"{x:.1}\" cy=\"{y:.1}\" r=\"4.5\" {style}><title>{}</title></circle>",
+            escaped(title)
+        );
     }
 
     /// The names of the rows, and a line for each.
-    fn rows(&mut self) {
-        for at in 0..=self.reactors + self.scopes {
-            let name = match at {
-                at if at < self.reactors => format!("reactor {at}"),
-                at if at == self.reactors => "root queue".to_string(),
-                at => format!("scope {}", at - self.reactors - 1),
+    fn frame(&mut self) {
+        let end = self.end();
+        for (at, row) in self.rows.clone().into_iter().enumerate() {
+            let name = match row {
+                Row::Reactor(reactor) => format!("reactor {reactor}"),
+                Row::Root => "root queue".to_string(),
+                Row::Scope(i) => format!("scope {i}"),
             };
-            let y = self.row(at) + ROW / 2.0;
-            let end = self.end();
+            let y = TOP + ROW * (at as f64 + 0.5);
             self.text(8.0, y + 4.0, "", &name);
             let _ = writeln!(self.out, "<line x1=\"{LEFT}\" y1=\"{y:.1}\" x2=\"{end:.1}\" y2=\"{y:.1}\" stroke=\"#cccccc\"/>");
         }
@@ -120,18 +187,32 @@ impl Picture<'_> {
     /// What holds from one moment to another: each reactor's mode, and the active scopes.
     fn state(&mut self, modes: &[u64], scopes: &[Scope], from: f64, to: f64) {
         for (reactor, mode) in modes.iter().enumerate() {
-            if *mode != NONE {
+            if let (false, Some(top)) = (*mode == NONE, self.y(Row::Reactor(reactor))) {
                 let colour = MODES[*mode as usize % MODES.len()];
-                self.band(reactor, from, to, colour, &format!("reactor {reactor} is in mode {mode}"));
-                if to - from > 14.0 {
-                    let y = self.row(reactor) + ROW / 2.0 + 4.0;
+                self.band(
+                    Row::Reactor(reactor),
+                    from,
+                    to,
+                    colour,
+                    &format!("reactor {reactor} is in mode {mode}"),
+                );
+                let y = top + ROW / 2.0 + 4.0;
+                if to - from > 50.0 {
+                    self.text(from + 3.0, y, "fill=\"#ffffff\"", &format!("mode {mode}"));
+                } else if to - from > 14.0 {
                     self.text(from + 3.0, y, "fill=\"#ffffff\"", &mode.to_string());
                 }
             }
         }
         for (i, scope) in scopes.iter().enumerate() {
             if scope.active {
-                self.band(self.reactors + 1 + i, from, to, ACTIVE, &format!("scope {i} is active"));
+                self.band(
+                    Row::Scope(i),
+                    from,
+                    to,
+                    ACTIVE,
+                    &format!("scope {i} is active"),
+                );
             }
         }
     }
@@ -141,7 +222,11 @@ impl Picture<'_> {
         let day = self.day;
         let (mut modes, mut scopes) = (&day.table.modes, &day.table.scopes);
         let mut from = LEFT;
-        for record in day.records.iter().filter(|record| record.call[0] == 5 && record.answer == "ok") {
+        for record in day
+            .records
+            .iter()
+            .filter(|record| record.call[0] == 5 && record.answer == "ok")
+        {
             let to = self.x(record.tag()).max(from);
             self.state(modes, scopes, from, to);
             (modes, scopes, from) = (&record.modes, &record.scopes, to);
@@ -164,7 +249,7 @@ impl Picture<'_> {
                     escaped(words)
                 );
             } else if record.call[0] == 5 {
-                let (top, low) = (TOP, self.row(self.reactors + self.scopes + 1));
+                let (top, low) = (TOP, self.low());
                 let _ = writeln!(
                     self.out,
                     "<line x1=\"{x:.1}\" y1=\"{top:.1}\" x2=\"{x:.1}\" y2=\"{low:.1}\" stroke=\"{INK}\" stroke-dasharray=\"3 3\"><title>{}</title></line>",
@@ -173,12 +258,26 @@ impl Picture<'_> {
             } else if record.call[0] == 6 {
                 for place in &record.takes {
                     let edge = if place.held { ALARM } else { INK };
-                    self.dot(self.queue_row(place.queue), x, &format!("fill=\"{edge}\""), words);
+                    self.dot(
+                        queue_row(place.queue),
+                        x,
+                        &format!("fill=\"{edge}\""),
+                        words,
+                    );
                 }
             } else if let Some(place) = record.into {
-                let dashes = if place.active { "" } else { " stroke-dasharray=\"2 2\"" };
+                let dashes = if place.active {
+                    ""
+                } else {
+                    " stroke-dasharray=\"2 2\""
+                };
                 let edge = if place.held { ALARM } else { INK };
-                self.dot(self.queue_row(place.queue), x - 2.0, &format!("fill=\"#ffffff\" stroke=\"{edge}\"{dashes}"), words);
+                self.dot(
+                    queue_row(place.queue),
+                    x - 2.0,
+                    &format!("fill=\"#ffffff\" stroke=\"{edge}\"{dashes}"),
+                    words,
+                );
             }
         }
     }
@@ -187,7 +286,7 @@ impl Picture<'_> {
     fn labels(&mut self) {
         let teller = Teller::new(self.day);
         let every = self.columns.len() / LABELS + 1;
-        let low = self.row(self.reactors + self.scopes + 1);
+        let low = self.low();
         for tag in self.columns.clone().into_iter().step_by(every) {
             let (x, y) = (self.x(tag), low + 8.0);
             let turned = format!("transform=\"rotate(60 {x:.1} {y:.1})\" font-size=\"9\"");
@@ -201,16 +300,29 @@ pub fn drawn(day: &Day, lines: &[String]) -> String {
     let columns: BTreeSet<Tag> = day.records.iter().filter_map(moment).collect();
     let columns: Vec<Tag> = columns.into_iter().collect();
     let step = (1100.0 / columns.len().max(1) as f64).clamp(5.0, 48.0);
-    let mut picture =
-        Picture { day, step, columns, reactors: day.table.modes.len(), scopes: day.table.scopes.len(), out: String::new() };
-    let width = (picture.end() + 120.0).max(720.0);
-    let height = picture.row(picture.reactors + picture.scopes + 1) + BOTTOM;
+    let mut picture = Picture {
+        day,
+        step,
+        columns,
+        rows: rows(day),
+        out: String::new(),
+    };
+    let width = (picture.end() + 120.0).max(980.0);
+    let height = picture.low() + BOTTOM;
     let _ = writeln!(
         picture.out,
         "<svg xmlns=\"http://www.w3.org/2000/svg\" width=\"{width:.0}\" height=\"{height:.0}\" viewBox=\"0 0 {width:.0} {height:.0}\" font-family=\"sans-serif\" font-size=\"11\" fill=\"{INK}\">"
     );
-    let _ = writeln!(picture.out, "<rect width=\"100%\" height=\"100%\" fill=\"#ffffff\"/>");
-    picture.text(8.0, 18.0, "font-size=\"13\"", lines.first().map_or("", String::as_str));
+    let _ = writeln!(
+        picture.out,
+        "<rect width=\"100%\" height=\"100%\" fill=\"#ffffff\"/>"
+    );
+    picture.text(
+        8.0,
+        18.0,
+        "font-size=\"13\"",
+        lines.first().map_or("", String::as_str),
+    );
     picture.text(
         8.0,
         36.0,
@@ -218,7 +330,7 @@ pub fn drawn(day: &Day, lines: &[String]) -> String {
         "Coloured: the mode that is current. Shaded: the scope is active. Ring: pushed, due there (dashed: asleep). Dot: ready. Red: held back; x refused. Not to scale.",
     );
     if day.table.answer == "table ok" {
-        picture.rows();
+        picture.frame();
         picture.bands();
         picture.marks(lines);
         picture.labels();

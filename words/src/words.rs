@@ -7,7 +7,9 @@ use std::fmt::Write;
 const LAST: u64 = 4_611_686_018_427_387_903;
 /// How many queues are named where there are many.
 const NAMED: usize = 3;
-const KINDS: [&str; 9] = ["scope", "reactor", "mode", "reaction", "action", "trigger", "startup", "reset", "timer"];
+const KINDS: [&str; 9] = [
+    "scope", "reactor", "mode", "reaction", "action", "trigger", "startup", "reset", "timer",
+];
 
 impl Table {
     /// "only action 0", "actions 0 to 3".
@@ -51,7 +53,12 @@ pub struct Teller<'a> {
 
 impl<'a> Teller<'a> {
     pub fn new(day: &'a Day) -> Self {
-        Teller { day, modes: day.table.modes.clone(), scopes: day.table.scopes.clone(), held: [0; 4] }
+        Teller {
+            day,
+            modes: day.table.modes.clone(),
+            scopes: day.table.scopes.clone(),
+            held: [0; 4],
+        }
     }
 
     fn table(&self) -> &Table {
@@ -63,7 +70,10 @@ impl<'a> Teller<'a> {
         let Some(t) = self.day.times.get(&tag.offset) else {
             return format!("{}ns +{}", tag.offset, tag.microstep);
         };
-        let mut words = format!("{}h {:02}m {:02}s {:09}ns +{}", t.hours, t.minutes, t.seconds, t.nanoseconds, tag.microstep);
+        let mut words = format!(
+            "{}h {:02}m {:02}s {:09}ns +{}",
+            t.hours, t.minutes, t.seconds, t.nanoseconds, tag.microstep
+        );
         if t.days > 1 {
             let _ = write!(words, " ({} days)", t.days);
         }
@@ -96,7 +106,12 @@ impl<'a> Teller<'a> {
         if table.answer != "table ok" {
             return vec![self.refused_table()];
         }
-        let counts: Vec<String> = table.counts.iter().enumerate().map(|(k, count)| plural(count.total, kind(k as u64))).collect();
+        let counts: Vec<String> = table
+            .counts
+            .iter()
+            .enumerate()
+            .map(|(k, count)| plural(count.total, kind(k as u64)))
+            .collect();
         let mut lines = vec![format!("table ok: {}", counts.join(", "))];
         for reactor in 0..table.total(1) {
             let modes: Vec<String> = table
@@ -109,14 +124,25 @@ impl<'a> Teller<'a> {
                 NONE => "begins in no mode".to_string(),
                 mode => format!("begins in mode {mode}"),
             };
-            let has = if modes.is_empty() { "has no modes".to_string() } else { format!("has {}", modes.join(", ")) };
+            let has = if modes.is_empty() {
+                "has no modes".to_string()
+            } else {
+                format!("has {}", modes.join(", "))
+            };
             lines.push(format!("  reactor {reactor} {has}; {begins}"));
         }
         for (k, i, fields) in &table.rows {
             if *k == 8 {
                 let scope = table.row(4, fields[0])[0];
-                let tag = Tag { offset: fields[1], microstep: fields[2] };
-                lines.push(format!("  timer {i} pushes action {} of scope {scope} {} after a reset", fields[0], self.time(tag)));
+                let tag = Tag {
+                    offset: fields[1],
+                    microstep: fields[2],
+                };
+                lines.push(format!(
+                    "  timer {i} pushes action {} of scope {scope} {} after a reset",
+                    fields[0],
+                    self.time(tag)
+                ));
             }
         }
         lines
@@ -150,14 +176,21 @@ impl<'a> Teller<'a> {
 
     fn refused_count(&self, place: u64) -> String {
         let counts = &self.table().counts;
-        let Some((k, count)) = counts.iter().enumerate().find(|(_, count)| count.place == place) else {
+        let Some((k, count)) = counts
+            .iter()
+            .enumerate()
+            .find(|(_, count)| count.place == place)
+        else {
             return "a count is past its limits".to_string();
         };
         let name = kind(k as u64);
         if count.total < count.least {
             format!("the table has no {name}; it needs at least {}", count.least)
         } else {
-            format!("the table says that it has {} {name} rows; {} are the most", count.total, count.most)
+            format!(
+                "the table says that it has {} {name} rows; {} are the most",
+                count.total, count.most
+            )
         }
     }
 
@@ -189,8 +222,16 @@ impl<'a> Teller<'a> {
             13 => format!("a timer's tag is within the limits: this is {}; the last moment is 4611686018427387903 ns", self.time(Tag { offset: second, microstep: third })),
             _ => "a rule of its kind is broken".to_string(),
         };
-        let bytes: Vec<String> = table.bytes.iter().map(|byte| format!("{byte:02x}")).collect();
-        format!("{} row {i}: {why}; its bytes are {}", kind(k), bytes.join(" "))
+        let bytes: Vec<String> = table
+            .bytes
+            .iter()
+            .map(|byte| format!("{byte:02x}"))
+            .collect();
+        format!(
+            "{} row {i}: {why}; its bytes are {}",
+            kind(k),
+            bytes.join(" ")
+        )
     }
 
     // ---- the records
@@ -217,8 +258,14 @@ impl<'a> Teller<'a> {
             1 => format!("plain push at {at}{terminal}, {}", reactions(&record.keys)),
             2 => format!("network push at {at}, {}", reactions(&record.keys)),
             3 => format!("control push at {at}"),
-            4 => format!("push of action {first} at {at}{terminal}, {}", reactions(&record.keys)),
-            5 => format!("reactor {first} to mode {second} by {} at {at}", if flag == 1 { "reset" } else { "history" }),
+            4 => format!(
+                "push of action {first} at {at}{terminal}, {}",
+                reactions(&record.keys)
+            ),
+            5 => format!(
+                "reactor {first} to mode {second} by {} at {at}",
+                if flag == 1 { "reset" } else { "history" }
+            ),
             6 => "pop".to_string(),
             _ => "a record that is not well formed".to_string(),
         }
@@ -229,7 +276,10 @@ impl<'a> Teller<'a> {
         match (answer.first().copied().unwrap_or(""), record.call[0]) {
             ("refused", _) => {
                 let number = answer.get(1).copied().unwrap_or("");
-                format!("refused {number}: {}; nothing has changed", self.why(number, record))
+                format!(
+                    "refused {number}: {}; nothing has changed",
+                    self.why(number, record)
+                )
             }
             ("ready", _) => self.ready_words(record, &answer),
             ("nothing", _) => self.nothing_words(record),
@@ -268,7 +318,12 @@ impl<'a> Teller<'a> {
         } else {
             format!("asleep, for scope {} is not active", place.queue)
         };
-        format!("waits in scope {} at local {}, {due}; {}; {waiting}", place.queue, self.time(place.tag), self.modes_words())
+        format!(
+            "waits in scope {} at local {}, {due}; {}; {waiting}",
+            place.queue,
+            self.time(place.tag),
+            self.modes_words()
+        )
     }
 
     /// "at ..", or "held back to .., for ..".
@@ -279,8 +334,15 @@ impl<'a> Teller<'a> {
         if !place.held {
             return format!("at {}", self.time(image));
         }
-        let entry = self.scopes.get(place.queue as usize).map_or(Tag::default(), |scope| scope.activation);
-        format!("at {}, held back: its own moment is not later than the scope's activation, {}", self.time(image), self.time(entry))
+        let entry = self
+            .scopes
+            .get(place.queue as usize)
+            .map_or(Tag::default(), |scope| scope.activation);
+        format!(
+            "at {}, held back: its own moment is not later than the scope's activation, {}",
+            self.time(image),
+            self.time(entry)
+        )
     }
 
     fn modes_words(&self) -> String {
@@ -288,7 +350,9 @@ impl<'a> Teller<'a> {
             .modes
             .iter()
             .enumerate()
-            .filter(|(reactor, mode)| **mode != NONE || self.table().row(1, *reactor as u64)[1] != NONE)
+            .filter(|(reactor, mode)| {
+                **mode != NONE || self.table().row(1, *reactor as u64)[1] != NONE
+            })
             .map(|(reactor, mode)| match *mode {
                 NONE => format!("reactor {reactor} is in no mode"),
                 mode => format!("reactor {reactor} is in mode {mode}"),
@@ -302,18 +366,55 @@ impl<'a> Teller<'a> {
     }
 
     fn ready_words(&self, record: &Record, answer: &[&str]) -> String {
-        let after = |name: &str| answer.iter().position(|word| *word == name).and_then(|at| answer.get(at + 1)).copied().unwrap_or("-");
-        let tag = Tag { offset: answer.get(1).and_then(|n| n.parse().ok()).unwrap_or(0), microstep: answer.get(2).and_then(|n| n.parse().ok()).unwrap_or(0) };
-        let sources: Vec<String> = record.takes.iter().map(|place| self.source_words(*place)).collect();
-        let mut words = format!("ready at {}: from {}", self.time(tag), sources.join("; then from "));
-        let _ = write!(words, "; reactions {}; actions {}", after("reactions"), after("actions"));
-        for (name, yes) in [("terminal", "terminal"), ("work", "ordinary work"), ("network", "network")] {
+        let after = |name: &str| {
+            answer
+                .iter()
+                .position(|word| *word == name)
+                .and_then(|at| answer.get(at + 1))
+                .copied()
+                .unwrap_or("-")
+        };
+        let tag = Tag {
+            offset: answer.get(1).and_then(|n| n.parse().ok()).unwrap_or(0),
+            microstep: answer.get(2).and_then(|n| n.parse().ok()).unwrap_or(0),
+        };
+        let sources: Vec<String> = record
+            .takes
+            .iter()
+            .map(|place| self.source_words(*place))
+            .collect();
+        let mut words = format!(
+            "ready at {}: from {}",
+            self.time(tag),
+            sources.join("; then from ")
+        );
+        let _ = write!(
+            words,
+            "; reactions {}; actions {}",
+            after("reactions"),
+            after("actions")
+        );
+        for (name, yes) in [
+            ("terminal", "terminal"),
+            ("work", "ordinary work"),
+            ("network", "network"),
+        ] {
             if after(name) == "1" {
                 let _ = write!(words, "; {yes}");
             }
         }
-        let taken = |place: &&Place| !record.takes.iter().any(|take| (take.queue, take.tag) == (place.queue, place.tag));
-        let later: Vec<String> = record.queues.iter().filter(taken).map(|place| self.waits_words(*place)).collect();
+        let taken = |place: &&Place| {
+            !record
+                .takes
+                .iter()
+                .any(|take| (take.queue, take.tag) == (place.queue, place.tag))
+        };
+        let later: Vec<String> = record
+            .queues
+            .iter()
+            .filter(taken)
+            .map(|place| self.waits_words(*place))
+            .collect();
         if !later.is_empty() {
             let _ = write!(words, "; not yet: {}", few(&later));
         }
@@ -325,8 +426,18 @@ impl<'a> Teller<'a> {
         if place.queue == NONE {
             return "the root queue, at its own tag".to_string();
         }
-        let held = if place.held { self.image_words(place).split_once(", ").map_or(String::new(), |(_, held)| format!(", {held}")) } else { ", not held back".to_string() };
-        format!("scope {} at local {}{held}", place.queue, self.time(place.tag))
+        let held = if place.held {
+            self.image_words(place)
+                .split_once(", ")
+                .map_or(String::new(), |(_, held)| format!(", {held}"))
+        } else {
+            ", not held back".to_string()
+        };
+        format!(
+            "scope {} at local {}{held}",
+            place.queue,
+            self.time(place.tag)
+        )
     }
 
     /// A queue's head that stays.
@@ -335,17 +446,33 @@ impl<'a> Teller<'a> {
             return format!("the root's next is at {}", self.time(place.tag));
         }
         if place.active {
-            return format!("{}'s next is {}", self.queue(place.queue), self.image_words(place));
+            return format!(
+                "{}'s next is {}",
+                self.queue(place.queue),
+                self.image_words(place)
+            );
         }
-        format!("{}'s next, local {}, is asleep", self.queue(place.queue), self.time(place.tag))
+        format!(
+            "{}'s next, local {}, is asleep",
+            self.queue(place.queue),
+            self.time(place.tag)
+        )
     }
 
     fn nothing_words(&self, record: &Record) -> String {
         if record.queues.is_empty() {
             return format!("nothing, for no event waits; {}", self.modes_words());
         }
-        let asleep: Vec<String> = record.queues.iter().map(|place| self.waits_words(*place)).collect();
-        format!("nothing, for all events are asleep in scopes that are not active: {}; {}", few(&asleep), self.modes_words())
+        let asleep: Vec<String> = record
+            .queues
+            .iter()
+            .map(|place| self.waits_words(*place))
+            .collect();
+        format!(
+            "nothing, for all events are asleep in scopes that are not active: {}; {}",
+            few(&asleep),
+            self.modes_words()
+        )
     }
 
     /// What a transition changed.
@@ -353,7 +480,11 @@ impl<'a> Teller<'a> {
         let mut words = Vec::new();
         for (reactor, (old, new)) in self.modes.iter().zip(&record.modes).enumerate() {
             if old != new {
-                words.push(format!("reactor {reactor} leaves mode {} for mode {}", key(*old), key(*new)));
+                words.push(format!(
+                    "reactor {reactor} leaves mode {} for mode {}",
+                    key(*old),
+                    key(*new)
+                ));
             }
         }
         for (i, (old, new)) in self.scopes.iter().zip(&record.scopes).enumerate() {
@@ -364,10 +495,32 @@ impl<'a> Teller<'a> {
         if words.is_empty() {
             words.push("no mode and no clock changes".to_string());
         }
-        let active: Vec<String> = record.scopes.iter().enumerate().filter(|(_, scope)| scope.active).map(|(i, _)| i.to_string()).collect();
-        words.push(format!("active scopes: {}", if active.is_empty() { "none".to_string() } else { active.join(", ") }));
-        let later = Teller { day: self.day, modes: record.modes.clone(), scopes: record.scopes.clone(), held: record.held };
-        let next: Vec<String> = record.queues_after.iter().map(|place| later.waits_words(*place)).collect();
+        let active: Vec<String> = record
+            .scopes
+            .iter()
+            .enumerate()
+            .filter(|(_, scope)| scope.active)
+            .map(|(i, _)| i.to_string())
+            .collect();
+        words.push(format!(
+            "active scopes: {}",
+            if active.is_empty() {
+                "none".to_string()
+            } else {
+                active.join(", ")
+            }
+        ));
+        let later = Teller {
+            day: self.day,
+            modes: record.modes.clone(),
+            scopes: record.scopes.clone(),
+            held: record.held,
+        };
+        let next: Vec<String> = record
+            .queues_after
+            .iter()
+            .map(|place| later.waits_words(*place))
+            .collect();
         if !next.is_empty() {
             words.push(few(&next));
         }
@@ -378,8 +531,13 @@ impl<'a> Teller<'a> {
     fn scope_words(&self, old: &Scope, new: &Scope) -> Option<String> {
         match (old.active, new.active) {
             (true, false) => Some(format!("stops at local {}", self.time(new.suspended))),
-            (false, true) if new.activation_local == Tag::default() => Some("starts at local zero".to_string()),
-            (false, true) => Some(format!("goes on from local {}", self.time(new.activation_local))),
+            (false, true) if new.activation_local == Tag::default() => {
+                Some("starts at local zero".to_string())
+            }
+            (false, true) => Some(format!(
+                "goes on from local {}",
+                self.time(new.activation_local)
+            )),
             (true, true) if old != new => Some("starts again at local zero".to_string()),
             _ => None,
         }
@@ -391,9 +549,19 @@ impl<'a> Teller<'a> {
         let table = self.table();
         let [op, first, second, ..] = record.call;
         // a scope that sleeps is not stopped, and need not map
-        let stops = |scope: u64| op == 4 || self.scopes.get(scope as usize).is_some_and(|scope| scope.active);
-        let unmapped: Vec<String> =
-            record.locals.iter().filter(|local| local.tag.is_none() && stops(local.scope)).map(|local| format!("scope {}", local.scope)).collect();
+        let stops = |scope: u64| {
+            op == 4
+                || self
+                    .scopes
+                    .get(scope as usize)
+                    .is_some_and(|scope| scope.active)
+        };
+        let unmapped: Vec<String> = record
+            .locals
+            .iter()
+            .filter(|local| local.tag.is_none() && stops(local.scope))
+            .map(|local| format!("scope {}", local.scope))
+            .collect();
         match number {
             "1" => malformed(record),
             "5" => {
@@ -424,7 +592,12 @@ fn reactions(keys: &[u64]) -> String {
 
 /// The first few, and how many more there are.
 fn few(words: &[String]) -> String {
-    let named = words.iter().take(NAMED).cloned().collect::<Vec<_>>().join(", ");
+    let named = words
+        .iter()
+        .take(NAMED)
+        .cloned()
+        .collect::<Vec<_>>()
+        .join(", ");
     match words.len().saturating_sub(NAMED) {
         0 => named,
         more => format!("{named}, and {more} more"),
@@ -434,7 +607,9 @@ fn few(words: &[String]) -> String {
 fn malformed(record: &Record) -> String {
     match record {
         Record { bytes: 0..=5, .. } => "too short for a version and an op".to_string(),
-        Record { version, .. } if *version != 1 => format!("version {version}, and only version 1 is known"),
+        Record { version, .. } if *version != 1 => {
+            format!("version {version}, and only version 1 is known")
+        }
         Record { op, .. } if !(1..=6).contains(op) => format!("op {op}, and there are ops 1 to 6"),
         Record { op, bytes, .. } => {
             let what = match op {
@@ -443,7 +618,10 @@ fn malformed(record: &Record) -> String {
                 5 => "kind is not 0 or 1, or the operands do not fill it",
                 _ => "the operands do not fill it",
             };
-            format!("op {op} with {} bytes behind the length: {what}", bytes.saturating_sub(4))
+            format!(
+                "op {op} with {} bytes behind the length: {what}",
+                bytes.saturating_sub(4)
+            )
         }
     }
 }
@@ -452,7 +630,9 @@ fn cut_words(said: u64, there: u64) -> String {
     let why = match (said, there) {
         (0, there) => format!("{} where a length of 4 is due", plural(there, "byte")),
         (said, 0) if said > 512 => format!("a length of {said}, and no record is longer than 512"),
-        (said, there) => format!("the length says {said} bytes, and the file ends after {there} of them"),
+        (said, there) => {
+            format!("the length says {said} bytes, and the file ends after {there} of them")
+        }
     };
     format!("a record that cannot be read: refused 1: {why}; the run stops here")
 }
