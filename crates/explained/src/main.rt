@@ -237,7 +237,8 @@ fn say_queues(
 
 // ---- where a pop's events come from
 
-fn source(
+// The pop's tag.
+fn peek(
     image: &[u8],
     scopes: &[u64; scopes::ROOM],
     events: &[u64; slots::ROOM],
@@ -248,6 +249,26 @@ fn source(
     let total = rows::count(image, rows::SCOPE);
     let heads = queue::heads(events, waiting);
     heads::peek(&heads, scopes, total)
+}
+
+fn root_head(events: &[u64; slots::ROOM], waiting: usize) -> Head
+    requires { ⌜ waiting ≤ mostWaiting ⌝ }
+{
+    let heads = queue::heads(events, waiting);
+    heads::root_head(&heads)
+}
+
+fn scope_head(
+    image: &[u8],
+    scopes: &[u64; scopes::ROOM],
+    events: &[u64; slots::ROOM],
+    waiting: usize,
+) -> Head
+    requires { ⌜ waiting ≤ mostWaiting ⌝ }
+{
+    let total = rows::count(image, rows::SCOPE);
+    let heads = queue::heads(events, waiting);
+    heads::scope_head(&heads, scopes, total)
 }
 
 // The events at a head are told and taken out; how many are left.
@@ -274,8 +295,32 @@ fn take(
     gone.count
 }
 
-// While the least head is the tag t, its events: the root's come first, and no root event at t is left then.
-fn say_sources(
+// The root's events at t if its head is t.
+fn take_root(
+    scopes: &[u64; scopes::ROOM],
+    events: &mut [u64; slots::ROOM],
+    waiting: usize,
+    t: GlobalTag,
+) -> usize
+    requires { ⌜ Whole (now events) ⌝ }
+    requires { ⌜ waiting ≤ mostWaiting ⌝ }
+    ensures { λ r. ⌜ Whole (now (events .exit)) × (r ≤ mostWaiting) ⌝ }
+{
+    match root_head(events, waiting) {
+        Head::Empty => waiting,
+        Head::At(h) => {
+            let g = h.tag;
+            if g.same(t) {
+                take(scopes, events, waiting, h)
+            } else {
+                waiting
+            }
+        }
+    }
+}
+
+// While the least scope head is t, all events at that head.
+fn take_scopes(
     image: &[u8],
     scopes: &[u64; scopes::ROOM],
     events: &mut [u64; slots::ROOM],
@@ -289,7 +334,7 @@ fn say_sources(
     let mut turns = waiting;
     while 0 < turns {
         turns -= 1;
-        match source(image, scopes, events, left) {
+        match scope_head(image, scopes, events, left) {
             Head::Empty => {
                 return;
             }
@@ -305,20 +350,32 @@ fn say_sources(
     }
 }
 
-// What a pop finds.
-fn say_pop(image: &[u8], day: Day)
+// What a pop takes, in its own order.
+fn say_sources(image: &[u8], day: Day, t: GlobalTag)
     requires { ⌜ Kept (now image) day ⌝ }
 {
     let scopes = day.scopes;
     let mut events = day.events;
     let counts = day.counts;
     let waiting = counts.waiting;
+    let left = take_root(&scopes, &mut events, waiting, t);
+    take_scopes(image, &scopes, &mut events, left, t);
+}
+
+// What a pop finds.
+fn say_pop(image: &[u8], day: Day)
+    requires { ⌜ Kept (now image) day ⌝ }
+{
+    let scopes = day.scopes;
+    let events = day.events;
+    let counts = day.counts;
+    let waiting = counts.waiting;
     say_queues(image, &scopes, &events, waiting);
-    match source(image, &scopes, &events, waiting) {
+    match peek(image, &scopes, &events, waiting) {
         Head::Empty => {}
         Head::At(h) => {
             let t = h.tag;
-            say_sources(image, &scopes, &mut events, waiting, t);
+            say_sources(image, day, t);
         }
     }
 }

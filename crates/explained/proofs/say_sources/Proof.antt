@@ -1,68 +1,17 @@
 -- `explained::say_sources` is safe and ends. Assumes nothing.
+use Rattle.explained.proofs.Laws.{few-wait, whole-events}
 use borrow.Author.Needs.{needs}
-use Rattle.machine.specs.State.{mostWaiting}
-use Rattle.slots.specs.Slots.{Whole}
-use Prim.Native.Nat.{_-_, _≤_}
 use Rattle.explained.proofs.say_sources.Statement.{statement}
 use Rattle.explained.proofs.say_sources.Tie as tie
 
-abbrev Inv-loop : tie.InvT-loop
-Inv-loop image scopes events₀ waiting t left₀ turns₀ events left turns = Whole events × (left ≤ mostWaiting)
+take-root-requires : tie.Need-take-root-requires
+take-root-requires c κs = (whole-events (c .before .before .before .before .before .before .pre), few-wait (c .before .before .before .before .before .before .pre))
 
-abbrev μ-loop : tie.MeasureT-loop
-μ-loop image scopes events₀ waiting t left₀ turns₀ events left turns = turns
+take-scopes-requires : tie.Need-take-scopes-requires
+take-scopes-requires c κs = search needs
 
-loop-holds : tie.Need-loop-holds Inv-loop μ-loop
-loop-holds c = search needs
-
-sub-turns : tie.Need-sub-turns Inv-loop μ-loop
-sub-turns c = search needs
-
-source-requires : tie.Need-source-requires Inv-loop μ-loop
-source-requires c κs = search needs
-
-enum-told : tie.Need-enum-told Inv-loop μ-loop
-enum-told c = search needs
-
-returns : tie.Need-returns Inv-loop μ-loop
+returns : tie.Need-returns
 returns c = search needs
 
-enum-known-h : tie.Need-enum-known-h Inv-loop μ-loop
-enum-known-h c = search needs
-
-same-requires : tie.Need-same-requires Inv-loop μ-loop
-same-requires c κs = search needs
-
-take-requires : tie.Need-take-requires Inv-loop μ-loop
-take-requires c κs = search needs
-
-loop-less : tie.Need-loop-less Inv-loop μ-loop
-loop-less c = search needs
-
-loop-again : tie.Need-loop-again Inv-loop μ-loop
-loop-again c = search needs
-
-returns-2 : tie.Need-returns-2 Inv-loop μ-loop
-returns-2 c = search needs
-
-returns-3 : tie.Need-returns-3 Inv-loop μ-loop
-returns-3 c = search needs
-
 pub say-sources-spec : {M : Type 1} → statement M
-say-sources-spec =
-    tie.close
-    (tie.spec
-    Inv-loop
-    μ-loop
-    loop-holds
-    sub-turns
-    source-requires
-    enum-told
-    returns
-    enum-known-h
-    same-requires
-    take-requires
-    loop-less
-    loop-again
-    returns-2
-    returns-3)
+say-sources-spec = tie.close (tie.spec take-root-requires take-scopes-requires returns)
