@@ -16,7 +16,7 @@ use Rattle.machine.specs.Machine.{rules, run}
 use Rattle.unpacked.specs.Unpacked.{state-is}
 use Rattle.records.specs.Records.{recordsFrom}
 use Rattle.records.proofs.DayLaws.{records-behind}
-use Rattle.gate_day.specs.Days.{Next, pending, broken, whole, Ran, stateAt, bodyAt, nextAt, longest, stopped, callsOf, ranIn, ranOn, ran}
+use Rattle.gate_day.specs.Days.{Next, pending, broken, whole, Ran, bodyAt, nextAt, longest, callsOf, ranIn, ranOn, ran}
 use Rattle.gate_day.proofs.RunLaws.{state-keeps}
 use Rattle.gate_day.proofs.WholeLaws.{rest-is, over-rests, ran-state, rests-calls}
 use Rattle.gate_day.specs.Views.{Kept, Pieced, viewOf}

@@ -5,7 +5,7 @@ use mathlib.Core.Logic.{_⊎_, inl, inr}
 use mathlib.Core.List.{List, [], _∷_, _++_, append-assoc, append-nil}
 use Prim.Native.Nat.{ℕ, zero, suc, _+_, _-_, _≤_, _<_}
 use native.Mathlib.Omega.{arith}
-use lib.Dec.{ltb, leb, eqb}
+use lib.Dec.{ltb, eqb}
 use lib.ListN.{length, take, drop, getD, set, length-drop, length-append}
 use lib.Seq.{sets, length-take-le, take-all, drop-length, take-append-le, drop-append-le, getD-take, getD-drop}
 use borrow.Author.Tests.{lt-ltb, le-ltb, ltb-true, ltb-false, eq-eqb, ne-eqb}
@@ -26,7 +26,7 @@ use Rattle.records.proofs.DayLaws.{none-left, record-there, record-short, recor
 use Rattle.lines.specs.Lines.{tableLine}
 use Rattle.lines.specs.Written.{Written}
 use Rattle.lines.proofs.WrittenLaws.{written-none, written-then, written-as, written-long, written-room}
-use Rattle.gate_day.specs.Days.{Next, pending, broken, whole, nextAt, bytesLeft, bodyAt, Ran, stopped, endedAt, behind, longest, malformedLine, lineAt, stateAt, answersOf, together, linesOf, callsOf, fitting, ranIn, ranOn, ran, imageEnd, imageIn, largest, opened, answersBy, dayAnswers, recordBytes}
+use Rattle.gate_day.specs.Days.{Next, pending, broken, whole, nextAt, bytesLeft, bodyAt, Ran, stopped, endedAt, behind, longest, malformedLine, lineAt, stateAt, answersOf, together, linesOf, callsOf, fitting, ranIn, ranOn, ran, imageEnd, imageIn, largest, opened, answersBy, dayAnswers, dayLines, recordBytes}
 use Rattle.gate_day.specs.Views.{viewOf, Pieced}
 use Rattle.gate_day.specs.declared.Day.{Day}
 use Rattle.gate_day.specs.declared.Pieces.{Pieces}
@@ -233,6 +233,15 @@ fitting-whole (l ∷ ls) room h =
     let k : longest ≤ room - length (l ++ fitting (room - length l) ls) = rw (fitting-more room l ls g) at h in
     let e = length-append l (fitting (room - length l) ls) in
     fitting-more room l ls g ∙ ap (λ x. l ++ x) (fitting-whole ls (room - length l) (omega (arith, k, e)))
+
+module _ (day : List ℕ) (room : ℕ) where
+  pub day-fits : length (dayLines day) + longest ≤ room → fitting room (dayAnswers day) ≡ dayLines day
+  unfolding dayLines
+  day-fits h = fitting-all (dayAnswers day) room h
+
+  pub day-whole : longest ≤ room - length (fitting room (dayAnswers day)) → fitting room (dayAnswers day) ≡ dayLines day
+  unfolding dayLines
+  day-whole h = fitting-whole (dayAnswers day) room h
 
 -- ---- the bytes at the end of a day: none, or "refused 1"
 

@@ -44,19 +44,19 @@ unfoldable pub together : List (List ℕ) → List ℕ
 together [] = []
 together (l ∷ ls) = l ++ together ls
 
+unfoldable pub linesOf : Image → State → List Record → List ℕ
+linesOf img s rs = together (answersOf img s rs)
+
 -- room that the longest line needs, with much to spare
 abbrev pub longest : ℕ
 longest = 4096
 
--- as many of them, from the first on, as there are while the longest line still has room
+-- as many lines, from the first on, as there are while the longest still has room
 unfoldable pub fitting : ℕ → List (List ℕ) → List ℕ
 fitting room [] = []
 fitting room (l ∷ ls) = cond (ltb room longest) [] (l ++ fitting (room - length l) ls)
 
-unfoldable pub linesOf : Image → State → List Record → List ℕ
-linesOf img s rs = together (answersOf img s rs)
-
--- the calls among them
+-- the calls among the records
 unfoldable pub callsOf : List Record → List Call
 callsOf [] = []
 callsOf (call c ∷ rs) = c ∷ callsOf rs
