@@ -1,13 +1,14 @@
 // The lines that answer a gate day: document 01, "The bench program". Each is written into a lent buffer, and how many bytes it has is answered.
 // Total: past the buffer's end nothing is written.
 ghost use mathlib.Core.Path.{_≡_};
-ghost use mathlib.Core.Bool.{cond, true, _||_};
-ghost use mathlib.Core.List.{_∷_, [], _++_, map};
-ghost use Prim.Native.Nat.{ℕ, _+_, _≤_, _<_, _/_, _%_};
-ghost use lib.Dec.{eqb, leb};
-ghost use lib.ListN.{length, getD, take, drop};
-ghost use Rattle.lists.specs.Lists.{keep, every};
-ghost use Rattle.key_set.specs.Sets.{keysOf};
+ghost use mathlib.Core.Bool.{cond};
+ghost use mathlib.Core.List.{List, _∷_, [], _++_, map};
+ghost use Prim.Native.Nat.{ℕ, _+_, _*_, _≤_, _<_, _/_, _%_};
+ghost use lib.Dec.{leb};
+ghost use lib.ListN.{length, take, drop};
+ghost use lib.Seq.{sets};
+ghost use Rattle.lists.specs.Lists.{keep};
+ghost use Rattle.key_set.specs.Sets.{keysOf, wordCount};
 ghost use Rattle.rows.specs.Rows as R;
 ghost use Rattle.machine.specs.Machine as M;
 ghost use Rattle.tags.specs.Views.{ofGlobal};
@@ -25,19 +26,10 @@ use tags::GlobalTag;
 // A buffer of so many bytes holds every line; `longest` of specs/ says the same.
 pub const LINE: usize = 2648;
 
-// A level is a byte; `levelCount` of specs/ says the same.
-const LEVELS: u16 = 256;
-
 // The place in the buffer, and whether the list that is being written has an entry yet.
 struct Pen {
     at: usize,
     started: bool,
-}
-
-// What a level leaves: the pen, and the next level that a key has.
-struct Turn {
-    pen: Pen,
-    next: u16,
 }
 
 pub fn put(buffer: &mut [u8], at: usize, byte: u8) -> usize
@@ -200,70 +192,54 @@ fn level_of(levels: &[u8], key: u16) -> u8
     0
 }
 
-// The lower of the level and the one found before, where it is above v.
-fn nearer(next: u16, v: u16, level: u16) -> u16
-    requires { ⌜ v < next ⌝ }
-    ensures { λ r. ⌜ (v < r) × (r ≤ next) × ((v < level) → r ≤ level) ⌝ }
+// How many of the first n keys are at level v or below it.
+fn up_to(levels: &[u8], keys: &[u16], n: usize, v: u8) -> usize
+    requires { ⌜ n ≤ length (now keys) ⌝ }
+    ensures { λ r. ⌜ r ≡ length (keep (λ k. leb (levelIn (now (levels .entry)) k) v) (take n (now (keys .entry)))) ⌝ }
 {
-    if v < level {
-        if level < next {
-            return level;
-        }
-    }
-    next
-}
-
-// The keys at one level, and the next level that a key has.
-fn write_level(buffer: &mut [u8], pen: Pen, levels: &[u8], keys: &[u16], v: u16) -> Turn
-    requires { ⌜ pen .at ≤ length (now buffer) ⌝ }
-    requires { ⌜ v < levelCount ⌝ }
-    ensures { λ r. ⌜ Listed (now (buffer .entry)) pen (map (entryOf (levelIn (now (levels .entry)))) (keep (λ k. eqb (levelIn (now (levels .entry)) k) v) (now (keys .entry)))) (now (buffer .exit)) (r .pen) ⌝ }
-    ensures { λ r. ⌜ (v < r .next) × (r .next ≤ levelCount) × (every (λ k. leb (levelIn (now (levels .entry)) k) v || leb (r .next) (levelIn (now (levels .entry)) k)) (now (keys .entry)) ≡ true) ⌝ }
-{
-    let mut out = pen;
-    let mut next = LEVELS;
+    let mut count: usize = 0;
     let mut i: usize = 0;
-    while i < keys.len() {
+    while i < n {
         let key = keys[i];
         let level = level_of(levels, key);
-        next = nearer(next, v, level as u16);
         i += 1;
-        if level as u16 == v {
-            out = write_reaction(buffer, out, level, key);
+        if level <= v {
+            count += 1;
         }
     }
-    Turn { pen: out, next }
+    count
 }
 
-// Level by level, from one to the next that a key has.
-fn write_levels(buffer: &mut [u8], pen: Pen, levels: &[u8], keys: &[u16]) -> Pen
-    requires { ⌜ pen .at ≤ length (now buffer) ⌝ }
-    ensures { λ r. ⌜ Listed (now (buffer .entry)) pen (map (entryOf (levelIn (now (levels .entry)))) (byLevel (levelIn (now (levels .entry))) (now (keys .entry)) 0 levelCount)) (now (buffer .exit)) r ⌝ }
+// A key put in at a place among the first n: those from there on go one further.
+fn put_in(keys: &mut [u16], n: usize, place: usize, key: u16)
+    requires { ⌜ (place ≤ n) × (n < length (now keys)) ⌝ }
+    ensures { λ _. ⌜ now (keys .exit) ≡ sets (now (keys .entry)) place (key ∷ drop place (take n (now (keys .entry)))) ⌝ }
 {
-    let mut out = pen;
-    let mut v: u16 = 0;
-    while v < LEVELS {
-        let turn = write_level(buffer, out, levels, keys, v);
-        out = turn.pen;
-        v = turn.next;
+    let mut held = key;
+    let mut i = place;
+    while i < n {
+        let next = keys[i];
+        keys[i] = held;
+        held = next;
+        i += 1;
     }
-    out
+    keys[i] = held;
 }
 
-fn put_key(keys: &mut [u16], n: usize, key: u16) -> usize
-    requires { ⌜ n ≤ length (now keys) ⌝ }
-    ensures { λ r. ⌜ Written (now (keys .entry)) n (key ∷ []) (now (keys .exit)) r ⌝ }
+// One key more among keys that stand by level: behind those at its own.
+fn put_key(keys: &mut [u16], n: usize, key: u16, levels: &[u8])
+    requires { ⌜ n < length (now keys) ⌝ }
+    ensures { λ _. ⌜ ((x : List ℕ) → take n (now (keys .entry)) ≡ byLevel (levelIn (now (levels .entry))) x 0 levelCount → take (n + 1) (now (keys .exit)) ≡ byLevel (levelIn (now (levels .entry))) (x ++ (key ∷ [])) 0 levelCount) ⌝ }
 {
-    if n < keys.len() {
-        keys[n] = key;
-        return n + 1;
-    }
-    n
+    let v = level_of(levels, key);
+    let place = up_to(levels, keys, n, v);
+    put_in(keys, n, place, key);
 }
 
-// The keys of a set, ascending; how many they are.
-fn collect(set: KeySet, keys: &mut [u16]) -> usize
-    ensures { λ r. ⌜ Written (now (keys .entry)) 0 (keysOf (set .words)) (now (keys .exit)) r ⌝ }
+// The keys of a set, level by level; how many they are.
+fn collect(set: KeySet, keys: &mut [u16], levels: &[u8]) -> usize
+    requires { ⌜ wordCount * 64 ≤ length (now keys) ⌝ }
+    ensures { λ r. ⌜ (r ≤ length (now (keys .exit))) × (take r (now (keys .exit)) ≡ byLevel (levelIn (now (levels .entry))) (keysOf (set .words)) 0 levelCount) ⌝ }
 {
     let mut n: usize = 0;
     let mut k: usize = 0;
@@ -272,9 +248,26 @@ fn collect(set: KeySet, keys: &mut [u16]) -> usize
         let Found::Key(j) = f else {
             return n;
         };
-        n = put_key(keys, n, j as u16);
+        put_key(keys, n, j as u16, levels);
+        n += 1;
         k = j + 1;
     }
+}
+
+// The first n keys, each behind its level.
+fn write_leveled(buffer: &mut [u8], pen: Pen, levels: &[u8], keys: &[u16], n: usize) -> Pen
+    requires { ⌜ (pen .at ≤ length (now buffer)) × (n ≤ length (now keys)) ⌝ }
+    ensures { λ r. ⌜ Listed (now (buffer .entry)) pen (map (entryOf (levelIn (now (levels .entry)))) (take n (now (keys .entry)))) (now (buffer .exit)) r ⌝ }
+{
+    let mut out = pen;
+    let mut i: usize = 0;
+    while i < n {
+        let key = keys[i];
+        let level = level_of(levels, key);
+        out = write_reaction(buffer, out, level, key);
+        i += 1;
+    }
+    out
 }
 
 fn write_reactions(buffer: &mut [u8], at: usize, levels: &[u8], set: KeySet) -> usize
@@ -282,9 +275,9 @@ fn write_reactions(buffer: &mut [u8], at: usize, levels: &[u8], set: KeySet) -> 
     ensures { λ r. ⌜ Written (now (buffer .entry)) at (reactionList (levelIn (now (levels .entry))) (keysOf (set .words))) (now (buffer .exit)) r ⌝ }
 {
     let mut keys: [u16; key_set::KEYS] = [0; key_set::KEYS];
-    let n = collect(set, &mut keys);
+    let n = collect(set, &mut keys, levels);
     let pen = Pen { at, started: false };
-    let out = write_levels(buffer, pen, levels, &keys[0..n]);
+    let out = write_leveled(buffer, pen, levels, &keys, n);
     finish(buffer, out)
 }
 

@@ -1,23 +1,23 @@
--- `lines::collect` meets its contract: what is written and what is left are all keys of the set. Assumes nothing.
+-- `lines::collect` meets its contract: the keys put in and those that are left are all keys of the set. Assumes nothing.
 use Prim.Native.Nat.{_*_, _-_}
 use mathlib.Core.Path.{refl}
 use native.Mathlib.Omega.{arith}
 use borrow.Author.Needs.{needs}
 use Rattle.key_set.specs.Sets.{wordCount}
 use Rattle.key_set.proofs.Laws.{told-key, told-nothing, lowest-range}
-use Rattle.lines.proofs.WrittenLaws.{written-room, written-long}
-use Rattle.lines.proofs.ListLaws.{Collected, collect-none, collect-more, collect-end}
+use Rattle.lines.specs.Lines.{levelIn}
+use Rattle.lines.proofs.ListLaws.{Collected, collect-none, collect-more, collect-end, collect-fits, collect-room}
 use Rattle.lines.proofs.collect.Statement.{statement}
 use Rattle.lines.proofs.collect.Tie as tie
 
 abbrev Inv-loop : tie.InvT-loop
-Inv-loop set keys₀ n₀ k₀ keys n k = Collected (set .words) keys₀ keys n k
+Inv-loop set keys₀ levels n₀ k₀ keys n k = Collected (levelIn levels) (set .words) keys₀ keys n k
 
 abbrev μ-loop : tie.MeasureT-loop
-μ-loop set keys₀ n₀ k₀ keys n k = wordCount * 64 - k
+μ-loop set keys₀ levels n₀ k₀ keys n k = wordCount * 64 - k
 
 loop-holds : tie.Need-loop-holds Inv-loop μ-loop
-loop-holds c = collect-none _ _
+loop-holds c = collect-none _ _ _
 
 lowest-from-requires : tie.Need-lowest-from-requires Inv-loop μ-loop
 lowest-from-requires c κs = search needs
@@ -29,16 +29,21 @@ enum-told : tie.Need-enum-told Inv-loop μ-loop
 enum-told c = search needs
 
 same-length : tie.Need-same-length Inv-loop μ-loop
-same-length c = written-long (c .before .before .before .loop .inv .written)
+same-length c = c .before .before .before .loop .inv .long
 
 returns : tie.Need-returns Inv-loop μ-loop
-returns c = collect-end (c .before .before .before .loop .inv) (told-nothing (c .enum-told .given .1) (c .before .before .lowest-from .ensures))
+returns c =
+    let inv = c .before .before .before .loop .inv in
+    (collect-fits inv (search needs) (c .before .before .before .before .before .before .pre), collect-end inv (told-nothing (c .enum-told .given .1) (c .before .before .lowest-from .ensures)))
 
 cast-put-key : tie.Need-cast-put-key Inv-loop μ-loop
 cast-put-key c = let r = lowest-range _ _ wordCount (search needs) (told-key (c .before .before .f .given .1) (c .before .before .before .before .lowest-from .ensures)) in omega (arith, r .1)
 
 put-key-requires : tie.Need-put-key-requires Inv-loop μ-loop
-put-key-requires c κs = written-room (c .before .before .before .before .before .loop .inv .written)
+put-key-requires c κs = collect-room (c .before .before .before .before .before .loop .inv) (search needs) (c .before .before .before .before .before .before .before .before .pre) (told-key (c .before .before .f .given .1) (c .before .before .before .before .lowest-from .ensures))
+
+add-n : tie.Need-add-n Inv-loop μ-loop
+add-n c = let r = collect-room (c .before .before .before .before .before .before .before .before .loop .inv) (search needs) (c .before .before .before .before .before .before .before .before .before .before .before .pre) (told-key (c .before .before .before .before .before .f .given .1) (c .before .before .before .before .before .before .before .lowest-from .ensures)) in search needs
 
 add-k : tie.Need-add-k Inv-loop μ-loop
 add-k c = let r = lowest-range _ _ wordCount (search needs) (told-key (c .before .before .before .before .before .f .given .1) (c .before .before .before .before .before .before .before .lowest-from .ensures)) in omega (arith, r .1)
@@ -47,7 +52,7 @@ loop-less : tie.Need-loop-less Inv-loop μ-loop
 loop-less c = let r = lowest-range _ _ wordCount (search needs) (told-key (c .before .before .before .before .before .f .given .1) (c .before .before .before .before .before .before .before .lowest-from .ensures)) in omega (arith, r .0, r .1)
 
 loop-again : tie.Need-loop-again Inv-loop μ-loop
-loop-again c = collect-more (c .before .before .before .before .before .before .before .before .loop .inv) (told-key (c .before .before .before .before .before .f .given .1) (c .before .before .before .before .before .before .before .lowest-from .ensures)) refl (c .before .before .put-key .ensures)
+loop-again c = collect-more (c .before .before .before .before .before .before .before .before .loop .inv) (told-key (c .before .before .before .before .before .f .given .1) (c .before .before .before .before .before .before .before .lowest-from .ensures)) refl (search needs) (c .before .before .put-key .ensures)
 
 pub collect-spec : {M : Type 1} → statement M
 collect-spec =
@@ -63,6 +68,7 @@ collect-spec =
     returns
     cast-put-key
     put-key-requires
+    add-n
     add-k
     loop-less
     loop-again)

@@ -1,27 +1,28 @@
 -- `lines::put_key` meets its contract. Assumes nothing.
-use Rattle.lines.proofs.WrittenLaws.{put-past}
+use native.Mathlib.Omega.{arith}
 use borrow.Author.Needs.{needs}
+use Rattle.lines.specs.Lines.{levelIn}
+use Rattle.lines.proofs.ListLaws.{put-placed, place-fits}
 use Rattle.lines.proofs.put_key.Statement.{statement}
 use Rattle.lines.proofs.put_key.Tie as tie
 
-mul-keys : tie.Need-mul-keys
-mul-keys c = search needs
+level-of-requires : tie.Need-level-of-requires
+level-of-requires c κs = search needs
 
-slice-write-keys : tie.Need-slice-write-keys
-slice-write-keys c = search needs
+up-to-requires : tie.Need-up-to-requires
+up-to-requires c κs = search needs
 
-add-result : tie.Need-add-result
-add-result c = search needs
+put-in-requires : tie.Need-put-in-requires
+put-in-requires c κs = (place-fits _ (c .before .before .before .before .before .before .args .keys .now) _ _ (omega (arith, c .before .before .before .before .before .before .pre)) (c .before .up-to .ensures), c .before .before .before .before .before .before .pre)
 
 same-length : tie.Need-same-length
 same-length c = search needs
 
 returns : tie.Need-returns
-returns c = search needs
-
-returns-2 : tie.Need-returns-2
-returns-2 c = put-past _ _ _ (c .before .pre) (c .if1 .left)
+returns c =
+    let a = c .before .before .before .before .before .before .before .before .before .args in
+    λ x. put-placed (levelIn (a .levels .now)) x (a .keys .now) _ _ _ _ (c .before .before .before .before .before .before .before .before .before .pre) (omega arith) (c .before .before .before .before .before .before .level-of .ensures) (c .before .before .before .before .up-to .ensures) (c .before .before .put-in .ensures)
 
 pub put-key-spec : {M : Type 1} → statement M
 put-key-spec =
-    tie.close (tie.spec mul-keys slice-write-keys add-result same-length returns returns-2)
+    tie.close (tie.spec level-of-requires up-to-requires put-in-requires same-length returns)
