@@ -5,16 +5,17 @@ ghost use mathlib.Core.Bool.{true};
 ghost use Prim.Native.Nat.{_-_, _≤_};
 ghost use lib.ListN.{length};
 ghost use Rattle.table.specs.Check.{isTable, check};
+ghost use Rattle.gate_day.specs.Days.{largest};
 use libc::STDIN_FILENO;
 use libc::STDOUT_FILENO;
 use table::Checked;
 use table::ImageRefusal;
 
 // No image is longer.
-const LARGEST: usize = 3287;
+const LARGEST: usize = gate_day::LARGEST;
 
 // The bytes of a length.
-const LENGTH: usize = 4;
+const LENGTH: usize = gate_day::IMAGE_LENGTH_BYTES;
 
 // The bytes from `from` up to `end` to the front; how many they are.
 fn shift(buffer: &mut [u8], from: usize, end: usize) -> usize
@@ -102,7 +103,7 @@ fn answer(image: &[u8]) {
 
 // The image by its length, over the front of the space; how many bytes it has, or 0 where it is cut short or longer than the largest.
 fn read_image(space: &mut [u8]) -> usize
-    requires { ⌜ 3287 ≤ length (now space) ⌝ }
+    requires { ⌜ largest ≤ length (now space) ⌝ }
     ensures { λ r. ⌜ r ≤ length (now (space .exit)) ⌝ }
 {
     let got = io::read_full(STDIN_FILENO, &mut space[..LENGTH]);

@@ -8,6 +8,7 @@ ghost use Rattle.machine.specs.State.{mostWaiting};
 ghost use Rattle.records.specs.Records.{mostKeys};
 ghost use Rattle.slots.specs.Slots.{Whole};
 ghost use Rattle.table.specs.Check.{isTable};
+ghost use Rattle.gate_day.specs.Days.{largest};
 ghost use Rattle.gate_day.specs.Views.{Kept};
 use gate_day::Day;
 use heads::Head;
@@ -23,10 +24,10 @@ use table::ImageRefusal;
 use tags::GlobalTag;
 
 // No image is longer.
-const LARGEST: usize = 3287;
+const LARGEST: usize = gate_day::LARGEST;
 
 // The bytes of a length.
-const LENGTH: usize = 4;
+const LENGTH: usize = gate_day::IMAGE_LENGTH_BYTES;
 
 // ---- lines
 
@@ -632,7 +633,7 @@ fn say_no_image(said: u64, there: u64) {
 
 // The image by its length, over the front of the space; how many bytes it has, or 0 where it is cut short or longer than the largest.
 fn read_image(space: &mut [u8]) -> usize
-    requires { ⌜ 3287 ≤ length (now space) ⌝ }
+    requires { ⌜ largest ≤ length (now space) ⌝ }
     ensures { λ r. ⌜ r ≤ length (now (space .exit)) ⌝ }
 {
     let got = io::read_full(STDIN_FILENO, &mut space[..LENGTH]);
