@@ -1,5 +1,6 @@
 pub mod PartLaws
 pub mod CallLaws
+pub mod HeadLaws
 pub mod RunLaws
 pub mod StepLaws
 pub mod StartLaws

@@ -14,7 +14,7 @@ use Rattle.machine.specs.Table.{scopes}
 use Rattle.machine.specs.State.{State, mostWaiting}
 use Rattle.machine.specs.Machine as M
 use Rattle.machine.specs.Machine.{rules, perform, step}
-use Rattle.kept.specs.Kept.{rules-tell, step-performs}
+use Rattle.kept.specs.Kept.{rules-tell, step-performs, step-keeps}
 use Rattle.slots.specs.Slots.{eventsOf}
 use Rattle.scopes.specs.Scopes.{mostScopes, scopesOf}
 use Rattle.lens.specs.declared.Counts.{Counts}
@@ -67,6 +67,11 @@ told-broken e f = ap ofNext (sym e) ∙ f
 pub told-whole : {x : code.Next} {y : Next} {m : ℕ} → x ≡ N.Whole m → ofNext x ≡ y → whole m ≡ y
 told-whole e f = ap ofNext (sym e) ∙ f
 
+-- no more wait than may
+pub kept-few : {img : Image} {d : Day} → Kept img d → d .counts .waiting ≤ mostWaiting
+kept-few {img} {d} k =
+    U.waits img (viewOf img d) (k .keeps) (d .modes) (d .scopes) (d .events) (d .values) (d .buckets) (d .counts) (d .held) (k .unpacked) .few
+
 module _ {img : Image} {bytes : List ℕ} {first : State} {old : List ℕ} {modes ss events values buckets : List ℕ} {c : Counts} {h : store.Counts}
     {turns used written : ℕ} {out : List ℕ} (g : Running img bytes first old modes ss events values buckets c h turns used written out) where
   abbrev s : State
@@ -89,6 +94,19 @@ module _ {img : Image} {bytes : List ℕ} {first : State} {old : List ℕ} {mode
 
   pub good : Good events values buckets c h
   good = rows-good s events values buckets c h (u .in-events) (U.room img s (g .keeps)) (rules-tell img s (g .keeps) .sound .queued .work) (u .in-store) (U.fits img s (g .keeps))
+
+  -- a transition's answer and arrays are those of the machine's step
+  transited : (a : Request) {r : Transited} {ss-end events-end values-end buckets-end : List ℕ} →
+      ((s : State) → rules img s ≡ true → Unpacked s modes ss events values buckets c h → Applied (perform img s (callOf a)) r ss-end events-end values-end buckets-end) →
+      Applied (step img s (callOf a)) r ss-end events-end values-end buckets-end
+  transited a {r} {ss-end} {events-end} {values-end} {buckets-end} w =
+      subst (λ o. Applied o r ss-end events-end values-end buckets-end) (sym (step-performs img s (callOf a) (g .keeps))) (w s (g .keeps) u)
+
+  pub transited-few : {o : Op} {a : Request} → o ≡ A.Transition a → {r : Transited} {ss-end events-end values-end buckets-end : List ℕ} →
+      ((s : State) → rules img s ≡ true → Unpacked s modes ss events values buckets c h → Applied (perform img s (callOf a)) r ss-end events-end values-end buckets-end) →
+      r .counts .waiting ≤ mostWaiting
+  transited-few {o} {a} i {r} {ss-end} {events-end} {values-end} {buckets-end} w =
+      U.waits img (step img s (callOf a) .state) (step-keeps img s (callOf a) (g .keeps)) (r .modes) ss-end events-end values-end buckets-end (r .counts) (r .held) (transited a w .unpacked) .few
 
   pub same-long : length out ≡ length old
   same-long = written-long (g .are-written)
@@ -134,7 +152,7 @@ module _ {img : Image} {bytes : List ℕ} {first : State} {old : List ℕ} {mode
         Running img bytes first old (r .modes) ss-end events-end values-end buckets-end (r .counts) (r .held) (turns - 1) next written-end out-end
     transited-on {o} {a} i b {r} {ss-end} {events-end} {values-end} {buckets-end} w d j {written-end} {out-end} y =
         let k = transit-record parsed after a (sym b ∙ i) in
-        let v = subst (λ o. Applied o r ss-end events-end values-end buckets-end) (sym (step-performs img s (callOf a) (g .keeps))) (w s (g .keeps) u) in
+        let v = transited a w in
         on (r .modes) ss-end events-end values-end buckets-end (r .counts) (r .held) written-end out-end (rw k (v .unpacked))
         (rw k (written-as y (sym (line-bare img d) ∙ ap (lineOf img) (j ∙ v .reply))))
 

@@ -7,6 +7,7 @@ ghost use lib.ListN.{length, take};
 ghost use Rattle.machine.specs.Machine.{ok};
 ghost use Rattle.slots.specs.Slots.{eventsOf};
 ghost use Rattle.scopes.specs.Scopes.{scopesOf};
+ghost use Rattle.queue.specs.Queue.{headsOf, Held};
 ghost use Rattle.lens.specs.Lens.{Waits};
 ghost use Rattle.pushes.specs.Pushes.{Pushes, replyOf};
 ghost use Rattle.records.specs.Records.{mostKeys, recordsFrom};
@@ -182,21 +183,27 @@ fn unpushed(counts: lens::Counts) -> Pushed
     }
 }
 
-// A push by its record; what is no push changes nothing.
+// A push by its record; what is no push changes nothing. Every queue's least tag is kept.
 fn push(
     image: &[u8],
     scopes: &[u64; scopes::ROOM],
     events: &mut [u64; slots::ROOM],
+    heads: &mut [u64; queue::HEADS],
     counts: lens::Counts,
     parsed: Parsed,
     keys: &[u16],
 ) -> Pushed
     requires { ⌜ Waits (now events) counts ⌝ }
     requires { ⌜ keyCount parsed ≤ length (now keys) ⌝ }
+    requires { ⌜ Held (now heads) (headsOf (take (counts .waiting) (eventsOf (now events)))) ⌝ }
     ensures { λ r. ⌜ Pushes (pushBy (now (image .entry)) (scopesOf (now (scopes .entry))) (take (counts .waiting) (eventsOf (now (events .entry)))) (counts .work) parsed (take (keyCount parsed) (now (keys .entry)))) r (now (events .exit)) ⌝ }
+    ensures { λ r. ⌜ Held (now (heads .exit)) (headsOf (take (r .counts .waiting) (eventsOf (now (events .exit))))) ⌝ }
 {
     let n = key_count(parsed);
-    push_with(image, scopes, events, counts, parsed, &keys[..n])
+    let r = push_with(image, scopes, events, counts, parsed, &keys[..n]);
+    let after = r.counts;
+    queue::grow(heads, events, counts.waiting, after.waiting);
+    r
 }
 
 // The same, of its keys alone.
@@ -299,6 +306,7 @@ pub fn run_records(image: &[u8], day: Day, bytes: &[u8], out: &mut [u8]) -> Piec
     let mut held = day.held;
     let mut keys = [0u16; records::MOST_KEYS];
     let mut actions = [0u16; slots::MOST_WAITING];
+    let mut heads = queue::heads(&events, counts.waiting);
     let mut used: usize = 0;
     let mut written: usize = 0;
     let mut ended = false;
@@ -322,7 +330,15 @@ pub fn run_records(image: &[u8], day: Day, bytes: &[u8], out: &mut [u8]) -> Piec
                 let parsed = read(bytes, used, n, &mut keys);
                 match op_of(parsed) {
                     Op::Push => {
-                        let p = push(image, &scopes, &mut events, counts, parsed, &keys);
+                        let p = push(
+                            image,
+                            &scopes,
+                            &mut events,
+                            &mut heads,
+                            counts,
+                            parsed,
+                            &keys,
+                        );
                         counts = p.counts;
                         let o = p.outcome;
                         written = say(out, written, o);
@@ -334,6 +350,7 @@ pub fn run_records(image: &[u8], day: Day, bytes: &[u8], out: &mut [u8]) -> Piec
                             &mut events,
                             counts,
                             &mut actions,
+                            &mut heads,
                         );
                         counts = p.counts;
                         written = say_popped(out, written, image, p, &actions);
@@ -355,6 +372,7 @@ pub fn run_records(image: &[u8], day: Day, bytes: &[u8], out: &mut [u8]) -> Piec
                         );
                         modes = t.modes;
                         counts = t.counts;
+                        heads = queue::heads(&events, counts.waiting);
                         held = t.held;
                         let done = t.outcome;
                         let o = outcome_of(done);

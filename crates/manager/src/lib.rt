@@ -872,7 +872,8 @@ impl Manager {
             };
         }
         let mut keys = [0u16; MOST_WAITING];
-        let p = pops::pop_next_event(image, &scopes, &mut events, counts, &mut keys);
+        let mut heads = queue::heads(&events, counts.waiting);
+        let p = pops::pop_next_event(image, &scopes, &mut events, counts, &mut keys, &mut heads);
         finish_pop(u, events, keys, p)
     }
 }

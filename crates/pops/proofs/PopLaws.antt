@@ -4,10 +4,9 @@ use mathlib.Core.Path.{_≡_, refl, sym, ap, _∙_}
 use mathlib.Core.List.{List, [], _∷_, _++_, map, append-nil, append-assoc}
 use Prim.Native.Nat.{ℕ, zero, suc, _+_, _-_, _<_, _≤_}
 use native.Mathlib.Omega.{arith}
-use lib.ListN.{length, take, drop, getD, length-take}
+use lib.ListN.{length, take, drop, getD, set, length-take}
 use lib.Seq.{getD-take}
-use borrow.Author.Tests.{ne-eqb, eqb-true}
-use Rattle.lists.specs.Tests.{flag, lt-eqb, and-left, and-yes, and-no, yes-no}
+use Rattle.lists.specs.Tests.{flag, lt-eqb, and-yes, and-no}
 use Rattle.lists.specs.Lists.{keep, lose, count, every, foldl, from}
 use Rattle.lists.specs.Lay.{lay}
 use Rattle.lists.specs.Rows.{tab-at}
@@ -15,14 +14,16 @@ use Rattle.lists.specs.Every.{count-split}
 use Rattle.lists.specs.Steps.{every-pass, every-fail, every-end}
 use Rattle.tags.specs.Tags.{Tag, zeroTag, sameTag, earlier}
 use Rattle.tags.specs.Views.{ofGlobal}
-use Rattle.machine.specs.State.{Event, root, mostWaiting, ordinary, atHead, inQueue}
-use Rattle.machine.specs.Heads.{Head, Least, noTag, least, empty, head, leastOf, lesser, rootOf, sooner, isAt}
+use Rattle.machine.specs.State.{Event, root, mostWaiting, ordinary, atHead}
+use Rattle.machine.specs.Heads.{Head, Least, noTag, least, empty, head, leastOf, rootOf, sooner, isAt}
 use Rattle.machine.specs.Machine.{Reply, nothing, tag, peekAt}
 use Rattle.slots.specs.Slots as slot
 use Rattle.slots.specs.Slots.{eventsOf}
 use Rattle.scopes.specs.Scopes.{Scope, mostScopes}
 use Rattle.queue.specs.Queue as queue
-use Rattle.queue.specs.Queue.{ofStamp, queues, queueOf, leastsOf, headsOf}
+use Rattle.queue.specs.Queue.{ofStamp, queues, queueOf, entryOf, lowestOf, leastsOf, headsOf}
+use Rattle.queue.specs.declared.Stamp.{Stamp}
+use Rattle.queue.proofs.LowLaws.{least-lose, other-queue, heads-taken}
 use Rattle.heads.specs.Found.{headOf, headIn, leastHead}
 use Rattle.heads.specs.declared.HeadAt.{HeadAt}
 use Rattle.heads.specs.declared.Head as code
@@ -72,6 +73,9 @@ heads-root es = tab-at (λ k. leastOf (queueOf k) es) queues mostScopes noTag (o
 pub record Seen (ss : List Scope) (n : ℕ) (es : List Event) (a b : code.Head) : Type 0 where
   pub root : headOf a ≡ rootIn es
   pub local : headOf b ≡ localIn ss n es
+
+pub local-seen : (ss : List Scope) (n : ℕ) (es : List Event) {h : Head} {hs : List ℕ} → queue.Held hs (headsOf es) → h ≡ leastHead ss (leastsOf hs) n → h ≡ localIn ss n es
+local-seen ss n es w q = q ∙ rw (w .things)
 
 module _ (ss : List Scope) (n : ℕ) (es : List Event) (a b : code.Head) where
   pub seen :
@@ -156,32 +160,14 @@ pub heads-same : (ss : List Scope) (ls ms : List Least) (n : ℕ) → ((i : ℕ)
 unfolding leastHead headIn
 heads-same ss ls ms n h = ap (foldl sooner empty) (map-below (headIn ss ls) (headIn ss ms) n 0 (λ j b. rw (h j (omega arith))))
 
--- what goes from other queues does not change a queue's least tag
-least-lose : (q : ℕ) (p : Event → Bool) → ((e : Event) → p e ≡ true → inQueue q e ≡ false) → (es : List Event) → leastOf q (lose p es) ≡ leastOf q es
-unfolding leastOf lose
-least-lose q p o [] = refl
-least-lose q p o (e ∷ es) = go (p e) (inQueue q e) refl refl (least-lose q p o es)
-  where
-    go : (b c : Bool) → p e ≡ b → inQueue q e ≡ c → leastOf q (lose p es) ≡ leastOf q es →
-        leastOf q (cond b (lose p es) (e ∷ lose p es)) ≡ cond c (lesser (e .tag) (leastOf q es)) (leastOf q es)
-    go true true a b r = absurd (yes-no b (o e a))
-    go true false a b r = r
-    go false c a b r = rw (r, b)
-
 -- so taking the root's leaves the scopes' heads
 module _ (ss : List Scope) (n : ℕ) (t : Tag) (f : n ≤ mostScopes) where
-  other-queue : (i : ℕ) (x : Tag) → i < mostScopes → (e : Event) → atHead root x e ≡ true → inQueue i e ≡ false
-  unfolding atHead inQueue
-  other-queue i x h e a =
-      let r : e .queue ≡ root = eqb-true _ _ (and-left _ _ a) in
-      ne-eqb _ _ (λ (m : e .queue ≡ i). omega arith)
-
   root-goes : (x : Tag) (es : List Event) → localIn ss n (lose (atHead root x) es) ≡ localIn ss n es
   root-goes x es =
       heads-same ss (headsOf (lose (atHead root x) es)) (headsOf es) n
       λ i h.
       let b : i < mostScopes = omega arith in
-      heads-scope (lose (atHead root x) es) i b ∙ (least-lose i (atHead root x) (other-queue i x b) es ∙ sym (heads-scope es i b))
+      heads-scope (lose (atHead root x) es) i b ∙ (least-lose i (atHead root x) (other-queue root i x (λ (m : root ≡ i). omega arith)) es ∙ sym (heads-scope es i b))
 
   pub root-leaves : (es : List Event) (work : ℕ) → localIn ss n (tookAt t (untaken es work) (rootIn es) .waiting) ≡ localIn ss n es
   unfolding taken
@@ -266,6 +252,13 @@ module _ (t : Tag) (k : Took) (h : code.Head) where
 module _ (k : Took) (before : Gathering) (ws keys : List ℕ) (g : Gathered) (c : Counts) (w : Takes k before ws keys g c) where
   takes-waiting : take (c .waiting) (eventsOf ws) ≡ k .waiting
   takes-waiting = queued-is (k .waiting) (k .work) ws c (w .queued) (rw (← w .queued .waiting) (w .waits .few))
+
+  -- every queue's least tag, where events of one queue went
+  pub heads-left :
+      (q : ℕ) (x : Tag) (es : List Event) (f : Bool) (t : Stamp) {hs out : List ℕ} → k .waiting ≡ lose (atHead q x) es → queue.Held hs (headsOf es) →
+      lowestOf f t ≡ leastOf q (lose (atHead q x) es) → queue.Held out (set (leastsOf hs) (entryOf q) (lowestOf f t)) →
+      queue.Held out (headsOf (take (c .waiting) (eventsOf ws)))
+  heads-left q x es f t e h l o = rw (takes-waiting, e, ← heads-taken q x es, ← h .things, ← l) o
 
   pub takes-here : k ≡ after (k .events) (here ws c)
   takes-here = rw (takes-waiting, w .queued .work, append-nil (k .events))

@@ -10,7 +10,7 @@ ghost use Rattle.machine.specs.Heads.{sooner, isAt};
 ghost use Rattle.machine.specs.Machine.{peekAt};
 ghost use Rattle.slots.specs.Slots.{eventsOf, eventOf};
 ghost use Rattle.scopes.specs.Scopes.{mostScopes, scopesOf};
-ghost use Rattle.queue.specs.Queue.{ofStamp, headsOf};
+ghost use Rattle.queue.specs.Queue.{ofStamp, headsOf, Held};
 ghost use Rattle.heads.specs.Found.{headOf, leastHead};
 ghost use Rattle.ready.specs.Gathering.{gatheringOf};
 ghost use Rattle.lens.specs.Lens.{Waits};
@@ -94,32 +94,21 @@ fn peek_of(root: Head, local: Head) -> Peeked
     }
 }
 
-// The least head of the first n scopes.
-fn local_head(
-    scopes: &[u64; scopes::ROOM],
-    n: u16,
-    events: &[u64; slots::ROOM],
-    waiting: usize,
-) -> Head
-    requires { ⌜ waiting ≤ mostWaiting ⌝ }
-    ensures { λ r. ⌜ headOf r ≡ leastHead (scopesOf (now (scopes .entry))) (headsOf (take waiting (eventsOf (now (events .entry))))) n ⌝ }
-{
-    let heads = queue::heads(events, waiting);
-    heads::scope_head(&heads, scopes, n)
-}
-
 // ---- taking
 
 // All events at a head.
 fn take_at(
     events: &mut [u64; slots::ROOM],
     keys: &mut [u16; slots::MOST_WAITING],
+    heads: &mut [u64; queue::HEADS],
     given: Taking,
     h: HeadAt,
 ) -> Taking
     requires { ⌜ Waits (now events) (given .counts) ⌝ }
     requires { ⌜ (length (now keys) ≡ mostWaiting) × (given .gathered .actions + given .counts .waiting ≤ mostWaiting) ⌝ }
+    requires { ⌜ Held (now heads) (headsOf (take (given .counts .waiting) (eventsOf (now events)))) ⌝ }
     ensures { λ r. ⌜ Takes (taken (h .queue) (ofStamp (h .stamp)) (untaken (take (given .counts .waiting) (eventsOf (now (events .entry)))) (given .counts .work))) (gatheringOf (given .gathered) (now (keys .entry))) (now (events .exit)) (now (keys .exit)) (r .gathered) (r .counts) ⌝ }
+    ensures { λ r. ⌜ Held (now (heads .exit)) (headsOf (take (r .counts .waiting) (eventsOf (now (events .exit))))) ⌝ }
 {
     let none = KeySet::empty();
     let stamp = h.stamp;
@@ -132,6 +121,7 @@ fn take_at(
     let counts = given.counts;
     let before = given.gathered;
     let gone = ready::take_out(events, counts.waiting, which, keys, before);
+    queue::renew(heads, h.queue, gone.found, gone.lowest);
     let gathered = gone.gathered;
     let left = Counts {
         waiting: gone.count,
@@ -147,20 +137,23 @@ fn take_at(
 fn take_head(
     events: &mut [u64; slots::ROOM],
     keys: &mut [u16; slots::MOST_WAITING],
+    heads: &mut [u64; queue::HEADS],
     given: Taking,
     h: Head,
     t: GlobalTag,
 ) -> Taking
     requires { ⌜ Waits (now events) (given .counts) ⌝ }
     requires { ⌜ (length (now keys) ≡ mostWaiting) × (given .gathered .actions + given .counts .waiting ≤ mostWaiting) ⌝ }
+    requires { ⌜ Held (now heads) (headsOf (take (given .counts .waiting) (eventsOf (now events)))) ⌝ }
     ensures { λ r. ⌜ Takes (tookAt (ofGlobal t) (untaken (take (given .counts .waiting) (eventsOf (now (events .entry)))) (given .counts .work)) (headOf h)) (gatheringOf (given .gathered) (now (keys .entry))) (now (events .exit)) (now (keys .exit)) (r .gathered) (r .counts) ⌝ }
+    ensures { λ r. ⌜ Held (now (heads .exit)) (headsOf (take (r .counts .waiting) (eventsOf (now (events .exit))))) ⌝ }
 {
     match h {
         Head::Empty => given,
         Head::At(x) => {
             let g = x.tag;
             if g.same(t) {
-                take_at(events, keys, given, x)
+                take_at(events, keys, heads, given, x)
             } else {
                 given
             }
@@ -173,13 +166,16 @@ fn take_scopes(
     scopes: &[u64; scopes::ROOM],
     events: &mut [u64; slots::ROOM],
     keys: &mut [u16; slots::MOST_WAITING],
+    heads: &mut [u64; queue::HEADS],
     given: Taking,
     turn: Turn,
 ) -> Taking
     requires { ⌜ Waits (now events) (given .counts) ⌝ }
     requires { ⌜ (length (now keys) ≡ mostWaiting) × (given .gathered .actions + given .counts .waiting ≤ mostWaiting) ⌝ }
+    requires { ⌜ Held (now heads) (headsOf (take (given .counts .waiting) (eventsOf (now events)))) ⌝ }
     requires { ⌜ headOf (turn .local) ≡ leastHead (scopesOf (now scopes)) (headsOf (take (given .counts .waiting) (eventsOf (now events)))) (turn .scopes) ⌝ }
     ensures { λ r. ⌜ Takes (tookScopes (turn .turns) (scopesOf (now (scopes .entry))) (turn .scopes) (ofGlobal (turn .tag)) (untaken (take (given .counts .waiting) (eventsOf (now (events .entry)))) (given .counts .work))) (gatheringOf (given .gathered) (now (keys .entry))) (now (events .exit)) (now (keys .exit)) (r .gathered) (r .counts) ⌝ }
+    ensures { λ r. ⌜ Held (now (heads .exit)) (headsOf (take (r .counts .waiting) (eventsOf (now (events .exit))))) ⌝ }
 {
     let t = turn.tag;
     let n = turn.scopes;
@@ -189,9 +185,8 @@ fn take_scopes(
     while 0 < turns {
         turns -= 1;
         if is_at(local, t) {
-            out = take_head(events, keys, out, local, t);
-            let counts = out.counts;
-            local = local_head(scopes, n, events, counts.waiting);
+            out = take_head(events, keys, heads, out, local, t);
+            local = heads::scope_head(heads, scopes, n);
         } else {
             return out;
         }
@@ -199,24 +194,26 @@ fn take_scopes(
     out
 }
 
-// The events at the least head's tag: the root's, then the scopes'.
+// The events at the least head's tag: the root's, then the scopes'. Every queue's least tag is lent, and kept.
 pub fn pop_next_event(
     image: &[u8],
     scopes: &[u64; scopes::ROOM],
     events: &mut [u64; slots::ROOM],
     counts: Counts,
     keys: &mut [u16; slots::MOST_WAITING],
+    heads: &mut [u64; queue::HEADS],
 ) -> Popped
     requires { ⌜ count (now image) scope ≤ mostScopes ⌝ }
     requires { ⌜ Waits (now events) counts ⌝ }
     requires { ⌜ length (now keys) ≡ mostWaiting ⌝ }
+    requires { ⌜ Held (now heads) (headsOf (take (counts .waiting) (eventsOf (now events)))) ⌝ }
     ensures { λ r. ⌜ Pops (popOf (scopesOf (now (scopes .entry))) (count (now (image .entry)) scope) (take (counts .waiting) (eventsOf (now (events .entry)))) (counts .work)) r (now (events .exit)) (now (keys .exit)) ⌝ }
+    ensures { λ r. ⌜ Held (now (heads .exit)) (headsOf (take (r .counts .waiting) (eventsOf (now (events .exit))))) ⌝ }
 {
     let n = rows::count(image, rows::SCOPE);
     let waiting = counts.waiting;
-    let heads = queue::heads(events, waiting);
-    let root = heads::root_head(&heads);
-    let local = heads::scope_head(&heads, scopes, n);
+    let root = heads::root_head(heads);
+    let local = heads::scope_head(heads, scopes, n);
     let none = Gathered::nothing_yet(keys);
     match peek_of(root, local) {
         Peeked::Nothing => Popped {
@@ -230,14 +227,14 @@ pub fn pop_next_event(
                 gathered: none,
                 counts,
             };
-            let first = take_head(events, keys, start, root, t);
+            let first = take_head(events, keys, heads, start, root, t);
             let turn = Turn {
                 tag: t,
                 scopes: n,
                 local,
                 turns: waiting,
             };
-            let all = take_scopes(scopes, events, keys, first, turn);
+            let all = take_scopes(scopes, events, keys, heads, first, turn);
             let gathered = all.gathered;
             let left = all.counts;
             Popped {

@@ -48,16 +48,20 @@ module _ (ws : List ℕ) (k : ℕ) where
   unfolding decode tab row
   read-nothing h e = sym (H.thing-get decode encode leastWords queues encode-long ws k noTag h ∙ simp (ne-eqb _ _ e))
 
-  module _ (t : Stamp) (h : Whole ws) where
-    pub put-none : queues ≤ k → Held ws (set (leastsOf ws) k (least (ofStamp t)))
-    put-none b = H.held-past decode encode leastWords queues encode-long ws k (least (ofStamp t)) h b
+  module _ (h : Whole ws) where
+    pub put-past : (l : Least) → queues ≤ k → Held ws (set (leastsOf ws) k l)
+    put-past l b = H.held-past decode encode leastWords queues encode-long ws k l h b
 
     pub put-there :
-        t .1 < 4294967296 → k < queues → {out : List ℕ} → out ≡ stores ws (k * leastWords) 0 (1 ∷ t .0 ∷ t .1 ∷ []) →
+        (t : Stamp) → t .1 < 4294967296 → k < queues → {out : List ℕ} → out ≡ stores ws (k * leastWords) 0 (1 ∷ t .0 ∷ t .1 ∷ []) →
         Held out (set (leastsOf ws) k (least (ofStamp t)))
     unfolding encode
-    put-there p b o =
+    put-there t p b o =
         H.held-stores decode encode leastWords queues encode-long ws k (least (ofStamp t)) (1 ∷ t .0 ∷ t .1 ∷ []) h (decode-there t p) b refl o
+
+    pub put-nothing : k < queues → {out : List ℕ} → out ≡ stores ws (k * leastWords) 0 (0 ∷ 0 ∷ 0 ∷ []) → Held out (set (leastsOf ws) k noTag)
+    unfolding encode decode
+    put-nothing b o = H.held-stores decode encode leastWords queues encode-long ws k noTag (0 ∷ 0 ∷ 0 ∷ []) h refl b refl o
 
 pub blank-heads : Held (replicate (queues * leastWords) 0) (replicate queues noTag)
 unfolding decode encode
@@ -92,7 +96,7 @@ module _ (ws : List ℕ) (q : ℕ) (t : Stamp) {k : ℕ} (o : k ≡ entryOf q) (
 -- ---- one event more in front
 
 -- an entry's queue and a queue's entry
-entry-own : (q k : ℕ) → k < queues → entryOf q ≡ k → queueOf k ≡ q
+pub entry-own : (q k : ℕ) → k < queues → entryOf q ≡ k → queueOf k ≡ q
 entry-own q k h e = ⊎-elim (λ (r : q ≡ root). at-root r) (λ (r : q ≡ root → ⊥). at-scope r) (same? q root)
   where
     at-root : q ≡ root → queueOf k ≡ q
@@ -113,7 +117,7 @@ entry-own q k h e = ⊎-elim (λ (r : q ≡ root). at-root r) (λ (r : q ≡ roo
     at-scope : (q ≡ root → ⊥) → queueOf k ≡ q
     at-scope r = below r (ltb q mostScopes) refl
 
-entry-other : (q k : ℕ) → k < queues → (k ≡ entryOf q → ⊥) → q ≡ queueOf k → ⊥
+pub entry-other : (q k : ℕ) → k < queues → (k ≡ entryOf q → ⊥) → q ≡ queueOf k → ⊥
 entry-other q k h e r = e (sym (back k h) ∙ ap entryOf (sym r))
   where
     back : (k : ℕ) → k < queues → entryOf (queueOf k) ≡ k

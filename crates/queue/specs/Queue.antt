@@ -9,7 +9,7 @@ use Rattle.lists.specs.Held as H
 use Rattle.lists.specs.Lists.{lose, keep, count}
 use Rattle.lists.specs.Rows.{tab}
 use Rattle.refusals.specs.declared.Refusal.the-variants as R
-use Rattle.tags.specs.Tags.{Tag, at}
+use Rattle.tags.specs.Tags.{Tag, at, earlier}
 use Rattle.machine.specs.State.{Event, root, mostWaiting, inQueue, atHead, ordinary}
 use Rattle.machine.specs.Heads.{Least, noTag, least, lesser, leastOf}
 use Rattle.scopes.specs.Scopes.{mostScopes}
@@ -37,6 +37,19 @@ ofStamp t = at (t .0) (t .1)
 abbrev pub ofEarliest : Earliest → Least
 ofEarliest E.Nothing = noTag
 ofEarliest (E.At t) = least (ofStamp t)
+
+-- the least tag so far, if there is one
+abbrev pub lowestOf : Bool → Stamp → Least
+lowestOf found t = cond found (least (ofStamp t)) noTag
+
+-- no earlier than it
+abbrev pub lowers : Tag → Least → Bool
+lowers t noTag = true
+lowers t (least u) = not (earlier u t)
+
+-- an event of a queue that takes its place
+unfoldable pub isLower : ℕ → Least → Event → Bool
+isLower q l e = inQueue q e && lowers (e .tag) l
 
 -- which entry is a queue's: past the end for what is no queue
 abbrev pub entryOf : ℕ → ℕ

@@ -1,7 +1,7 @@
 // Waiting events in lent rows: accepting, the least tag of each queue, gathering and taking out.
 // Document 01, "The plain machine"; the Rust's sched/queue.rs.
 ghost use mathlib.Core.Path.{_≡_};
-ghost use Prim.Native.Nat.{_≤_, _<_};
+ghost use Prim.Native.Nat.{_+_, _≤_, _<_};
 ghost use lib.ListN.{length, getD, set, take};
 ghost use Rattle.lists.specs.Lists.{lose, keep, count};
 ghost use Rattle.lists.specs.Lists as lists;
@@ -11,7 +11,7 @@ ghost use Rattle.machine.specs.Heads.{noTag, least, lesser};
 ghost use Rattle.tags.specs.Tags.{at, earlier};
 ghost use Rattle.slots.specs.Slots.{eventsOf, eventOf, blank, IsDue};
 ghost use Rattle.slots.specs.Slots as slot;
-ghost use Rattle.queue.specs.Queue.{acceptedAt, ofStamp, ofEarliest, entryOf, leastsOf, Whole, Held, headsOf, goesOf, oneIf};
+ghost use Rattle.queue.specs.Queue.{acceptedAt, ofStamp, ofEarliest, lowestOf, isLower, entryOf, leastsOf, Whole, Held, headsOf, goesOf, oneIf};
 use key_set::KeySet;
 use refusals::Refusal;
 use slots::Due;
@@ -113,6 +113,19 @@ fn put_least(heads: &mut [u64; HEADS], k: usize, t: Stamp)
     heads[b + 2] = t.1 as u64;
 }
 
+fn put_none(heads: &mut [u64; HEADS], k: usize)
+    requires { ⌜ Whole (now heads) ⌝ }
+    ensures { λ _. ⌜ Held (now (heads .exit)) (set (leastsOf (now (heads .entry))) k noTag) ⌝ }
+{
+    if QUEUES <= k {
+        return;
+    }
+    let b = k * LEAST_WORDS;
+    heads[b + 0] = 0;
+    heads[b + 1] = 0;
+    heads[b + 2] = 0;
+}
+
 // One event more; where its queue has an earlier one nothing is written.
 fn note(heads: &mut [u64; HEADS], d: Due)
     requires { ⌜ Whole (now heads) ⌝ }
@@ -145,6 +158,51 @@ pub fn heads(rows: &[u64; slots::ROOM], n: usize) -> [u64; HEADS]
         note(&mut out, d);
     }
     out
+}
+
+// ---- the same, kept from call to call
+
+// One event more may wait: the entry of its queue is rewritten.
+pub fn grow(heads: &mut [u64; HEADS], rows: &[u64; slots::ROOM], before: usize, after: usize)
+    requires { ⌜ Held (now heads) (headsOf (take before (eventsOf (now rows)))) ⌝ }
+    requires { ⌜ (before ≤ after) × (after ≤ before + 1) × (after ≤ mostWaiting) ⌝ }
+    ensures { λ _. ⌜ Held (now (heads .exit)) (headsOf (take after (eventsOf (now (rows .entry))))) ⌝ }
+{
+    if after == before {
+        return;
+    }
+    let d = slots::due_at(rows, before);
+    note(heads, d);
+}
+
+// The entry of a queue whose least tag is another now, or which has none.
+pub fn renew(heads: &mut [u64; HEADS], queue: u16, found: bool, lowest: Stamp)
+    requires { ⌜ Whole (now heads) ⌝ }
+    ensures { λ _. ⌜ Held (now (heads .exit)) (set (leastsOf (now (heads .entry))) (entryOf queue) (lowestOf found lowest)) ⌝ }
+{
+    let k = entry_of(queue);
+    if found {
+        put_least(heads, k, lowest);
+        return;
+    }
+    put_none(heads, k);
+}
+
+// An event of the queue takes the place of the lowest so far, if there is one, unless that is earlier.
+pub fn is_lower(queue: u16, found: bool, lowest: Stamp, d: Due) -> bool
+    ensures { λ r. ⌜ ((e : Event) → IsDue d e → r ≡ isLower queue (lowestOf found lowest) e) ⌝ }
+{
+    if d.queue == queue {
+        if found {
+            let t = Stamp(d.offset, d.microstep);
+            if lowest.earlier(t) {
+                return false;
+            }
+            return true;
+        }
+        return true;
+    }
+    false
 }
 
 // ---- taking out

@@ -11,7 +11,8 @@ use Rattle.key_set.specs.Sets.{unionOf, noKeys, wordCount}
 use Rattle.tags.specs.Tags.{Tag}
 use Rattle.rows.specs.Rows.{none}
 use Rattle.machine.specs.State.{Event, mostWaiting, ordinary}
-use Rattle.machine.specs.Heads.{Ready, addAction, readyOf}
+use Rattle.machine.specs.Heads.{Ready, addAction, readyOf, leastOf}
+use Rattle.queue.specs.Queue.{lowestOf}
 use Rattle.ready.specs.declared.Gathered.{Gathered}
 use Rattle.ready.specs.declared.Taken.{Taken}
 
@@ -63,10 +64,11 @@ abbrev pub keysAfter : List ℕ → ℕ → ℕ → List ℕ
 keysAfter keys n a = cond (isNew (take n keys) a) (set keys n a) keys
 
 -- what taking out comes to: the events that go are gathered behind what there was, with no more keys than there may be;
--- how many stay, and how many ordinary ones went
-pub record Sifted (p : Event → Bool) (es : List Event) (start : Gathering) (first : ℕ) (r : Taken) (keys : List ℕ) : Type 0 where
+-- how many stay, how many ordinary ones went, and the least tag that queue q has left
+pub record Sifted (q : ℕ) (p : Event → Bool) (es : List Event) (start : Gathering) (first : ℕ) (r : Taken) (keys : List ℕ) : Type 0 where
   pub folds : gatheringOf (r .gathered) keys ≡ foldl addedTo start (keep p es)
   pub near : r .gathered .actions ≤ first + length (keep p es)
   pub long : length keys ≡ mostWaiting
   pub left : r .count ≡ length (lose p es)
   pub went : r .ordinary ≡ count ordinary (keep p es)
+  pub least : lowestOf (r .found) (r .lowest) ≡ leastOf q (lose p es)

@@ -11,6 +11,7 @@ ghost use Rattle.slots.specs.Slots.{eventsOf, eventOf, blank, Whole, Held};
 ghost use Rattle.queue.specs.Queue.{goesOf};
 ghost use Rattle.ready.specs.Gathering.{nothingYet, addedTo, gatheringOf, countAfter, keysAfter, Sifted};
 use key_set::KeySet;
+use queue::Stamp;
 use queue::Which;
 use slots::Slot;
 
@@ -100,11 +101,13 @@ fn either(a: bool, b: bool) -> bool
     b
 }
 
-// What was gathered, how many events are left, and how many ordinary ones went.
+// What was gathered, how many events are left, how many ordinary ones went, and the least tag that the queue has left, if it has one.
 pub struct Taken {
     pub gathered: Gathered,
     pub count: usize,
     pub ordinary: usize,
+    pub found: bool,
+    pub lowest: Stamp,
 }
 
 // The events that go are gathered, in order of acceptance; those that stay, over the front.
@@ -117,12 +120,14 @@ fn sift(
 ) -> Taken
     requires { ⌜ Whole (now rows) × (n ≤ mostWaiting) ⌝ }
     requires { ⌜ (length (now keys) ≡ mostWaiting) × (g .actions + n ≤ mostWaiting) ⌝ }
-    ensures { λ r. ⌜ Sifted (goesOf which) (take n (eventsOf (now (rows .entry)))) (gatheringOf g (now (keys .entry))) (g .actions) r (now (keys .exit)) ⌝ }
+    ensures { λ r. ⌜ Sifted (which .queue) (goesOf which) (take n (eventsOf (now (rows .entry)))) (gatheringOf g (now (keys .entry))) (g .actions) r (now (keys .exit)) ⌝ }
     ensures { λ _. ⌜ Held (now (rows .exit)) (over (lose (goesOf which) (take n (eventsOf (now (rows .entry))))) (eventsOf (now (rows .entry)))) ⌝ }
 {
     let mut out = g;
     let mut w: usize = 0;
     let mut ordinary: usize = 0;
+    let mut found = false;
+    let mut lowest = Stamp(0, 0);
     let mut i: usize = 0;
     while i < n {
         let d = slots::due_at(rows, i);
@@ -135,12 +140,18 @@ fn sift(
         } else {
             queue::stay(rows, at, w);
             w += 1;
+            if queue::is_lower(which.queue, found, lowest, d) {
+                lowest = Stamp(d.offset, d.microstep);
+                found = true;
+            }
         }
     }
     Taken {
         gathered: out,
         count: w,
         ordinary,
+        found,
+        lowest,
     }
 }
 
@@ -154,7 +165,7 @@ pub fn take_out(
 ) -> Taken
     requires { ⌜ Whole (now rows) × (n ≤ mostWaiting) ⌝ }
     requires { ⌜ (length (now keys) ≡ mostWaiting) × (g .actions + n ≤ mostWaiting) ⌝ }
-    ensures { λ r. ⌜ Sifted (goesOf which) (take n (eventsOf (now (rows .entry)))) (gatheringOf g (now (keys .entry))) (g .actions) r (now (keys .exit)) ⌝ }
+    ensures { λ r. ⌜ Sifted (which .queue) (goesOf which) (take n (eventsOf (now (rows .entry)))) (gatheringOf g (now (keys .entry))) (g .actions) r (now (keys .exit)) ⌝ }
     ensures { λ _. ⌜ Held (now (rows .exit)) (lay blank (eventsOf (now (rows .entry))) (lose (goesOf which) (take n (eventsOf (now (rows .entry))))) n) ⌝ }
 {
     let r = sift(rows, n, which, keys, g);

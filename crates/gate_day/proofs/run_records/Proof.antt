@@ -8,12 +8,13 @@ use lib.ListN.{length, take}
 use Rattle.machine.specs.State.{mostWaiting}
 use Rattle.slots.specs.Slots.{eventsOf}
 use Rattle.scopes.specs.Scopes.{scopesOf}
+use Rattle.queue.specs.Queue.{Held, headsOf}
 use Rattle.store_calls.specs.Lent.{storeOf}
 use Rattle.lens.specs.Lens.{stateIn}
 use Rattle.records.specs.Records.{mostKeys}
 use Rattle.gate_day.specs.Days.{whole, nextAt}
 use Rattle.gate_day.proofs.RunLaws.{Running, running-begins, room-left, stops-turns, stops-room, stops-pending, stops-broken}
-use Rattle.gate_day.proofs.StepLaws.{pred-suc, pred-less, told-pending, told-broken, is-table, few-scopes, waits, scoped, good, same-long, fits, pushed-on, popped-on, transited-on, malformed-on, ends-here, ends-broken}
+use Rattle.gate_day.proofs.StepLaws.{kept-few, pred-suc, pred-less, told-pending, told-broken, is-table, few-scopes, waits, scoped, good, same-long, fits, pushed-on, popped-on, transited-few, transited-on, malformed-on, ends-here, ends-broken}
 use Rattle.gate_day.specs.declared.Day.{Day}
 use Rattle.lines.proofs.WrittenLaws.{written-long}
 use borrow.Author.Needs.{needs}
@@ -34,15 +35,18 @@ use Rattle.pops.proofs.pop_next_event.Reads as pop-next-event-reads
 use Rattle.transition.proofs.apply_transition.Reads as apply-transition-reads
 
 abbrev Inv-loop : tie.InvT-loop
-Inv-loop image bytes out₀ modes₀ scopes₀ events₀ values₀ buckets₀ counts₀ held₀ keys₀ actions₀ used₀ written₀ ended₀ turns₀ out modes scopes events values buckets counts held keys actions used written ended turns =
-    Running image bytes (stateIn image modes₀ (scopesOf scopes₀) (take (counts₀ .waiting) (eventsOf events₀)) (counts₀ .work) (storeOf values₀ buckets₀ held₀)) out₀ modes scopes events values buckets counts held turns used written out × (length keys ≡ mostKeys) × (length actions ≡ mostWaiting) × (ended ≡ false)
+Inv-loop image bytes out₀ modes₀ scopes₀ events₀ values₀ buckets₀ counts₀ held₀ keys₀ actions₀ heads₀ used₀ written₀ ended₀ turns₀ out modes scopes events values buckets counts held keys actions heads used written ended turns =
+    Running image bytes (stateIn image modes₀ (scopesOf scopes₀) (take (counts₀ .waiting) (eventsOf events₀)) (counts₀ .work) (storeOf values₀ buckets₀ held₀)) out₀ modes scopes events values buckets counts held turns used written out × (length keys ≡ mostKeys) × (length actions ≡ mostWaiting) × (ended ≡ false) × Held heads (headsOf (take (counts .waiting) (eventsOf events)))
 
 abbrev μ-loop : tie.MeasureT-loop
-μ-loop image bytes out₀ modes₀ scopes₀ events₀ values₀ buckets₀ counts₀ held₀ keys₀ actions₀ used₀ written₀ ended₀ turns₀ out modes scopes events values buckets counts held keys actions used written ended turns =
+μ-loop image bytes out₀ modes₀ scopes₀ events₀ values₀ buckets₀ counts₀ held₀ keys₀ actions₀ heads₀ used₀ written₀ ended₀ turns₀ out modes scopes events values buckets counts held keys actions heads used written ended turns =
     turns
 
 loop-holds : tie.Need-loop-holds Inv-loop μ-loop
-loop-holds c = let a = c .before .before .before .before .before .before .before .before .before .before .args in let k = c .before .before .before .before .before .before .before .before .before .before .pre in (running-begins (a .image .now) (a .bytes .now) _ (a .out .now) _ _ _ _ _ _ _ (k .keeps) (k .unpacked), search needs, search needs, refl)
+loop-holds c = let a = c .before .before .before .before .before .before .before .before .before .before .before .before .args in let k = c .before .before .before .before .before .before .before .before .before .before .before .before .pre in (running-begins (a .image .now) (a .bytes .now) _ (a .out .now) _ _ _ _ _ _ _ (k .keeps) (k .unpacked), search needs, search needs, refl, c .heads .ensures)
+
+heads-requires : tie.Need-heads-requires Inv-loop μ-loop
+heads-requires c κs = kept-few (c .before .before .before .before .before .before .before .before .before .before .before .pre)
 
 sub-turns : tie.Need-sub-turns Inv-loop μ-loop
 sub-turns c = search needs
@@ -81,19 +85,19 @@ slice-aggregate-push : tie.Need-slice-aggregate-push Inv-loop μ-loop
 slice-aggregate-push c = search needs
 
 push-requires : tie.Need-push-requires Inv-loop μ-loop
-push-requires c κs = (waits (c .before .before .before .before .before .before .before .before .before .before .before .before .before .before .before .loop .inv .0), rw (c .before .before .before .before .before .before .read .ensures .long ∙ c .before .before .before .before .before .before .before .before .before .before .before .before .before .before .before .loop .inv .1) (c .before .before .before .before .before .before .read .ensures .few))
+push-requires c κs = (waits (c .before .before .before .before .before .before .before .before .before .before .before .before .before .before .before .before .loop .inv .0), (rw (c .before .before .before .before .before .before .before .read .ensures .long ∙ c .before .before .before .before .before .before .before .before .before .before .before .before .before .before .before .before .loop .inv .1) (c .before .before .before .before .before .before .before .read .ensures .few), c .before .before .before .before .before .before .before .before .before .before .before .before .before .before .before .before .loop .inv .4))
 
 say-requires : tie.Need-say-requires Inv-loop μ-loop
-say-requires c κs = room-left _ _ _ _ _ _ _ _ _ _ _ _ _ _ _ (c .before .before .before .before .before .before .before .before .before .before .before .before .before .before .before .before .before .before .loop .inv .0)
+say-requires c κs = room-left _ _ _ _ _ _ _ _ _ _ _ _ _ _ _ (c .before .before .before .before .before .before .before .before .before .before .before .before .before .before .before .before .before .before .before .loop .inv .0)
 
 enum-told-4 : tie.Need-enum-told-4 Inv-loop μ-loop
 enum-told-4 c = search needs
 
 pop-next-event-requires : tie.Need-pop-next-event-requires Inv-loop μ-loop
-pop-next-event-requires c κs = (few-scopes (c .before .before .before .before .before .before .before .before .before .before .before .before .before .before .before .loop .inv .0), (waits (c .before .before .before .before .before .before .before .before .before .before .before .before .before .before .before .loop .inv .0), c .before .before .before .before .before .before .before .before .before .before .before .before .before .before .before .loop .inv .2))
+pop-next-event-requires c κs = (few-scopes (c .before .before .before .before .before .before .before .before .before .before .before .before .before .before .before .before .loop .inv .0), (waits (c .before .before .before .before .before .before .before .before .before .before .before .before .before .before .before .before .loop .inv .0), (c .before .before .before .before .before .before .before .before .before .before .before .before .before .before .before .before .loop .inv .2, c .before .before .before .before .before .before .before .before .before .before .before .before .before .before .before .before .loop .inv .4)))
 
 say-popped-requires : tie.Need-say-popped-requires Inv-loop μ-loop
-say-popped-requires c κs = (room-left _ _ _ _ _ _ _ _ _ _ _ _ _ _ _ (c .before .before .before .before .before .before .before .before .before .before .before .before .before .before .before .before .before .before .before .loop .inv .0), (c .before .before .before .pop-next-event .ensures .takes .long, omega (arith, c .before .before .before .pop-next-event .ensures .takes .room)))
+say-popped-requires c κs = (room-left _ _ _ _ _ _ _ _ _ _ _ _ _ _ _ (c .before .before .before .before .before .before .before .before .before .before .before .before .before .before .before .before .before .before .before .before .loop .inv .0), (c .before .before .before .pop-next-event .ensures .0 .takes .long, omega (arith, c .before .before .before .pop-next-event .ensures .0 .takes .room)))
 
 enum-known-request : tie.Need-enum-known-request Inv-loop μ-loop
 enum-known-request c = search needs
@@ -101,11 +105,14 @@ enum-known-request c = search needs
 apply-transition-requires : tie.Need-apply-transition-requires Inv-loop μ-loop
 apply-transition-requires c κs = (is-table (c .before .before .before .before .before .before .before .before .before .before .before .before .before .before .before .before .before .loop .inv .0), (scoped (c .before .before .before .before .before .before .before .before .before .before .before .before .before .before .before .before .before .loop .inv .0), good (c .before .before .before .before .before .before .before .before .before .before .before .before .before .before .before .before .before .loop .inv .0)))
 
+heads-requires-2 : tie.Need-heads-requires-2 Inv-loop μ-loop
+heads-requires-2 c κs = transited-few (c .before .before .before .before .before .before .before .before .before .before .before .before .before .before .before .before .before .before .before .before .before .loop .inv .0) (c .before .before .before .before .before .before .before .before .before .request .given .1) (c .before .before .before .apply-transition .ensures)
+
 outcome-of-requires : tie.Need-outcome-of-requires Inv-loop μ-loop
 outcome-of-requires c κs = search needs
 
 say-requires-2 : tie.Need-say-requires-2 Inv-loop μ-loop
-say-requires-2 c κs = room-left _ _ _ _ _ _ _ _ _ _ _ _ _ _ _ (c .before .before .before .before .before .before .before .before .before .before .before .before .before .before .before .before .before .before .before .before .before .before .before .loop .inv .0)
+say-requires-2 c κs = room-left _ _ _ _ _ _ _ _ _ _ _ _ _ _ _ (c .before .before .before .before .before .before .before .before .before .before .before .before .before .before .before .before .before .before .before .before .before .before .before .before .before .loop .inv .0)
 
 enum-told-5 : tie.Need-enum-told-5 Inv-loop μ-loop
 enum-told-5 c = search needs
@@ -114,28 +121,28 @@ write-refused-requires-2 : tie.Need-write-refused-requires-2 Inv-loop μ-loop
 write-refused-requires-2 c κs = room-left _ _ _ _ _ _ _ _ _ _ _ _ _ _ _ (c .before .before .before .before .before .before .before .before .before .before .before .before .before .loop .inv .0)
 
 loop-less : tie.Need-loop-less Inv-loop μ-loop
-loop-less c = pred-less _ (c .before .before .before .before .before .before .before .before .before .before .before .before .before .before .before .before .before .before .before .before .loop-test .taken)
+loop-less c = pred-less _ (c .before .before .before .before .before .before .before .before .before .before .before .before .before .before .before .before .before .before .before .before .before .loop-test .taken)
 
 loop-again : tie.Need-loop-again Inv-loop μ-loop
-loop-again c = (pushed-on (c .before .before .before .before .before .before .before .before .before .before .before .before .before .before .before .before .before .before .before .before .before .loop .inv .0) (c .before .before .before .before .before .before .before .before .before .before .before .before .before .before .before .before .before .before .before .before .loop-test .taken) (search needs) (c .before .before .before .before .before .before .before .before .before .before .before .before .before .before .before .before .n .given .1) (c .before .before .before .before .before .before .before .before .before .before .before .before .before .before .before .before .before .before .next-at .ensures) (c .before .before .before .before .before .before .before .before .before .before .before .before .read .ensures) (c .before .before .before .before .before .before .before .before .before .before .before .before .before .before .end-of .ensures) (c .before .before .before .before .before .before .before .before .before .enum-told3 .given .1) (c .before .before .before .before .before .before .before .before .before .before .before .op-of .ensures) (c .before .before .before .before .before .push .ensures) (c .before .before .say .ensures), c .before .before .before .before .before .before .before .before .before .before .before .before .read .ensures .long ∙ c .before .before .before .before .before .before .before .before .before .before .before .before .before .before .before .before .before .before .before .before .before .loop .inv .1, c .before .before .before .before .before .before .before .before .before .before .before .before .before .before .before .before .before .before .before .before .before .loop .inv .2, c .before .before .before .before .before .before .before .before .before .before .before .before .before .before .before .before .before .before .before .before .before .loop .inv .3)
+loop-again c = (pushed-on (c .before .before .before .before .before .before .before .before .before .before .before .before .before .before .before .before .before .before .before .before .before .before .loop .inv .0) (c .before .before .before .before .before .before .before .before .before .before .before .before .before .before .before .before .before .before .before .before .before .loop-test .taken) (c .before .before .before .before .before .before .before .before .before .before .before .before .before .before .before .before .before .before .before .before .if1 .left) (c .before .before .before .before .before .before .before .before .before .before .before .before .before .before .before .before .before .n .given .1) (c .before .before .before .before .before .before .before .before .before .before .before .before .before .before .before .before .before .before .before .next-at .ensures) (c .before .before .before .before .before .before .before .before .before .before .before .before .before .read .ensures) (c .before .before .before .before .before .before .before .before .before .before .before .before .before .before .before .end-of .ensures) (c .before .before .before .before .before .before .before .before .before .before .enum-told3 .given .1) (c .before .before .before .before .before .before .before .before .before .before .before .before .op-of .ensures) (c .before .before .before .before .before .push .ensures .0) (c .before .before .say .ensures), c .before .before .before .before .before .before .before .before .before .before .before .before .before .read .ensures .long ∙ c .before .before .before .before .before .before .before .before .before .before .before .before .before .before .before .before .before .before .before .before .before .before .loop .inv .1, c .before .before .before .before .before .before .before .before .before .before .before .before .before .before .before .before .before .before .before .before .before .before .loop .inv .2, c .before .before .before .before .before .before .before .before .before .before .before .before .before .before .before .before .before .before .before .before .before .before .loop .inv .3, c .before .before .before .before .before .push .ensures .1)
 
 loop-less-2 : tie.Need-loop-less-2 Inv-loop μ-loop
-loop-less-2 c = pred-less _ (c .before .before .before .before .before .before .before .before .before .before .before .before .before .before .before .before .before .before .before .before .before .loop-test .taken)
+loop-less-2 c = pred-less _ (c .before .before .before .before .before .before .before .before .before .before .before .before .before .before .before .before .before .before .before .before .before .before .loop-test .taken)
 
 loop-again-2 : tie.Need-loop-again-2 Inv-loop μ-loop
-loop-again-2 c = (popped-on (c .before .before .before .before .before .before .before .before .before .before .before .before .before .before .before .before .before .before .before .before .before .before .loop .inv .0) (c .before .before .before .before .before .before .before .before .before .before .before .before .before .before .before .before .before .before .before .before .before .loop-test .taken) (c .before .before .before .before .before .before .before .before .before .before .before .before .before .before .before .before .before .before .before .before .if1 .left) (c .before .before .before .before .before .before .before .before .before .before .before .before .before .before .before .before .before .n .given .1) (c .before .before .before .before .before .before .before .before .before .before .before .before .before .before .before .before .before .before .before .next-at .ensures) (c .before .before .before .before .before .before .before .before .before .before .before .before .before .read .ensures) (c .before .before .before .before .before .before .before .before .before .before .before .before .before .before .before .end-of .ensures) (c .before .before .before .before .before .before .before .before .before .before .enum-told4 .given .1) (c .before .before .before .before .before .before .before .before .before .before .before .before .op-of .ensures) (c .before .before .before .before .before .before .pop-next-event .ensures) (c .before .before .say-popped .ensures), c .before .before .before .before .before .before .before .before .before .before .before .before .before .read .ensures .long ∙ c .before .before .before .before .before .before .before .before .before .before .before .before .before .before .before .before .before .before .before .before .before .before .loop .inv .1, c .before .before .before .before .before .before .pop-next-event .ensures .takes .long, c .before .before .before .before .before .before .before .before .before .before .before .before .before .before .before .before .before .before .before .before .before .before .loop .inv .3)
+loop-again-2 c = (popped-on (c .before .before .before .before .before .before .before .before .before .before .before .before .before .before .before .before .before .before .before .before .before .before .before .loop .inv .0) (c .before .before .before .before .before .before .before .before .before .before .before .before .before .before .before .before .before .before .before .before .before .before .loop-test .taken) (c .before .before .before .before .before .before .before .before .before .before .before .before .before .before .before .before .before .before .before .before .before .if1 .left) (c .before .before .before .before .before .before .before .before .before .before .before .before .before .before .before .before .before .before .n .given .1) (c .before .before .before .before .before .before .before .before .before .before .before .before .before .before .before .before .before .before .before .before .next-at .ensures) (c .before .before .before .before .before .before .before .before .before .before .before .before .before .before .read .ensures) (c .before .before .before .before .before .before .before .before .before .before .before .before .before .before .before .before .end-of .ensures) (c .before .before .before .before .before .before .before .before .before .before .before .enum-told4 .given .1) (c .before .before .before .before .before .before .before .before .before .before .before .before .before .op-of .ensures) (c .before .before .before .before .before .before .pop-next-event .ensures .0) (c .before .before .say-popped .ensures), c .before .before .before .before .before .before .before .before .before .before .before .before .before .before .read .ensures .long ∙ c .before .before .before .before .before .before .before .before .before .before .before .before .before .before .before .before .before .before .before .before .before .before .before .loop .inv .1, c .before .before .before .before .before .before .pop-next-event .ensures .0 .takes .long, c .before .before .before .before .before .before .before .before .before .before .before .before .before .before .before .before .before .before .before .before .before .before .before .loop .inv .3, c .before .before .before .before .before .before .pop-next-event .ensures .1)
 
 loop-less-3 : tie.Need-loop-less-3 Inv-loop μ-loop
-loop-less-3 c = pred-less _ (c .before .before .before .before .before .before .before .before .before .before .before .before .before .before .before .before .before .before .before .before .before .before .before .before .before .loop-test .taken)
+loop-less-3 c = pred-less _ (c .before .before .before .before .before .before .before .before .before .before .before .before .before .before .before .before .before .before .before .before .before .before .before .before .before .before .before .loop-test .taken)
 
 loop-again-3 : tie.Need-loop-again-3 Inv-loop μ-loop
-loop-again-3 c = (transited-on (c .before .before .before .before .before .before .before .before .before .before .before .before .before .before .before .before .before .before .before .before .before .before .before .before .before .before .loop .inv .0) (c .before .before .before .before .before .before .before .before .before .before .before .before .before .before .before .before .before .before .before .before .before .before .before .before .before .loop-test .taken) (c .before .before .before .before .before .before .before .before .before .before .before .before .before .before .before .before .before .before .before .before .before .before .before .before .if1 .left) (c .before .before .before .before .before .before .before .before .before .before .before .before .before .before .before .before .before .before .before .before .before .n .given .1) (c .before .before .before .before .before .before .before .before .before .before .before .before .before .before .before .before .before .before .before .before .before .before .before .next-at .ensures) (c .before .before .before .before .before .before .before .before .before .before .before .before .before .before .before .before .before .read .ensures) (c .before .before .before .before .before .before .before .before .before .before .before .before .before .before .before .before .before .before .before .end-of .ensures) (c .before .before .before .before .before .before .before .before .before .before .before .before .before .before .request .given .1) (c .before .before .before .before .before .before .before .before .before .before .before .before .before .before .before .before .op-of .ensures) (c .before .before .before .before .before .before .before .before .apply-transition .ensures) (c .before .before .before .before .outcome-of .result) (c .before .before .before .before .outcome-of .ensures) (c .before .before .say2 .ensures), c .before .before .before .before .before .before .before .before .before .before .before .before .before .before .before .before .before .read .ensures .long ∙ c .before .before .before .before .before .before .before .before .before .before .before .before .before .before .before .before .before .before .before .before .before .before .before .before .before .before .loop .inv .1, c .before .before .before .before .before .before .before .before .before .before .before .before .before .before .before .before .before .before .before .before .before .before .before .before .before .before .loop .inv .2, c .before .before .before .before .before .before .before .before .before .before .before .before .before .before .before .before .before .before .before .before .before .before .before .before .before .before .loop .inv .3)
+loop-again-3 c = (transited-on (c .before .before .before .before .before .before .before .before .before .before .before .before .before .before .before .before .before .before .before .before .before .before .before .before .before .before .before .before .loop .inv .0) (c .before .before .before .before .before .before .before .before .before .before .before .before .before .before .before .before .before .before .before .before .before .before .before .before .before .before .before .loop-test .taken) (c .before .before .before .before .before .before .before .before .before .before .before .before .before .before .before .before .before .before .before .before .before .before .before .before .before .before .if1 .left) (c .before .before .before .before .before .before .before .before .before .before .before .before .before .before .before .before .before .before .before .before .before .before .before .n .given .1) (c .before .before .before .before .before .before .before .before .before .before .before .before .before .before .before .before .before .before .before .before .before .before .before .before .before .next-at .ensures) (c .before .before .before .before .before .before .before .before .before .before .before .before .before .before .before .before .before .before .before .read .ensures) (c .before .before .before .before .before .before .before .before .before .before .before .before .before .before .before .before .before .before .before .before .before .end-of .ensures) (c .before .before .before .before .before .before .before .before .before .before .before .before .before .before .before .before .request .given .1) (c .before .before .before .before .before .before .before .before .before .before .before .before .before .before .before .before .before .before .op-of .ensures) (c .before .before .before .before .before .before .before .before .before .before .apply-transition .ensures) (c .before .before .before .before .outcome-of .result) (c .before .before .before .before .outcome-of .ensures) (c .before .before .say2 .ensures), c .before .before .before .before .before .before .before .before .before .before .before .before .before .before .before .before .before .before .before .read .ensures .long ∙ c .before .before .before .before .before .before .before .before .before .before .before .before .before .before .before .before .before .before .before .before .before .before .before .before .before .before .before .before .loop .inv .1, c .before .before .before .before .before .before .before .before .before .before .before .before .before .before .before .before .before .before .before .before .before .before .before .before .before .before .before .before .loop .inv .2, c .before .before .before .before .before .before .before .before .before .before .before .before .before .before .before .before .before .before .before .before .before .before .before .before .before .before .before .before .loop .inv .3, c .before .before .before .before .before .before .heads4 .ensures)
 
 loop-less-4 : tie.Need-loop-less-4 Inv-loop μ-loop
 loop-less-4 c = pred-less _ (c .before .before .before .before .before .before .before .before .before .before .before .before .before .before .before .loop-test .taken)
 
 loop-again-4 : tie.Need-loop-again-4 Inv-loop μ-loop
-loop-again-4 c = (malformed-on (c .before .before .before .before .before .before .before .before .before .before .before .before .before .before .before .before .loop .inv .0) (c .before .before .before .before .before .before .before .before .before .before .before .before .before .before .before .loop-test .taken) (search needs) (c .before .before .before .before .before .before .before .before .before .before .before .n .given .1) (c .before .before .before .before .before .before .before .before .before .before .before .before .before .next-at .ensures) (c .before .before .before .before .before .before .before .read .ensures) (c .before .before .before .before .before .before .before .before .before .end-of .ensures) (c .before .before .before .before .enum-told5 .given .1) (c .before .before .before .before .before .before .op-of .ensures) (c .before .before .write-refused2 .ensures), c .before .before .before .before .before .before .before .read .ensures .long ∙ c .before .before .before .before .before .before .before .before .before .before .before .before .before .before .before .before .loop .inv .1, c .before .before .before .before .before .before .before .before .before .before .before .before .before .before .before .before .loop .inv .2, c .before .before .before .before .before .before .before .before .before .before .before .before .before .before .before .before .loop .inv .3)
+loop-again-4 c = (malformed-on (c .before .before .before .before .before .before .before .before .before .before .before .before .before .before .before .before .loop .inv .0) (c .before .before .before .before .before .before .before .before .before .before .before .before .before .before .before .loop-test .taken) (search needs) (c .before .before .before .before .before .before .before .before .before .before .before .n .given .1) (c .before .before .before .before .before .before .before .before .before .before .before .before .before .next-at .ensures) (c .before .before .before .before .before .before .before .read .ensures) (c .before .before .before .before .before .before .before .before .before .end-of .ensures) (c .before .before .before .before .enum-told5 .given .1) (c .before .before .before .before .before .before .op-of .ensures) (c .before .before .write-refused2 .ensures), c .before .before .before .before .before .before .before .read .ensures .long ∙ c .before .before .before .before .before .before .before .before .before .before .before .before .before .before .before .before .loop .inv .1, c .before .before .before .before .before .before .before .before .before .before .before .before .before .before .before .before .loop .inv .2, c .before .before .before .before .before .before .before .before .before .before .before .before .before .before .before .before .loop .inv .3, c .before .before .before .before .before .before .before .before .before .before .before .before .before .before .before .before .loop .inv .4)
 
 same-length : tie.Need-same-length Inv-loop μ-loop
 same-length c = same-long (c .before .loop .inv .0)
@@ -167,6 +174,7 @@ run-records-spec =
     (tie.spec
     Inv-loop
     μ-loop
+    heads-requires
     loop-holds
     sub-turns
     sub-if1
@@ -187,6 +195,7 @@ run-records-spec =
     say-popped-requires
     enum-known-request
     apply-transition-requires
+    heads-requires-2
     outcome-of-requires
     say-requires-2
     enum-told-5

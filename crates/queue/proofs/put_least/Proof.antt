@@ -1,12 +1,12 @@
 -- `queue::put_least` meets its contract: its stores are those of the row. Assumes nothing.
 use mathlib.Core.Path.{refl}
-use Rattle.queue.proofs.HeadLaws.{put-none, put-there}
+use Rattle.queue.proofs.HeadLaws.{put-past, put-there}
 use borrow.Author.Needs.{needs}
 use Rattle.queue.proofs.put_least.Statement.{statement}
 use Rattle.queue.proofs.put_least.Tie as tie
 
 returns : tie.Need-returns
-returns c = put-none (c .before .args .heads .now) (c .before .args .k) (c .before .args .t) (c .before .pre) (c .if1 .taken)
+returns c = put-past (c .before .args .heads .now) (c .before .args .k) (c .before .pre) _ (c .if1 .taken)
 
 mul-b : tie.Need-mul-b
 mul-b c = search needs
@@ -42,7 +42,7 @@ element-write-heads-3 : tie.Need-element-write-heads-3
 element-write-heads-3 c = search needs
 
 returns-2 : tie.Need-returns-2
-returns-2 c = let a = c .before .before in put-there (a .args .heads .now) (a .args .k) (a .args .t) (a .pre) (search needs) (search needs) refl
+returns-2 c = let a = c .before .before in put-there (a .args .heads .now) (a .args .k) (a .pre) (a .args .t) (search needs) (search needs) refl
 
 pub put-least-spec : {M : Type 1} → statement M
 put-least-spec =
