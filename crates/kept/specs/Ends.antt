@@ -114,17 +114,6 @@ module _ (img : Image) (t : Tag) where
   unfoldable pub takesAll : Taking → Taking
   takesAll k = takeScopes (length (k .state .waiting)) img t k
 
-  pub takes-more : (k : Taking) → isAt t (scopeHead img (k .state)) ≡ true → takesAll k ≡ takesAll (next k)
-  unfolding takesAll takeScopes
-  takes-more k e =
-      let n = length (k .state .waiting) in
-      enough n (suc n) k (le-refl n) (omega arith) ∙ (ap (λ b. cond b (takeScopes n img t (next k)) k) e ∙
-      enough n (length (next k .state .waiting)) (next k) (omega (arith, fewer k e)) (le-refl (length (next k .state .waiting))))
-
-  pub takes-done : (k : Taking) → isAt t (scopeHead img (k .state)) ≡ false → takesAll k ≡ k
-  unfolding takesAll takeScopes
-  takes-done k e = let n = length (k .state .waiting) in enough n (suc n) k (le-refl n) (omega arith) ∙ rw e
-
   ends : (n : ℕ) (k : Taking) → length (k .state .waiting) ≤ n → isAt t (scopeHead img (takeScopes n img t k .state)) ≡ false
   unfolding takeScopes
   ends zero k l = by-test (isAt t (scopeHead img (k .state))) (λ e. absurd (omega (arith, fewer k e))) (λ e. e)

@@ -64,18 +64,6 @@ sortBy after (a ∷ l) = insertBy after a (sortBy after l)
 -- ---- one element more, and two lists joined
 
 module _ {A : Type 0} (p : A → Bool) where
-  pub keep-yes : (a : A) (l : List A) → p a ≡ true → keep p (a ∷ l) ≡ a ∷ keep p l
-  unfolding keep
-  keep-yes a l h = simp h
-
-  pub keep-no : (a : A) (l : List A) → p a ≡ false → keep p (a ∷ l) ≡ keep p l
-  unfolding keep
-  keep-no a l h = simp h
-
-  pub lose-yes : (a : A) (l : List A) → p a ≡ true → lose p (a ∷ l) ≡ lose p l
-  unfolding lose
-  lose-yes a l h = simp h
-
   pub lose-no : (a : A) (l : List A) → p a ≡ false → lose p (a ∷ l) ≡ a ∷ lose p l
   unfolding lose
   lose-no a l h = simp h
@@ -187,10 +175,6 @@ module _ {A : Type 0} (p : A → Bool) where
     unfolding any
     any-suc f e = rw (add-one, take-suc l i d, any-append) (simp (f, e))
 
-    pub every-suc : every p (take i l) ≡ true → p (getD l i d) ≡ true → every p (take (i + 1) l) ≡ true
-    unfolding every
-    every-suc f e = rw (add-one, take-suc l i d, every-append) (simp (f, e))
-
     pub keep-suc-yes : p (getD l i d) ≡ true → keep p (take (i + 1) l) ≡ keep p (take i l) ++ (getD l i d ∷ [])
     unfolding keep
     keep-suc-yes e = rw (add-one, take-suc l i d, keep-append) (simp e)
@@ -270,13 +254,3 @@ module _ {A B : Type 0} (f : B → A → B) where
   unfoldable pub foldl : B → List A → B
   foldl b [] = b
   foldl b (a ∷ l) = foldl (f b a) l
-
-  module _ (p : A → Bool) (l : List A) (n i : ℕ) (d : A) (b : B) (h : i < n) (e : n ≤ length l) where
-    -- the fold over what is left, one element on
-    pub fold-take : p (getD l i d) ≡ false → foldl (f b (getD l i d)) (lose p (drop (i + 1) (take n l))) ≡ foldl b (lose p (drop i (take n l)))
-    unfolding foldl lose
-    fold-take y = rw (drop-step l n i d h e) (simp y)
-
-    pub fold-pass : p (getD l i d) ≡ true → foldl b (lose p (drop (i + 1) (take n l))) ≡ foldl b (lose p (drop i (take n l)))
-    unfolding lose
-    fold-pass y = rw (drop-step l n i d h e) (simp y)

@@ -114,9 +114,6 @@ rowsOf w ws n = tab (rowAt w ws) 0 n
 abbrev pub blankRow : ℕ → List ℕ
 blankRow w = replicate w 0
 
-pub put-length : (w : ℕ) (ws : List ℕ) (k : ℕ) (row : List ℕ) → length (putRow w ws k row) ≡ length ws
-put-length w ws k row = length-sets ws (k * w) row
-
 -- a row below another ends before it
 below : (w j k : ℕ) → j < k → j * w + w ≤ k * w
 below w j k h = let m = mul-le-mul-right w h in omega (arith, m, add-mul 1 j w)
@@ -210,14 +207,3 @@ module _ {A : Type 0} (g : A → List ℕ) (w : ℕ) (long : (a : A) → length 
     where
       one : (j : ℕ) → j < w → getD (rowAt w (flat l) k) j 0 ≡ getD (g (getD l k d)) j 0
       one j b = tab-at (λ i. getD (flat l) (k * w + i) 0) w j 0 b ∙ flat-get l k j d h b
-
--- append, move, blank: what callers cite
-module _ {A : Type 0} (f : List ℕ → A) (w : ℕ) (ws : List ℕ) (n : ℕ) (h : n * w ≤ length ws) where
-  pub view-append : (k : ℕ) (row : List ℕ) (a : A) → k < n → length row ≡ w → f row ≡ a → take (k + 1) (viewOf f w (putRow w ws k row) n) ≡ take k (viewOf f w ws n) ++ (a ∷ [])
-  view-append k row a b l e = rw (view-put f w ws n k row a l h e, add-one) (take-suc-set (viewOf f w ws n) k a (rw view-length b))
-
-  pub view-move : (i j : ℕ) → viewOf f w (putRow w ws j (rowAt w ws i)) n ≡ set (viewOf f w ws n) j (f (rowAt w ws i))
-  view-move i j = view-put f w ws n j (rowAt w ws i) (f (rowAt w ws i)) (tab-length _ 0 w) h refl
-
-  pub view-blank : (k : ℕ) → viewOf f w (putRow w ws k (blankRow w)) n ≡ set (viewOf f w ws n) k (f (blankRow w))
-  view-blank k = view-put f w ws n k (blankRow w) (f (blankRow w)) (length-replicate w 0) h refl

@@ -52,17 +52,6 @@ and-both a b p q = simp (p, q)
 pub or-neither : (a b : Bool) → a ≡ false → b ≡ false → (a || b) ≡ false
 or-neither a b p q = simp (p, q)
 
-pub T-true : (b : Bool) → T b → b ≡ true
-T-true true t = refl
-T-true false t = absurd t
-
-pub true-T : (b : Bool) → b ≡ true → T b
-true-T true e = tt
-true-T false e = absurd (let z : _≡_ {A = Bool} false true = e in never z)
-  where
-    never : false ≡ true → ⊥
-    never e = let z : _≡_ {A = ℕ} 0 1 = cc in omega arith
-
 pub T-left : (a b : Bool) → T (a && b) → T a
 T-left true b t = tt
 T-left false b t = t

@@ -28,16 +28,6 @@ module _ {R A S : Type 0} (f : S → A → Result R S) where
   unfolding walk
   walk-refused s r a l e = rw e
 
-  pub walk-append : (s : S) (x y : List A) → walk f s (x ++ y) ≡ (walk f s x >>= λ t. walk f t y)
-  unfolding walk
-  walk-append s [] y = refl
-  walk-append s (a ∷ x) y = go (f s a) (λ t. walk-append t x y)
-    where
-      go : (r : Result R S) → ((t : S) → walk f t (x ++ y) ≡ (walk f t x >>= λ u. walk f u y)) →
-          (r >>= λ t. walk f t (x ++ y)) ≡ ((r >>= λ t. walk f t x) >>= λ t. walk f t y)
-      go (done t) h = h t
-      go (refused r) h = refl
-
 -- what a step that is done came from
 module _ {R A B : Type 0} {P : Type 0} where
   pub bind-done : (r : Result R A) (k : A → Result R B) {b : B} → (r >>= k) ≡ done b → ((a : A) → r ≡ done a → k a ≡ done b → P) → P

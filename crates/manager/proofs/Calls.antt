@@ -217,9 +217,6 @@ module _ (img : Image) (a : Arrays) {b : Bool} (eb : b ≡ isSound img a) where
 
       -- ---- pop
 
-      pub call-pop-room : (p : rows.Popped) (ws keys : List ℕ) (k : Pop) → Pops k p ws keys → p .gathered .actions ≤ mostWaiting
-      call-pop-room p ws keys k d = let r = d .takes .room in omega arith
-
       pub call-pop : {r : Popped} (p : rows.Popped) (ws keys : List ℕ) → Pops (popOf ss (scopes img) es (u .counts .work)) p ws keys → r ≡ poppedIn u ws keys p → r ≡ popped (stepOn img a M.pop)
       call-pop p ws keys d q =
           q ∙

@@ -131,9 +131,6 @@ module _ (test : ℕ → Bool) where
         go (inl h) = marks-in q h ∙ sym (map-at test n q false h)
         go (inr h) = m .is q ∙ rw (le-ltb q n h) (read-past (map test (from 0 n)) q false (rw (map-long test n) h))
 
-pub marks-same : (f g : ℕ → Bool) (n : ℕ) (ws : List ℕ) → ((i : ℕ) → f i ≡ g i) → Marks f n ws → Marks g n ws
-marks-same f g n ws h m = record { long = m .long; is = λ i. m .is i ∙ ap (ltb i n &&_) (h i) }
-
 -- a part of a scope, read by its number
 pub map-get : {B : Type 0} (f : Scope → B) (l : List Scope) (k : ℕ) → getD (map f l) k (f blank) ≡ f (getD l k blank)
 map-get f [] k = refl

@@ -61,10 +61,6 @@ onward o t f = finished o t >>= f
 
 -- ---- a state that the rows hold
 
--- modes play no part in them: what a step on rows says of every state, it says of that state with other modes
-pub rows-modes : (s : State) (ms : List ℕ) (es vs bs : List ℕ) (c : Counts) (h : store.Counts) → rowsIn (withModes s ms) es vs bs c h ≡ withModes (rowsIn s es vs bs c h) ms
-rows-modes s ms es vs bs c h = refl
-
 module _ (s : State) (es vs bs : List ℕ) (c : Counts) (h : store.Counts) where
   pub rows-are : Queued (s .waiting) (s .work) es c → length (s .waiting) ≤ mostWaiting → Stored (s .store) vs bs h → Fits (s .store) → rowsIn s es vs bs c h ≡ s
   rows-are q l t f =
@@ -77,20 +73,9 @@ module _ (s : State) (es vs bs : List ℕ) (c : Counts) (h : store.Counts) where
       let b = stored-is (s .store) vs bs h t f in
       record { waits = queued-waits (s .waiting) (s .work) es c q l k; holds = record { stored = rw b t; fits = rw b f } }
 
-  -- and what a state is held by, that is the rows' own
-  module _ (g : Good es vs bs c h) where
-    pub good-queued : Queued (rowsIn s es vs bs c h .waiting) (rowsIn s es vs bs c h .work) es c
-    good-queued = waits-queued es c (g .waits)
-
-    pub good-stored : Stored (rowsIn s es vs bs c h .store) vs bs h
-    good-stored = g .holds .stored
-
 -- ---- the store
 
 module _ (vs bs : List ℕ) (h : store.Counts) (k : Holds vs bs h) where
-  pub holds-lent : Lent vs bs h
-  holds-lent = stored-lent (storeOf vs bs h) vs bs h (k .stored) (k .fits)
-
   -- a new store laid over it
   module _ (t : Store) (vs-end bs-end : List ℕ) (m : store.Counts) (f : Fits t) (l : Laid vs bs h t vs-end bs-end m) where
     abbrev now-stored : Stored t vs-end bs-end m

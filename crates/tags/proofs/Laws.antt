@@ -27,10 +27,6 @@ pub within-offset : (t : Tag) → within t ≡ true → t .offset ≤ maxOffset
 unfolding within
 within-offset t e = leb-true _ _ (and-left _ _ e)
 
-pub within-microstep : (t : Tag) → within t ≡ true → t .microstep ≤ maxMicrostep
-unfolding within
-within-microstep t e = leb-true _ _ (and-right (leb (t .offset) maxOffset) _ e)
-
 pub within-both : (t : Tag) → t .offset ≤ maxOffset → t .microstep ≤ maxMicrostep → within t ≡ true
 unfolding within
 within-both t h k = simp (le-leb _ _ h, le-leb _ _ k)
