@@ -18,7 +18,8 @@ use Rattle.scopes.specs.Scopes as scope
 use Rattle.scopes.specs.Scopes.{mostScopes, scopesOf}
 use Rattle.store_calls.specs.Lent.{storeOf}
 use Rattle.lens.specs.Padded.{padded-length}
-use Rattle.unpacked.specs.Unpacked.{mostReactors, waits}
+use Rattle.unpacked.specs.Unpacked.{waits}
+use Rattle.lens.specs.Lens.{mostReactors}
 use Rattle.pops.specs.Pops.{peekHead, controlIn, replyOf, untaken}
 use Rattle.pops.specs.declared.Peeked.{Peeked}
 use Rattle.pops.proofs.AsMachine.{peek-is, control-is}

@@ -17,8 +17,7 @@ use Rattle.slots.specs.Slots as slot
 use Rattle.scopes.specs.Scopes as scope
 use Rattle.scopes.specs.Scopes.{mostScopes}
 use Rattle.lens.specs.Padded.{padded}
-use Rattle.lens.specs.Lens.{scopesFrom}
-use Rattle.unpacked.specs.Unpacked.{mostReactors}
+use Rattle.lens.specs.Lens.{scopesFrom, mostReactors}
 use Rattle.records.specs.Records.{recordsFrom}
 use Rattle.gate_day.specs.Days.{callsOf, imageEnd, imageIn, recordBytes}
 

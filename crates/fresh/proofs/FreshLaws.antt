@@ -10,8 +10,7 @@ use Rattle.lists.specs.Held as H
 use Rattle.entries.specs.Entries.{mostHeld, blankValue, blankBucket}
 use Rattle.entries.specs.Words.{valueWords, bucketWords, decodeValue, encodeValue, long-value, decodeBucket, encodeBucket, long-bucket, HeldValues, HeldBuckets, zero-values, zero-buckets}
 use Rattle.lens.specs.Padded.{padded}
-use Rattle.lens.specs.Lens.{Scoped}
-use Rattle.unpacked.specs.Unpacked.{mostReactors}
+use Rattle.lens.specs.Lens.{Scoped, mostReactors}
 use Rattle.fresh.specs.Filled.{fill-none, fill-more}
 
 module _ (f : ℕ → ℕ) where

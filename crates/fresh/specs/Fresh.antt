@@ -18,8 +18,8 @@ use Rattle.slots.specs.Slots as slot
 use Rattle.scopes.specs.Scopes.{Scope}
 use Rattle.lens.specs.declared.Counts.{Counts}
 use Rattle.lens.specs.Padded.{padded, padded-none}
-use Rattle.lens.specs.Lens.{Scoped, joined, scopesFrom}
-use Rattle.unpacked.specs.Unpacked.{Unpacked, mostReactors}
+use Rattle.lens.specs.Lens.{Scoped, joined, scopesFrom, mostReactors}
+use Rattle.unpacked.specs.Unpacked.{Unpacked}
 
 -- "clocks fresh, allowed if the scope starts active"; what is active counts as active before
 abbrev pub freshScope : Bool → Scope

@@ -16,8 +16,8 @@ use Rattle.machine.specs.State.{fresh, mostWaiting}
 use Rattle.kept.specs.Kept.{fresh-rules}
 use Rattle.slots.specs.Slots as slot
 use Rattle.lens.specs.Padded.{padded, padded-length, padded-take}
-use Rattle.lens.specs.Lens.{Scoped}
-use Rattle.unpacked.specs.Unpacked.{mostReactors, most-reactors, state-is}
+use Rattle.lens.specs.Lens.{Scoped, mostReactors}
+use Rattle.unpacked.specs.Unpacked.{most-reactors, state-is}
 use Rattle.fresh.specs.Fresh.{freshScope, freshModes, noEvents, noValues, fresh-unpacked}
 use Rattle.gate_day.specs.Views.{viewOf, UnpackedDay, Kept}
 use Rattle.gate_day.specs.declared.Day.{Day}

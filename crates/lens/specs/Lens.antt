@@ -5,7 +5,8 @@ use mathlib.Core.List.{List, [], _∷_, _++_, map}
 use Prim.Native.Nat.{ℕ, zero, suc, _≤_, _<_}
 use native.Mathlib.Omega.{arith}
 use native.Mathlib.Nat.{min-eq-left, suc-inj}
-use lib.ListN.{length, take, getD, set, length-take}
+use lib.ListN.{length, take, getD, set, length-take, List·getD-map}
+use lib.Seq.{getD-take}
 use Rattle.lists.specs.Held as H
 use Rattle.lists.specs.Lists.{count}
 use Rattle.lists.specs.Lay.{lay}
@@ -24,6 +25,10 @@ use Rattle.scopes.specs.Scopes as scope
 use Rattle.scopes.specs.Scopes.{Scope, mostScopes, scopesOf}
 use Rattle.lens.specs.Padded.{padded, padded-take, padded-get, padded-set, padded-more, padded-lay}
 use Rattle.lens.specs.declared.Counts.{Counts}
+
+-- how many reactors there may be: as many as a table's count allows
+abbrev pub mostReactors : ℕ
+mostReactors = 16
 
 -- ---- the waiting events
 
@@ -107,6 +112,10 @@ joined (k ∷ ks) (a ∷ now) [] = []
 
 abbrev pub scopesFrom : State → List Scope
 scopesFrom s = joined (s .clocks) (s .active) (s .ever)
+
+-- a part of a scope, among those of the first n scopes
+pub part-of : {A : Type 0} (n : ℕ) (ss : List Scope) (g : Scope → A) (i : ℕ) → i < n → getD (map g (take n ss)) i (g scope.blank) ≡ g (getD ss i scope.blank)
+part-of n ss g i h = List·getD-map g (take n ss) i scope.blank ∙ ap g (getD-take n ss i scope.blank h)
 
 -- ---- the state that arrays hold: of the scopes' and the modes' those that the table has
 

@@ -30,9 +30,9 @@ use Rattle.scopes.specs.Scopes as scope
 use Rattle.scopes.specs.Scopes.{Scope, mostScopes, scopesOf}
 use Rattle.lens.specs.declared.Counts.{Counts}
 use Rattle.lens.specs.Padded.{padded, padded-none, padded-length, padded-take, padded-map}
-use Rattle.lens.specs.Lens.{Queued, Waits, Stored, Fits, joined, joined-length, scopesFrom, stateIn, Scoped, Even, clocks-of, active-of, ever-of}
+use Rattle.lens.specs.Lens.{Queued, Waits, Stored, Fits, joined, joined-length, scopesFrom, stateIn, Scoped, Even, clocks-of, active-of, ever-of, mostReactors}
 use Rattle.unpacked.specs.Unpacked as rows
-use Rattle.state_rules.specs.Sound.{mostReactors, sound}
+use Rattle.state_rules.specs.Sound.{sound}
 use Rattle.manager.specs.Arrays.{Arrays, viewOf, packed, isSound, noState, bareOf, freshOver}
 use Rattle.value_store.specs.Calls as store
 use Rattle.slots.specs.declared.Slot.{Slot}

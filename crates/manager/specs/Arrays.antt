@@ -20,7 +20,8 @@ use Rattle.machine.specs.Machine.{Call, Reply, Outcome, refusal, perform}
 use Rattle.slots.specs.Slots.{blank}
 use Rattle.scopes.specs.Scopes.{mostScopes}
 use Rattle.lens.specs.Padded.{padded}
-use Rattle.state_rules.specs.Sound.{mostReactors, sound}
+use Rattle.state_rules.specs.Sound.{sound}
+use Rattle.lens.specs.Lens.{mostReactors}
 
 -- "Arrays by value of scope clocks, active flags and event slots inside the manager"
 pub record Arrays : Type 0 where

@@ -19,8 +19,7 @@ use Rattle.slots.specs.Slots as slot
 use Rattle.slots.specs.Slots.{eventOf, eventsOf}
 use Rattle.scopes.specs.Scopes.{mostScopes, scopesOf}
 use Rattle.lens.specs.Padded.{padded}
-use Rattle.lens.specs.Lens.{scopesFrom, Scoped}
-use Rattle.state_rules.specs.Sound.{mostReactors}
+use Rattle.lens.specs.Lens.{scopesFrom, Scoped, mostReactors}
 use Rattle.machine.specs.Machine as M
 use Rattle.machine.specs.Machine.{Reply}
 use Rattle.lens.specs.declared.Counts.{Counts}

@@ -35,7 +35,8 @@ use Rattle.machine.specs.Table.{scopes, reactors}
 use Rattle.machine.specs.State.{State}
 use Rattle.machine.specs.Transition as T
 use Rattle.machine.specs.Transition.{resetModes, step1, prepared, planOf, insideOf}
-use Rattle.plan.specs.Plans.{planIn, Inner, mostReactors, Marks, modeAfter, newModes, Planned}
+use Rattle.plan.specs.Plans.{planIn, Inner, Marks, modeAfter, newModes, Planned}
+use Rattle.lens.specs.Lens.{mostReactors}
 use Rattle.plan.specs.declared.Plan.{Plan}
 use Rattle.plan.specs.declared.Request.{Request}
 

@@ -19,6 +19,7 @@ use Rattle.machine.specs.Table.{scopes, reactors}
 use Rattle.machine.specs.Transition as T
 use Rattle.plan.specs.declared.Plan.{Plan}
 use Rattle.plan.specs.declared.Request.{Request}
+use Rattle.lens.specs.Lens.{mostReactors}
 
 abbrev pub planIn : Image → Plan → T.Plan
 planIn img p =
@@ -31,10 +32,6 @@ planIn img p =
 -- the set has no key past the table's scopes
 abbrev pub Inner : Image → Plan → Type 0
 Inner img p = (i : ℕ) → has (p .inside .words) i ≡ T.isInside (planIn img p) i
-
--- how many reactors there may be: as many as a table's count allows
-abbrev pub mostReactors : ℕ
-mostReactors = 16
 
 -- the set has those of the first n keys that pass, and no other
 pub record Marks (test : ℕ → Bool) (n : ℕ) (ws : List ℕ) : Type 0 where

@@ -11,7 +11,8 @@ ghost use Rattle.schedule.specs.Schedule.{isActive};
 ghost use Rattle.table.specs.Check.{isTable};
 ghost use Rattle.lens.specs.Padded.{padded};
 ghost use Rattle.machine.specs.Table.{scopes as scopesIn, reactors as reactorsIn};
-ghost use Rattle.plan.specs.Plans.{mostReactors, Marks, modeAfter, Planned};
+ghost use Rattle.plan.specs.Plans.{Marks, modeAfter, Planned};
+ghost use Rattle.lens.specs.Lens.{mostReactors};
 use key_set::KeySet;
 use tags::GlobalTag;
 

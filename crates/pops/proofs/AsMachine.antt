@@ -4,8 +4,7 @@ use mathlib.Core.Path.{_≡_, refl, ap, _∙_}
 use mathlib.Core.List.{List, [], _++_, map}
 use Prim.Native.Nat.{ℕ, zero, suc, _<_, _≤_}
 use native.Mathlib.Omega.{arith}
-use lib.ListN.{length, take, getD, List·getD-map}
-use lib.Seq.{getD-take}
+use lib.ListN.{length, take, getD}
 use Rattle.lists.specs.Lists.{keep, every, foldl}
 use Rattle.rows.specs.Bytes.{Image}
 use Rattle.tags.specs.Tags.{Tag, sameTag}
@@ -22,7 +21,7 @@ use Rattle.queue.specs.Queue.{headsOf}
 use Rattle.heads.specs.Found.{mappedHead, scopeHeadOf, headIn, leastHead}
 use Rattle.ready.specs.Gathering.{nothingYet, addedTo, readyAt, gatheringOf}
 use Rattle.ready.proofs.GatherLaws.{gathered, ready-nothing}
-use Rattle.lens.specs.Lens.{stateIn}
+use Rattle.lens.specs.Lens.{part-of, stateIn}
 use Rattle.pops.specs.Pops.{Took, Pop, untaken, taken, tookAt, tookScopes, tookAll, rootIn, localIn, peekHead, controlled, controlAt, controlIn, popAt, popOf, popReply, Pops}
 use Rattle.pops.specs.declared.Popped.{Popped}
 use Rattle.pops.proofs.PopLaws.{heads-scope, map-below}
@@ -33,17 +32,14 @@ module _ (img : Image) (ms : List ℕ) (ss : List Scope) (st : Store) (f : scope
 
   -- ---- heads
 
-  part : {A : Type 0} (g : Scope → A) (i : ℕ) → i < scopes img → getD (map g (take (scopes img) ss)) i (g blank) ≡ g (getD ss i blank)
-  part g i h = List·getD-map g (take (scopes img) ss) i blank ∙ ap g (getD-take (scopes img) ss i blank h)
-
   head-is : (k : Took) (i : ℕ) → i < scopes img → headAt (stateOf k) i ≡ headIn ss (headsOf (k .waiting)) i
   unfolding headAt headIn scopeHeadOf
   head-is k i h =
-      rw (part (λ x. x .active) i h, heads-scope (k .waiting) i (omega arith)) (go (leastOf i (k .waiting)))
+      rw (part-of (scopes img) ss (λ x. x .active) i h, heads-scope (k .waiting) i (omega arith)) (go (leastOf i (k .waiting)))
     where
       go : (l : Least) → cond (getD ss i blank .active) (scopeOf (stateOf k) i l) empty ≡ cond (getD ss i blank .active) (mappedHead (getD ss i blank .clock) i l) empty
       go noTag = refl
-      go (least t) = rw (part (λ x. x .clock) i h)
+      go (least t) = rw (part-of (scopes img) ss (λ x. x .clock) i h)
 
   local-is : (k : Took) → scopeHead img (stateOf k) ≡ localIn ss (scopes img) (k .waiting)
   unfolding scopeHead leastHead

@@ -3,8 +3,7 @@ use mathlib.Core.Bool.{Bool, true, false, cond, _&&_}
 use mathlib.Core.Path.{_≡_, refl, ap, _∙_}
 use mathlib.Core.List.{List, [], _∷_, _++_, map}
 use Prim.Native.Nat.{ℕ, _<_}
-use lib.ListN.{length, take, getD, List·getD-map}
-use lib.Seq.{getD-take}
+use lib.ListN.{length, take, getD}
 use lib.Dec.{leb, ltb}
 use borrow.Author.Tests.{ltb-true}
 use Rattle.lists.specs.Tests.{and-left}
@@ -22,7 +21,7 @@ use Rattle.machine.specs.State.{Event, State, root, rootEvent, mostWaiting, tal
 use Rattle.machine.specs.Transition.{Step}
 use Rattle.machine.specs.Machine.{Outcome, ok, answer, settle, need, perform, plain, network, control, action, keysOk, pushRoot, pushAction, toRoot, localTag}
 use Rattle.scopes.specs.Scopes.{Scope, blank}
-use Rattle.lens.specs.Lens.{stateIn}
+use Rattle.lens.specs.Lens.{part-of, stateIn}
 use Rattle.pushes.specs.Pushes.{Push, refusedAs, rootMade, actionOf, localTagIn, placedIn, actionMade, pushOf}
 
 module _ (img : Image) (ms : List ℕ) (ss : List Scope) (es : List Event) (work : ℕ) (st : Store) where
@@ -80,12 +79,9 @@ module _ (img : Image) (ms : List ℕ) (ss : List Scope) (es : List Event) (work
 
   -- ---- an action's; its scope is one of the table's
 
-  part : {A : Type 0} (g : Scope → A) (i : ℕ) → i < scopes img → getD (map g (take (scopes img) ss)) i (g blank) ≡ g (getD ss i blank)
-  part g i h = List·getD-map g (take (scopes img) ss) i blank ∙ ap g (getD-take (scopes img) ss i blank h)
-
   local-is : (i : ℕ) (t : Tag) → i < scopes img → localTag before i t ≡ localTagIn ss i t
   unfolding localTag localTagIn
-  local-is i t h = rw (part (λ x. x .active) i h, part (λ x. x .clock) i h)
+  local-is i t h = rw (part-of (scopes img) ss (λ x. x .active) i h, part-of (scopes img) ss (λ x. x .clock) i h)
 
   module _ (a : ℕ) (exists : a < actions img → actionScope img a < scopes img) (t : Tag) (terminal : Bool) (ks : List ℕ) where
     placed-is : a < actions img → pushAction img before a t terminal ks ≡ (placedIn img ss a t terminal (setOf ks) >>= accepted before)

@@ -33,8 +33,8 @@ use Rattle.slots.specs.Slots as slot
 use Rattle.slots.specs.Slots.{eventsOf}
 use Rattle.scopes.specs.Scopes as scope
 use Rattle.scopes.specs.Scopes.{Scope, mostScopes, scopesOf}
-use Rattle.lens.specs.Lens.{stateIn}
-use Rattle.state_rules.specs.Sound.{mostReactors, scopeAt, scopeKeeps, imageKeeps, eventKeeps, scopesSound, queueSound, sound}
+use Rattle.lens.specs.Lens.{stateIn, mostReactors}
+use Rattle.state_rules.specs.Sound.{scopeAt, scopeKeeps, imageKeeps, eventKeeps, scopesSound, queueSound, sound}
 
 -- ---- what a table's counts allow
 

@@ -17,10 +17,6 @@ use Rattle.machine.specs.Machine.{modeRules, eventRules, queueRules, rules}
 use Rattle.scopes.specs.Scopes.{Scope, blank}
 use Rattle.state_rules.specs.declared.Sizes.{Sizes}
 
--- how many reactors there may be: as many as a table's count allows
-abbrev pub mostReactors : ℕ
-mostReactors = 16
-
 -- no more are counted than may be, and the state that is counted keeps the rules
 unfoldable pub sound : Image → ℕ → ℕ → ℕ → State → Bool
 sound img waiting held open-buckets s = leb waiting mostWaiting && (leb held mostHeld && (leb open-buckets mostHeld && rules img s))

@@ -31,10 +31,10 @@ use Rattle.machine.specs.Machine.{rules, perform, answer, settle, refusal, Outc
 use Rattle.scopes.specs.Scopes.{Scope, mostScopes, scopesOf}
 use Rattle.lens.specs.declared.Counts.{Counts}
 use Rattle.lens.specs.Padded.{padded}
-use Rattle.lens.specs.Lens.{waits-queued, Scoped, scoped-take, scopesFrom, Even, joined-length, clocks-of, active-of, ever-of}
+use Rattle.lens.specs.Lens.{waits-queued, Scoped, scoped-take, scopesFrom, Even, joined-length, clocks-of, active-of, ever-of, mostReactors}
 use Rattle.plan.specs.declared.Plan.{Plan}
 use Rattle.plan.specs.declared.Request.{Request}
-use Rattle.plan.specs.Plans.{planIn, mostReactors, Marks, Planned}
+use Rattle.plan.specs.Plans.{planIn, Marks, Planned}
 use Rattle.plan.specs.Lent.{Good, rowsIn, finished, rows-are, rows-good}
 use Rattle.plan.proofs.PlanLaws.{few-scopes, marks-map, planned-inside, planned-plan, planned-modes}
 use Rattle.resets.specs.Resetting.{scopesReset, rowsReset}

@@ -26,11 +26,7 @@ use Rattle.slots.specs.Slots.{eventsOf}
 use Rattle.scopes.specs.Scopes.{mostScopes, scopesOf}
 use Rattle.lens.specs.declared.Counts.{Counts}
 use Rattle.lens.specs.Padded.{padded, padded-take}
-use Rattle.lens.specs.Lens.{Queued, queued-is, queued-waits, Waits, Stored, Fits, stored-is, stored-lent, Scoped, scoped-take, Even, scopesFrom, joined-length, clocks-of, active-of, ever-of, stateIn}
-
--- how many reactors there may be: as many as a table's count allows
-abbrev pub mostReactors : ℕ
-mostReactors = 16
+use Rattle.lens.specs.Lens.{mostReactors, Queued, queued-is, queued-waits, Waits, Stored, Fits, stored-is, stored-lent, Scoped, scoped-take, Even, scopesFrom, joined-length, clocks-of, active-of, ever-of, stateIn}
 
 pub record Unpacked (s : State) (modes scopes events values buckets : List ℕ) (c : Counts) (h : store.Counts) : Type 0 where
   pub in-modes : modes ≡ padded 0 mostReactors (s .modes)

@@ -1,6 +1,6 @@
 -- `explained::say_modes` is safe and ends. Assumes nothing.
 use borrow.Author.Needs.{needs}
-use Rattle.unpacked.specs.Unpacked.{mostReactors}
+use Rattle.lens.specs.Lens.{mostReactors}
 use Prim.Native.Nat.{_-_, _≤_}
 use Rattle.explained.proofs.say_modes.Statement.{statement}
 use Rattle.explained.proofs.say_modes.Tie as tie

@@ -6,7 +6,7 @@ use lib.ListN.{length}
 use Rattle.lists.specs.Lists.{from}
 use Rattle.rows.specs.Rows.{initialMode}
 use Rattle.lens.specs.Padded.{padded}
-use Rattle.state_rules.specs.Sound.{mostReactors}
+use Rattle.lens.specs.Lens.{mostReactors}
 use Rattle.manager.proofs.Front.{first-none, first-next, first-all}
 use borrow.Author.Needs.{needs}
 use Rattle.manager.proofs.first_modes.Statement.{statement}

@@ -3,7 +3,7 @@ use mathlib.Core.Path.{_≡_}
 use Prim.Native.Nat.{_-_, _≤_}
 use lib.ListN.{length, take}
 use Rattle.lens.specs.Padded.{padded}
-use Rattle.state_rules.specs.Sound.{mostReactors}
+use Rattle.lens.specs.Lens.{mostReactors}
 use Rattle.manager.proofs.Front.{end-few, numbers-none, numbers-next, numbers-all}
 use borrow.Author.Needs.{needs}
 use Rattle.manager.proofs.mode_rows.Statement.{statement}

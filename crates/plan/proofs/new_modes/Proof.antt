@@ -4,7 +4,8 @@ use mathlib.Core.Path.{_≡_}
 use mathlib.Core.List.{map}
 use Rattle.lists.specs.Lists.{from}
 use Rattle.lens.specs.Padded.{padded}
-use Rattle.plan.specs.Plans.{mostReactors, modeAfter}
+use Rattle.plan.specs.Plans.{modeAfter}
+use Rattle.lens.specs.Lens.{mostReactors}
 use Rattle.plan.proofs.PlanLaws.{filled-none, filled-more}
 use borrow.Author.Needs.{needs}
 use Rattle.plan.proofs.new_modes.Statement.{statement}
