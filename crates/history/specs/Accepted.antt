@@ -16,7 +16,7 @@ use Rattle.lists.specs.Every.{by-test, both}
 use Rattle.lists.specs.Each.{Each, each-imp, each-two, keep-same}
 use Rattle.history.specs.History.{Fate, waits, popped, dropped, Entry, History, openAt, waitsAt, waitsThrough, Fated, Right, inOrder}
 
-from-here : (h : History) (m : ℕ) → inOrder m h ≡ true → Each (λ x. m ≤ x .by) h
+pub from-here : (h : History) (m : ℕ) → inOrder m h ≡ true → Each (λ x. m ≤ x .by) h
 unfolding inOrder
 from-here [] m o = tt
 from-here (x ∷ h) m o =
@@ -30,7 +30,7 @@ open-before n (popped m r) = by-test (leb (suc n) m) (λ e. rw (le-leb n m (omeg
 open-before n (dropped m) = by-test (leb (suc n) m) (λ e. rw (le-leb n m (omega (arith, leb-true (suc n) m e)))) (λ e. rw e (and-no (leb n m)))
 
 -- what a call accepted it did not take away
-own-open : (img : Image) (cs : List Call) (n : ℕ) (x : Entry) → Right img cs n x → openAt (suc (x .by)) (x .fate) ≡ true
+pub own-open : (img : Image) (cs : List Call) (n : ℕ) (x : Entry) → Right img cs n x → openAt (suc (x .by)) (x .fate) ≡ true
 own-open img cs n x r = go (x .fate) (r .fated)
   where
     go : (f : Fate) → Fated img cs n (x .by) (x .event) f → openAt (suc (x .by)) f ≡ true

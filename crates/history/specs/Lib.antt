@@ -1,7 +1,11 @@
+pub mod Deeds
 pub mod History
 pub mod Marks
 pub mod Grown
 pub mod Pops
+pub mod Ends
 pub mod Calls
 pub mod Accepted
 pub mod Fates
+pub mod One
+pub mod Examples

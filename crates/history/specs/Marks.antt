@@ -4,10 +4,10 @@ use mathlib.Core.Bool.{Bool, true, false, cond, _&&_}
 use mathlib.Core.Path.{_≡_, refl, ap, _∙_, sym}
 use mathlib.Core.List.{List, [], _∷_, _++_, map, map-append, append-nil}
 use native.Mathlib.Omega.{arith}
-use lib.Dec.{leb}
-use borrow.Author.Tests.{le-ltb, le-leb}
+use lib.Dec.{leb, eqb}
+use borrow.Author.Tests.{le-ltb, le-leb, eq-eqb}
 use native.Mathlib.Nat.{le-refl}
-use Rattle.lists.specs.Tests.{and-left, and-right, gt-eqb}
+use Rattle.lists.specs.Tests.{and-left, and-right, lt-eqb, gt-eqb}
 use Rattle.lists.specs.Lists.{keep, lose, keep-append}
 use Rattle.machine.specs.State.{Event}
 use Rattle.lists.specs.Every.{by-test, both}
@@ -48,28 +48,28 @@ waiting-is x e = go (x .fate) e
     go (dropped n) e = cc
 
 module _ (f : Fate) (p : Event → Bool) where
-  mark-either : (P : Entry → Type 0) (x : Entry) → (isWaiting (x .fate) ≡ true → p (x .event) ≡ true → P (fated x f)) → P x → P (mark f p x)
+  mark-either : (P : Entry → Type 0) (x : Entry) → (isWaiting (x .fate) ≡ true → p (x .event) ≡ true → P (fated x f)) → ((isWaiting (x .fate) && p (x .event)) ≡ false → P x) → P (mark f p x)
   mark-either P x h k =
-      by-test (isWaiting (x .fate) && p (x .event)) (λ e. rw e (h (and-left _ _ e) (and-right (isWaiting (x .fate)) _ e))) (λ e. rw e k)
+      by-test (isWaiting (x .fate) && p (x .event)) (λ e. rw e (h (and-left _ _ e) (and-right (isWaiting (x .fate)) _ e))) (λ e. rw e (k e))
 
   pub each-marked :
-      (P Q : Entry → Type 0) → ((x : Entry) → P x → Q x) → ((x : Entry) → P x → isWaiting (x .fate) ≡ true → p (x .event) ≡ true → Q (fated x f)) →
-      (h : History) → Each P h → Each Q (marked f p h)
+      (P Q : Entry → Type 0) → ((x : Entry) → P x → (isWaiting (x .fate) && p (x .event)) ≡ false → Q x) →
+      ((x : Entry) → P x → isWaiting (x .fate) ≡ true → p (x .event) ≡ true → Q (fated x f)) → (h : History) → Each P h → Each Q (marked f p h)
   unfolding marked
   each-marked P Q i m h e = each-map P Q (mark f p) (λ x y. mark-either Q x (m x y) (i x y)) h e
 
   mark-event : (x : Entry) → mark f p x .event ≡ x .event
-  mark-event x = mark-either (λ y. y .event ≡ x .event) x (λ w y. refl) refl
+  mark-event x = mark-either (λ y. y .event ≡ x .event) x (λ w y. refl) (λ z. refl)
 
   mark-by : (x : Entry) → mark f p x .by ≡ x .by
-  mark-by x = mark-either (λ y. y .by ≡ x .by) x (λ w y. refl) refl
+  mark-by x = mark-either (λ y. y .by ≡ x .by) x (λ w y. refl) (λ z. refl)
 
   -- a test that cannot tell the new fate from waiting keeps the same events
   pub mark-blind : (q : Entry → Bool) → ((x : Entry) → q (fated x f) ≡ q (fated x waits)) → (h : History) → eventsOf (keep q (marked f p h)) ≡ eventsOf (keep q h)
   unfolding marked keep
   mark-blind q b [] = refl
   mark-blind q b (x ∷ h) =
-      put (q (mark f p x)) (q x) (mark f p x) x _ _ (mark-either (λ y. q y ≡ q x) x (λ w y. b x ∙ ap q (sym (waiting-is x w))) refl) (mark-event x) (mark-blind q b h)
+      put (q (mark f p x)) (q x) (mark f p x) x _ _ (mark-either (λ y. q y ≡ q x) x (λ w y. b x ∙ ap q (sym (waiting-is x w))) (λ z. refl)) (mark-event x) (mark-blind q b h)
     where
       put : (t u : Bool) (y z : Entry) (l m : History) → t ≡ u → y .event ≡ z .event → eventsOf l ≡ eventsOf m → eventsOf (cond t (y ∷ l) l) ≡ eventsOf (cond u (z ∷ m) m)
       put true u y z l m e g r = rw (← e, g, r)
@@ -129,6 +129,21 @@ module _ (n : ℕ) (es : List Event) (h : History) where
   unfolding added
   add-now = rw (keep-append (λ x. isWaiting (x .fate)) h (map (entry n) es), map-append) (ap (nowIn h ++_) (new-now n es))
 
+-- what the call at place n accepted, and nothing before it, names it
+names-new : (n : ℕ) (es : List Event) → eventsOf (keep (λ x. eqb (x .by) n) (map (entry n) es)) ≡ es
+unfolding keep
+names-new n [] = refl
+names-new n (e ∷ es) = rw (eq-eqb n n refl) (ap (e ∷_) (names-new n es))
+
+pub names-none : (n : ℕ) (h : History) → Each (λ x. x .by < n) h → keep (λ x. eqb (x .by) n) h ≡ []
+unfolding keep
+names-none n [] b = refl
+names-none n (x ∷ h) b = rw (lt-eqb (x .by) n (b .0)) (names-none n h (b .1))
+
+pub add-names : (n : ℕ) (es : List Event) (h : History) → Each (λ x. x .by < n) h → eventsOf (keep (λ x. eqb (x .by) n) (added n es h)) ≡ es
+unfolding added
+add-names n es h b = rw (keep-append (λ x. eqb (x .by) n) h (map (entry n) es), names-none n h b) (names-new n es)
+
 order-new : (n : ℕ) (es : List Event) (m : ℕ) → m ≤ n → inOrder m (map (entry n) es) ≡ true
 unfolding inOrder
 order-new n [] m l = refl
@@ -175,6 +190,10 @@ waits-blind m n l =
       pop = λ x k r h. rw (le-leb m k (omega arith));
       drop = λ x k h. rw (le-leb m k (omega arith));
     }
+
+-- so is what an earlier call accepted
+pub names-blind : (m n : ℕ) → m < n → Blind n (λ x. eqb (x .by) m)
+names-blind m n l = record { new = λ e k h. gt-eqb k m (omega arith); pop = λ x k r h. refl; drop = λ x k h. refl }
 
 -- and so is what an earlier pop took
 pub taken-blind : (m r n : ℕ) → m < n → Blind n (λ x. isTaken m r (x .fate))

@@ -1,24 +1,24 @@
 -- A pop, turn by turn: the events it takes are those its turns name, and the others go on waiting. Assumes nothing.
 use Prim.Native.Nat.{ℕ, zero, suc, _+_, _-_, _≤_}
-use mathlib.Core.Bool.{Bool, true, false, cond, _&&_}
+use mathlib.Core.Bool.{Bool, true, false, _&&_}
 use mathlib.Core.Path.{_≡_, refl, ap, _∙_, sym}
 use mathlib.Core.List.{List, [], _∷_, _++_, map, map-append, append-nil}
 use native.Mathlib.Nat.{le-refl, add-zero, add-suc}
 use native.Mathlib.Omega.{arith}
 use lib.Dec.{leb, eqb}
-use lib.ListN.{length}
+use lib.ListN.{length, getD}
 use borrow.Author.Tests.{le-leb, lt-leb, eq-eqb, leb-false, eqb-true}
 use Rattle.lists.specs.Tests.{gt-eqb}
 use Rattle.lists.specs.Tests.{and-no}
-use Rattle.lists.specs.Lists.{keep, lose}
-use Rattle.rows.specs.Bytes.{Image}
+use Rattle.lists.specs.Lists.{keep, lose, foldl}
 use Rattle.tags.specs.Tags.{Tag, sameTag}
 use Rattle.key_set.specs.Sets.{unionOf, noKeys, wordCount}
 use Rattle.machine.specs.State.{Event, State, ordinary, mostWaiting, inQueue, atHead, without}
-use Rattle.machine.specs.Heads.{Head, empty, head, Taking, takeAt, takeScopes, taking, scopeHead, rootHead, isAt, readyOf, addAction}
+use Rattle.machine.specs.Heads.{Head, empty, head, Taking, takeAt, readyOf, addAction}
 use Rattle.lists.specs.Every.{by-test, no-way}
 use Rattle.lists.specs.Each.{Each, each-imp, map-keep, map-lose, any-map, foldl-map}
-use Rattle.history.specs.History.{Fate, waits, popped, dropped, Entry, History, isTaken, takenIn, takenUpTo, takenBy, inOrder, bare}
+use Rattle.history.specs.Deeds.{bare, takesAt}
+use Rattle.history.specs.History.{Fate, waits, popped, dropped, Entry, History, isWaiting, isTaken, takenIn, takenUpTo, takenBy, inOrder}
 use Rattle.history.specs.Marks.{fated, nowIn, marked, each-marked, mark-blind, mark-now, mark-new, order-marked, Later, later-same, later-then, later-popped}
 use Rattle.history.specs.Grown.{bares}
 
@@ -34,7 +34,7 @@ Open n r x = fromTurn n r (x .fate) ≡ false
 
 -- ---- turns that took nothing
 
-not-taken : (n r : ℕ) (f : Fate) → fromTurn n r f ≡ false → isTaken n r f ≡ false
+pub not-taken : (n r : ℕ) (f : Fate) → fromTurn n r f ≡ false → isTaken n r f ≡ false
 not-taken n r waits e = refl
 not-taken n r (popped m q) e =
     by-test (eqb m n) (λ x. rw x (by-test (eqb q r) (λ y. no-way (sym (rw x at e) ∙ le-leb r q (omega (arith, eqb-true q r y)))) (λ y. y))) (λ x. rw x)
@@ -70,23 +70,26 @@ turns-before n r p h (suc j) l =
 
 -- ---- one turn
 
--- after r turns of the pop at place n, where P holds of each entry
-record Turn (P : Entry → Type 0) (n r : ℕ) (k : Taking) (h : History) : Type 0 where
+-- after r turns of the pop at place n, where P holds of each entry then
+record Turn (P : ℕ → Entry → Type 0) (n r : ℕ) (k : Taking) (h : History) : Type 0 where
   now : bares (k .state) ≡ nowIn h
   took : map bare (k .events) ≡ takenUpTo n r h
   closed : Each (Open n r) h
-  each : Each P h
+  each : Each (P r) h
 
-module _ (P : Entry → Type 0) (n : ℕ) (hit : (x : Entry) (r : ℕ) → r ≤ mostWaiting → P x → P (fated x (popped n r))) where
+-- the heads hs are those of its turns, at the tag t
+module _ (P : ℕ → Entry → Type 0) (n : ℕ) (t : Tag) (hs : List Head)
+    (hit : (x : Entry) (r : ℕ) → r ≤ mostWaiting → P r x → isWaiting (x .fate) ≡ true → takesAt t (getD hs r empty) (x .event) ≡ true → P (suc r) (fated x (popped n r)))
+    (miss : (x : Entry) (r : ℕ) → P r x → (isWaiting (x .fate) && takesAt t (getD hs r empty) (x .event)) ≡ false → P (suc r) x) where
   record Next (r : ℕ) (k : Taking) (h : History) : Type 0 where
     history : History
     turn : Turn P n r k history
     later : Later n h history
     order : inOrder 0 history ≡ inOrder 0 h
 
-  turn-none : (r : ℕ) (k : Taking) (h : History) → Turn P n r k h → Next (suc r) k h
+  turn-none : (r : ℕ) (k : Taking) (h : History) → ((e : Event) → takesAt t (getD hs r empty) e ≡ false) → Turn P n r k h → Next (suc r) k h
   unfolding takenUpTo
-  turn-none r k h t =
+  turn-none r k h z t =
       record {
         history = h;
         later = later-same n h;
@@ -94,17 +97,17 @@ module _ (P : Entry → Type 0) (n : ℕ) (hit : (x : Entry) (r : ℕ) → r ≤
         turn =
             record {
               now = t .now;
-              each = t .each;
+              each = each-imp (P r) (P (suc r)) (λ x y. miss x r y (ap (isWaiting (x .fate) &&_) (z (x .event)) ∙ and-no (isWaiting (x .fate)))) h (t .each);
               took = t .took ∙ (sym (append-nil (takenUpTo n r h)) ∙ ap (takenUpTo n r h ++_) (sym (none-in n r h (t .closed))));
               closed = each-imp (Open n r) (Open n (suc r)) (λ x. open-more n r (x .fate)) h (t .closed);
             };
       }
 
   turn-some :
-      (r : ℕ) (k : Taking) (h : History) (q : ℕ) (y : Tag) → r ≤ mostWaiting → Turn P n r k h →
+      (r : ℕ) (k : Taking) (h : History) (q : ℕ) (y : Tag) → ((e : Event) → takesAt t (getD hs r empty) e ≡ atHead q y e) → r ≤ mostWaiting → Turn P n r k h →
       Next (suc r) (record { state = without (atHead q y) (k .state); events = k .events ++ keep (atHead q y) (k .state .waiting) }) h
   unfolding takenUpTo takenIn without atHead inQueue
-  turn-some r k h q y l t =
+  turn-some r k h q y same l t =
       let p = atHead q y in
       let f = popped n r in
       record {
@@ -117,41 +120,57 @@ module _ (P : Entry → Type 0) (n : ℕ) (hit : (x : Entry) (r : ℕ) → r ≤
               took =
                   map-append bare (k .events) (keep p (k .state .waiting)) ∙
                   rw (t .took, turns-before n r p h r (le-refl r), map-keep bare p (k .state .waiting), t .now, mark-new f p (isTaken n r) (simp (eq-eqb n n refl, eq-eqb r r refl)) refl h (each-imp (Open n r) (λ x. isTaken n r (x .fate) ≡ false) (λ x. not-taken n r (x .fate)) h (t .closed)));
-              closed = each-marked f p (Open n r) (Open n (suc r)) (λ x. open-more n r (x .fate)) (λ x o w z. rw (lt-leb (suc r) r (omega arith)) (and-no (eqb n n))) h (t .closed);
-              each = each-marked f p P P (λ x z. z) (λ x z w v. hit x r l z) h (t .each);
+              closed = each-marked f p (Open n r) (Open n (suc r)) (λ x o w. open-more n r (x .fate) o) (λ x o w z. rw (lt-leb (suc r) r (omega arith)) (and-no (eqb n n))) h (t .closed);
+              each =
+                  each-marked f p (P r) (P (suc r)) (λ x z w. miss x r z (ap (isWaiting (x .fate) &&_) (same (x .event)) ∙ w))
+                  (λ x z w v. hit x r l z w (same (x .event) ∙ v)) h (t .each);
             };
       }
 
-  turn-at : (t : Tag) (r : ℕ) (k : Taking) (h : History) (d : Head) → r ≤ mostWaiting → Turn P n r k h → Next (suc r) (takeAt t k d) h
-  turn-at t r k h empty l u = turn-none r k h u
-  turn-at t r k h (head q y g) l u = by-test (sameTag g t) (λ e. rw e (turn-some r k h q y l u)) (λ e. rw e (turn-none r k h u))
+  turn-at : (r : ℕ) (k : Taking) (h : History) (d : Head) → getD hs r empty ≡ d → r ≤ mostWaiting → Turn P n r k h → Next (suc r) (takeAt t k d) h
+  turn-at r k h empty i l u = turn-none r k h (λ e. rw i) u
+  turn-at r k h (head q y g) i l u =
+      by-test (sameTag g t) (λ e. rw e (turn-some r k h q y (λ x. rw (i, e)) l u)) (λ e. rw e (turn-none r k h (λ x. rw (i, e)) u))
 
   -- ---- all turns
 
-  -- some turns more, r at most
-  record Turns (most : ℕ) (k : Taking) (h : History) : Type 0 where
+  -- some turns, as many as there are heads
+  record Turns (k : Taking) (h : History) : Type 0 where
     count : ℕ
-    few : count ≤ most
+    few : count ≤ suc mostWaiting
+    over : (q : ℕ) → count ≤ q → getD hs q empty ≡ empty
     next : Next count k h
 
-  after : {r most : ℕ} {k l : Taking} {h : History} → (x : Next r k h) → Turns most l (x .history) → Turns most l h
-  after x y = record { count = y .count; few = y .few; next = record { history = y .next .history; turn = y .next .turn; later = later-then (x .later) (y .next .later); order = y .next .order ∙ x .order } }
+  after : {r : ℕ} {k l : Taking} {h : History} → (x : Next r k h) → Turns l (x .history) → Turns l h
+  after x y =
+      record {
+        count = y .count;
+        few = y .few;
+        over = y .over;
+        next =
+            record {
+              history = y .next .history;
+              turn = y .next .turn;
+              later = later-then (x .later) (y .next .later);
+              order = y .next .order ∙ x .order;
+            };
+      }
 
-  here : (r most : ℕ) (k : Taking) (h : History) → r ≤ most → Turn P n r k h → Turns most k h
-  here r most k h l t = record { count = r; few = l; next = record { history = h; turn = t; later = later-same n h; order = refl } }
-
-  scope-turns : (img : Image) (t : Tag) (m r : ℕ) (k : Taking) (h : History) → r + m ≤ suc mostWaiting → Turn P n r k h → Turns (suc mostWaiting) (takeScopes m img t k) h
-  unfolding takeScopes
-  scope-turns img t zero r k h l u = here r (suc mostWaiting) k h (omega arith) u
-  scope-turns img t (suc m) r k h l u =
-      let d = scopeHead img (k .state) in
-      let x = turn-at t r k h d (omega arith) u in
-      go (isAt t d) (after x (scope-turns img t m (suc r) (takeAt t k d) (x .history) (omega arith) (x .turn)))
-    where
-      go : (b : Bool) → Turns (suc mostWaiting) (takeScopes m img t (takeAt t k (scopeHead img (k .state)))) h →
-          Turns (suc mostWaiting) (cond b (takeScopes m img t (takeAt t k (scopeHead img (k .state)))) k) h
-      go true y = y
-      go false y = here r (suc mostWaiting) k h (omega arith) u
+  all-turns :
+      (rest : List Head) (r : ℕ) (k : Taking) (h : History) → ((j : ℕ) → getD hs (r + j) empty ≡ getD rest j empty) → r + length rest ≤ suc mostWaiting →
+      Turn P n r k h → Turns (foldl (takeAt t) k rest) h
+  unfolding foldl
+  all-turns [] r k h i l u =
+      record {
+        count = r;
+        few = omega arith;
+        over = λ q g. let z : q ≡ r + (q - r) = omega arith in ap (λ j. getD hs j empty) z ∙ i (q - r);
+        next = record { history = h; turn = u; later = later-same n h; order = refl };
+      }
+  all-turns (d ∷ rest) r k h i l u =
+      let z : r ≡ r + 0 = omega arith in
+      let x = turn-at r k h d (ap (λ j. getD hs j empty) z ∙ i 0) (omega arith) u in
+      after x (all-turns rest (suc r) (takeAt t k d) (x .history) (λ j. let y : suc r + j ≡ r + suc j = omega arith in ap (λ j. getD hs j empty) y ∙ i (suc j)) (omega arith) (x .turn))
 
   -- what the pop at place n leaves: the others wait, and its turns name what it took
   pub record Pop (k : Taking) (h : History) : Type 0 where
@@ -160,22 +179,35 @@ module _ (P : Entry → Type 0) (n : ℕ) (hit : (x : Entry) (r : ℕ) → r ≤
     pub order : inOrder 0 history ≡ inOrder 0 h
     pub now : bares (k .state) ≡ nowIn history
     pub took : map bare (k .events) ≡ takenBy n history
-    pub each : Each P history
+    pub count : ℕ
+    pub over : (q : ℕ) → count ≤ q → getD hs q empty ≡ empty
+    pub each : Each (P count) history
 
   -- turns that took nothing may follow
-  whole : {k : Taking} {h : History} → Turns (suc mostWaiting) k h → Pop k h
+  whole : {k : Taking} {h : History} → Turns k h → Pop k h
   whole y =
-      record { history = y .next .history; later = y .next .later; order = y .next .order; now = y .next .turn .now; each = y .next .turn .each; took = y .next .turn .took ∙ full (y .count) (y .few) (y .next .history) (y .next .turn .closed) }
+      record {
+        history = y .next .history;
+        later = y .next .later;
+        order = y .next .order;
+        now = y .next .turn .now;
+        count = y .count;
+        over = y .over;
+        each = y .next .turn .each;
+        took = y .next .turn .took ∙ full (y .count) (y .few) (y .next .history) (y .next .turn .closed);
+      }
     where
       full : (r : ℕ) → r ≤ suc mostWaiting → (h : History) → Each (Open n r) h → takenUpTo n r h ≡ takenBy n h
       full r l h e = let z : r + (suc mostWaiting - r) ≡ suc mostWaiting = omega arith in sym (taken-end n r (suc mostWaiting - r) h e) ∙ ap (λ j. takenUpTo n j h) z
 
-  pub pop-turns : (img : Image) (t : Tag) (s : State) (h : History) → length (s .waiting) ≤ mostWaiting → bares s ≡ nowIn h → Each (Open n 0) h → Each P h → Pop (taking img t s) h
-  unfolding taking takenUpTo
-  pop-turns img t s h room now closed each =
-      let k : Taking = record { state = s; events = [] } in
-      let x = turn-at t 0 k h (rootHead s) (omega arith) (record { now = now; took = refl; closed = closed; each = each }) in
-      whole (after x (scope-turns img t (length (s .waiting)) 1 (takeAt t k (rootHead s)) (x .history) (omega arith) (x .turn)))
+  pub pop-turns :
+      (s : State) (h : History) → length hs ≤ suc mostWaiting → bares s ≡ nowIn h → Each (Open n 0) h → Each (P 0) h →
+      Pop (foldl (takeAt t) (record { state = s; events = [] }) hs) h
+  unfolding takenUpTo
+  pop-turns s h few now closed each =
+      whole
+      (all-turns hs 0 (record { state = s; events = [] }) h (λ j. let z : 0 + j ≡ j = omega arith in ap (λ j. getD hs j empty) z) (omega arith)
+      (record { now = now; took = refl; closed = closed; each = each }))
 
 -- a pop that found no head took nothing
 pub none-taken : (n : ℕ) (h : History) → Each (Open n 0) h → takenBy n h ≡ []

@@ -1,20 +1,18 @@
 -- Demand 3 for the code: what the public calls answer and leave, made one after the other from a fresh manager, is what the history tells. Each public
 -- call's contract is `stepOn` (crate manager), so these are statements about the code. Assumes nothing but the accepted table.
 use mathlib.Core.Bool.{true}
-use mathlib.Core.Path.{_≡_, refl, ap, _∙_}
+use mathlib.Core.Path.{_≡_, ap, _∙_}
 use mathlib.Core.List.{List, [], _∷_}
 use Prim.Native.Nat.{ℕ}
 use lib.ListN.{take}
 use Rattle.rows.specs.Bytes.{Image}
 use Rattle.table.specs.Check.{isTable}
-use Rattle.machine.specs.State.{State, fresh}
-use Rattle.machine.specs.Machine.{Call, step, run}
+use Rattle.machine.specs.State.{State}
+use Rattle.machine.specs.Machine.{Call, step}
 use Rattle.manager.specs.Arrays.{Arrays, viewOf, isSound, stepOn, runOn, freshOver}
 use Rattle.manager.proofs.Runs.{step-reply, step-sound, fresh-sound, own-view}
-use Rattle.gate_day.specs.Days.{ran}
-use Rattle.gate_day.specs.Calls.{callsTaken, ran-runs}
-use Rattle.history.specs.History.{History, Told, moment, callAt, outcome}
-use Rattle.history.specs.Fates.{fates}
+use Rattle.history.specs.History.{moment, callAt, outcome}
+use Rattle.history.specs.One.{TheHistory, the-history}
 
 -- the manager's arrays before the call at place n
 abbrev pub managerAt : Image → List Call → ℕ → Arrays
@@ -40,13 +38,5 @@ managed img t cs =
     }
 
 -- so every event that the public calls accepted has one fate
-pub own-fates : (img : Image) → isTable img ≡ true → (cs : List Call) → (h : History) × (Told img cs h × Managed img cs)
-own-fates img t cs = let f = fates img t cs in (f .0, (f .1, managed img t cs))
-
--- and so has every event of a gate day: `gate_day::run_records`, from `gate_day::start`, leaves the state after the calls among its records
-pub day-fates :
-    (img : Image) → isTable img ≡ true → (bytes : List ℕ) (room : ℕ) →
-    (h : History) × (Told img (callsTaken img bytes (fresh img) room) h × (ran img bytes (fresh img) room .state ≡ run img (fresh img) (callsTaken img bytes (fresh img) room)))
-day-fates img t bytes room =
-    let f = fates img t (callsTaken img bytes (fresh img) room) in
-    (f .0, (f .1, ran-runs img bytes (fresh img) room))
+pub own-fates : (img : Image) → isTable img ≡ true → (cs : List Call) → TheHistory img cs × Managed img cs
+own-fates img t cs = (the-history img t cs, managed img t cs)
