@@ -1,12 +1,16 @@
 /*
  * barnshiver.h: the functions of libexports.a (`rt staticlib exports`), for x86-64 Linux.
  *
- * Each is proved to meet its contract. They keep nothing between calls, allocate nothing, call nothing, and answer on any
- * input. "01" is the scope's document; numbers of refusal are its own.
+ * Each is proved to meet its contract. They keep nothing between calls, allocate nothing, and answer on any input. Of the C
+ * library the archive needs memcpy and memset, and nothing else. "01" is the scope's document; numbers of refusal are its own.
  *
- * A slice is a pointer and a length, in elements, as two parameters one after the other. A pointer is never null (an empty
- * slice may point at anything that is not null) and is aligned for its type. Slices that are written to must not overlap
- * others.
+ * All that is handed over is numbers and bytes. A slice is a pointer and a length in bytes, as two parameters one after the
+ * other. A pointer is never null (an empty slice may point at anything that is not null). Slices that are written to must not
+ * overlap others. A number in bytes has its highest byte first, as in an image.
+ *
+ * What a function tells besides its answer stands at the front of a lent slice; bytes behind that stay as they were. A lent
+ * slice that is too short is answered BARNSHIVER_NO_ROOM before anything else is looked at, and stays as it was (but for
+ * barnshiver_run_day, which takes any room).
  */
 #ifndef BARNSHIVER_H
 #define BARNSHIVER_H
@@ -18,44 +22,72 @@
 extern "C" {
 #endif
 
-/* Numbers of a scope clock: G offset, G microstep, L offset, L microstep, allowed (0 or 1), S offset, S microstep. */
-#define BARNSHIVER_CLOCK_WORDS 7
-/* Numbers of a tag: offset, microstep. */
-#define BARNSHIVER_TAG_WORDS 2
+/* A lent slice is too short. None of 01's numbers. */
+#define BARNSHIVER_NO_ROOM 255
+/* Bytes of a tag, as in a record: offset 8, microstep 4. */
+#define BARNSHIVER_TAG_BYTES 12
+/* Bytes of a scope clock: G 12 (a tag), L 12, allowed 1 (0 or 1), S 12. */
+#define BARNSHIVER_CLOCK_BYTES 37
+/* Bytes of a place. */
+#define BARNSHIVER_PLACE_BYTES 8
 /* Room in which every line fits. */
 #define BARNSHIVER_LINE_ROOM 4096
-/* Words of a state; what each is stands at barnshiver_state_after. */
-#define BARNSHIVER_STATE_WORDS 3576
+/* Bytes of a state; what they are stands at barnshiver_state_after. */
+#define BARNSHIVER_STATE_BYTES 28608
 /* No scope (the root's queue), no action, no mode. */
 #define BARNSHIVER_NONE 65535
 
 /*
  * A global tag on the scope's local scale, and a local one on the global scale (01, "Tags").
- * 0: `tag` holds the answer. 11: the clock is none (not 7 numbers, a tag beyond the limits, allowed neither 0 nor 1).
- * 6: the tag given is beyond the limits. 7: the answer would be. With a refusal `tag` stays as it was.
- * `tag` has room for 2 numbers.
+ *
+ *   clock   BARNSHIVER_CLOCK_BYTES
+ *   offset, microstep   the tag given
+ *   tag     room for BARNSHIVER_TAG_BYTES
+ *
+ *   0    `tag` begins with the answer's 12 bytes
+ *   6    the tag given is beyond the limits
+ *   7    the answer would be
+ *   11   the clock is none: not 37 bytes, a tag beyond the limits, or allowed neither 0 nor 1
+ *   255  `tag` has fewer than 12 bytes
+ *
+ * With any answer but 0 `tag` stays as it was. 11 comes before 6.
  */
-uint8_t barnshiver_global_to_local(const uint64_t *clock, size_t clock_length, uint64_t offset, uint32_t microstep,
-                                   uint64_t *tag, size_t tag_length);
-uint8_t barnshiver_local_to_global(const uint64_t *clock, size_t clock_length, uint64_t offset, uint32_t microstep,
-                                   uint64_t *tag, size_t tag_length);
+uint8_t barnshiver_global_to_local(const uint8_t *clock, size_t clock_length, uint64_t offset, uint32_t microstep,
+                                   uint8_t *tag, size_t tag_length);
+uint8_t barnshiver_local_to_global(const uint8_t *clock, size_t clock_length, uint64_t offset, uint32_t microstep,
+                                   uint8_t *tag, size_t tag_length);
 
 /*
- * Whether an image is a table (01, "The table image"). 0: it is, and *place is 0. 1 to 4: the refusal, and *place is the
- * byte that 01 names for it.
+ * Whether an image is a table (01, "The table image").
+ *
+ *   image   all of it, its four length bytes too
+ *   place   room for BARNSHIVER_PLACE_BYTES
+ *
+ *   0       it is, and `place` begins with eight bytes of 0
+ *   1 to 4  the refusal, and `place` begins with the place that 01 names for it
+ *   255     `place` has fewer than 8 bytes and stays as it was
  */
-uint8_t barnshiver_check_table(const uint8_t *image, size_t image_length, uint64_t *place);
+uint8_t barnshiver_check_table(const uint8_t *image, size_t image_length, uint8_t *place, size_t place_length);
 
 /*
  * Runs a gate day, an image and its records (01, "The bench program"), and writes the lines of its answers over the front
- * of `lines`; answers how many bytes they take. Only whole lines are written, and only while the longest line would still
- * fit: if at least BARNSHIVER_LINE_ROOM bytes are left over, nothing was held back.
+ * of `lines`; answers how many bytes they take, and bytes behind them stay as they were. Only whole lines are written, and only
+ * while the longest line would still fit: if at least BARNSHIVER_LINE_ROOM bytes are left over, nothing was held back.
  */
 size_t barnshiver_run_day(const uint8_t *day, size_t day_length, uint8_t *lines, size_t lines_length);
 
 /*
- * The state after a day's records. 0: `state` holds it. 1: the image is refused, or `state` has fewer than
- * BARNSHIVER_STATE_WORDS words; then it stays as it was. The words:
+ * The state after a day's records.
+ *
+ *   day     an image and its records
+ *   state   room for BARNSHIVER_STATE_BYTES
+ *
+ *   0       `state` begins with the state
+ *   1 to 4  the image is refused with this number, as barnshiver_run_day has it: 1 also for one that is cut short or longer
+ *           than 3,287 bytes
+ *   255     `state` has fewer than 28,608 bytes; the day was not looked at
+ *
+ * With any answer but 0 `state` stays as it was. A state is 3,576 numbers of eight bytes; number k begins at byte 8 * k:
  *
  *      0  1 if there is a peek tag, else 0      1, 2  the peek tag: offset, microstep
  *      3  1 if what comes next is control only  4     ordinary work
@@ -70,7 +102,7 @@ size_t barnshiver_run_day(const uint8_t *day, size_t day_length, uint8_t *lines,
  *
  * Rows past a count, and those of scopes and reactors that the table lacks, mean nothing.
  */
-uint8_t barnshiver_state_after(const uint8_t *day, size_t day_length, uint64_t *state, size_t state_length);
+uint8_t barnshiver_state_after(const uint8_t *day, size_t day_length, uint8_t *state, size_t state_length);
 
 #ifdef __cplusplus
 }

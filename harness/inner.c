@@ -4,35 +4,30 @@
  */
 #include "barnshiver.h"
 
-struct numbers {
-    const uint64_t *first;
-    size_t length;
-};
-
 struct bytes {
     const uint8_t *first;
     size_t length;
 };
 
-uint8_t inner_barnshiver_global_to_local(const struct numbers *clock, uint64_t offset, uint32_t microstep, const struct numbers *tag);
-uint8_t inner_barnshiver_local_to_global(const struct numbers *clock, uint64_t offset, uint32_t microstep, const struct numbers *tag);
-uint8_t inner_barnshiver_check_table(const struct bytes *image, uint64_t *place);
+uint8_t inner_barnshiver_global_to_local(const struct bytes *clock, uint64_t offset, uint32_t microstep, const struct bytes *tag);
+uint8_t inner_barnshiver_local_to_global(const struct bytes *clock, uint64_t offset, uint32_t microstep, const struct bytes *tag);
+uint8_t inner_barnshiver_check_table(const struct bytes *image, const struct bytes *place);
 size_t inner_barnshiver_run_day(const struct bytes *day, const struct bytes *lines);
-uint8_t inner_barnshiver_state_after(const struct bytes *day, const struct numbers *state);
+uint8_t inner_barnshiver_state_after(const struct bytes *day, const struct bytes *state);
 
-uint8_t barnshiver_global_to_local(const uint64_t *clock, size_t clock_length, uint64_t offset, uint32_t microstep, uint64_t *tag, size_t tag_length) {
-    struct numbers from = {clock, clock_length}, to = {tag, tag_length};
+uint8_t barnshiver_global_to_local(const uint8_t *clock, size_t clock_length, uint64_t offset, uint32_t microstep, uint8_t *tag, size_t tag_length) {
+    struct bytes from = {clock, clock_length}, to = {tag, tag_length};
     return inner_barnshiver_global_to_local(&from, offset, microstep, &to);
 }
 
-uint8_t barnshiver_local_to_global(const uint64_t *clock, size_t clock_length, uint64_t offset, uint32_t microstep, uint64_t *tag, size_t tag_length) {
-    struct numbers from = {clock, clock_length}, to = {tag, tag_length};
+uint8_t barnshiver_local_to_global(const uint8_t *clock, size_t clock_length, uint64_t offset, uint32_t microstep, uint8_t *tag, size_t tag_length) {
+    struct bytes from = {clock, clock_length}, to = {tag, tag_length};
     return inner_barnshiver_local_to_global(&from, offset, microstep, &to);
 }
 
-uint8_t barnshiver_check_table(const uint8_t *image, size_t image_length, uint64_t *place) {
-    struct bytes from = {image, image_length};
-    return inner_barnshiver_check_table(&from, place);
+uint8_t barnshiver_check_table(const uint8_t *image, size_t image_length, uint8_t *place, size_t place_length) {
+    struct bytes from = {image, image_length}, to = {place, place_length};
+    return inner_barnshiver_check_table(&from, &to);
 }
 
 size_t barnshiver_run_day(const uint8_t *day, size_t day_length, uint8_t *lines, size_t lines_length) {
@@ -40,8 +35,7 @@ size_t barnshiver_run_day(const uint8_t *day, size_t day_length, uint8_t *lines,
     return inner_barnshiver_run_day(&from, &to);
 }
 
-uint8_t barnshiver_state_after(const uint8_t *day, size_t day_length, uint64_t *state, size_t state_length) {
-    struct bytes from = {day, day_length};
-    struct numbers to = {state, state_length};
+uint8_t barnshiver_state_after(const uint8_t *day, size_t day_length, uint8_t *state, size_t state_length) {
+    struct bytes from = {day, day_length}, to = {state, state_length};
     return inner_barnshiver_state_after(&from, &to);
 }

@@ -13,23 +13,39 @@ static const uint8_t day[] = {
     /* pop, pop */
     0, 0, 0, 2, 1, 6, 0, 0, 0, 2, 1, 6};
 
+/* m1's clock of 01: G (100,2), L (40,1), not allowed, S (0,0) */
+static const uint8_t scope_clock[BARNSHIVER_CLOCK_BYTES] = {
+    0, 0, 0, 0, 0, 0, 0, 100, 0, 0, 0, 2,
+    0, 0, 0, 0, 0, 0, 0, 40, 0, 0, 0, 1,
+    0,
+    0, 0, 0, 0, 0, 0, 0, 0, 0, 0, 0, 0};
+
+/* A number of so many bytes, the highest first. */
+static unsigned long long number(const uint8_t *bytes, int width) {
+    unsigned long long n = 0;
+    while (width-- > 0)
+        n = n << 8 | *bytes++;
+    return n;
+}
+
 int main(void) {
     static uint8_t lines[4 * BARNSHIVER_LINE_ROOM];
-    static uint64_t state[BARNSHIVER_STATE_WORDS];
-    const uint64_t clock[BARNSHIVER_CLOCK_WORDS] = {100, 2, 40, 1, 0, 0, 0};
-    uint64_t tag[BARNSHIVER_TAG_WORDS];
-    uint64_t place;
+    static uint8_t state[BARNSHIVER_STATE_BYTES];
+    uint8_t tag[BARNSHIVER_TAG_BYTES];
+    uint8_t place[BARNSHIVER_PLACE_BYTES];
 
-    if (barnshiver_check_table(day, 34, &place) != 0)
+    if (barnshiver_check_table(day, 34, place, sizeof place) != 0)
         return 1;
     fwrite(lines, 1, barnshiver_run_day(day, sizeof day, lines, sizeof lines), stdout);
-    /* the state after the push alone */
-    if (barnshiver_state_after(day, sizeof day - 12, state, BARNSHIVER_STATE_WORDS) != 0 || state[0] != 1)
+    /* the state after the push alone: there is a peek tag (number 0), its offset (1), how many wait (5) */
+    if (barnshiver_state_after(day, sizeof day - 12, state, sizeof state) != 0 || number(state, 8) != 1)
         return 1;
-    printf("after the push: peek %llu, %llu waits\n", (unsigned long long)state[1], (unsigned long long)state[5]);
-    /* m1 of 01 */
-    if (barnshiver_local_to_global(clock, BARNSHIVER_CLOCK_WORDS, 40, 1, tag, BARNSHIVER_TAG_WORDS) != 0)
+    printf("after the push: peek %llu, %llu waits\n", number(state + 8 * 1, 8), number(state + 8 * 5, 8));
+    if (barnshiver_local_to_global(scope_clock, sizeof scope_clock, 40, 1, tag, sizeof tag) != 0)
         return 1;
-    printf("local (40,1) is global (%llu,%llu)\n", (unsigned long long)tag[0], (unsigned long long)tag[1]);
+    printf("local (40,1) is global (%llu,%llu)\n", number(tag, 8), number(tag + 8, 4));
+    /* the same image cut short, and a tag into too few bytes */
+    printf("cut short: refused %u\n", barnshiver_state_after(day, 33, state, sizeof state));
+    printf("no room: %u\n", barnshiver_local_to_global(scope_clock, sizeof scope_clock, 40, 1, tag, 11));
     return 0;
 }

@@ -159,11 +159,7 @@ impl Gate {
 }
 
 fn bytes(tag: Tag) -> Vec<u8> {
-    [
-        &tag.offset.to_be_bytes()[..],
-        &tag.microstep.to_be_bytes()[..],
-    ]
-    .concat()
+    <[u8; slices::TAG_BYTES]>::from(tag).to_vec()
 }
 
 fn keys(reactions: &[u16]) -> Vec<u8> {

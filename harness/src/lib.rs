@@ -51,6 +51,22 @@ impl Tag {
     }
 }
 
+impl From<[u8; slices::TAG_BYTES]> for Tag {
+    fn from(bytes: [u8; slices::TAG_BYTES]) -> Self {
+        let (offset, microstep) = bytes.split_at(8);
+        Self::new(state::number(offset), state::number(microstep) as u32)
+    }
+}
+
+impl From<Tag> for [u8; slices::TAG_BYTES] {
+    fn from(tag: Tag) -> Self {
+        let mut bytes = [0; slices::TAG_BYTES];
+        bytes[..8].copy_from_slice(&tag.offset.to_be_bytes());
+        bytes[8..].copy_from_slice(&tag.microstep.to_be_bytes());
+        bytes
+    }
+}
+
 impl fmt::Display for Tag {
     fn fmt(&self, f: &mut fmt::Formatter<'_>) -> fmt::Result {
         write!(f, "({},{})", self.offset, self.microstep)
@@ -89,27 +105,44 @@ pub struct TableRefused {
 
 impl fmt::Display for TableRefused {
     fn fmt(&self, f: &mut fmt::Formatter<'_>) -> fmt::Result {
-        let why = match self.number {
-            1 => "its length does not fit",
-            2 => "its version is not 1",
-            3 => "a count is too large, or there is no scope or no reactor",
-            _ => "a row breaks a rule",
-        };
-        write!(
-            f,
-            "table refused {} at byte {}: {why}",
-            self.number, self.place
-        )
+        let (number, place) = (self.number, self.place);
+        write!(f, "table refused {number} at byte {place}: {}", why(number))
     }
 }
 
 impl std::error::Error for TableRefused {}
 
+/// Why a day's image is no table: number 1 to 4, 1 also if it is cut short or longer than any table. `check_table` has the
+/// place.
+#[derive(Debug, Clone, Copy, PartialEq, Eq)]
+pub struct ImageRefused(pub u8);
+
+impl fmt::Display for ImageRefused {
+    fn fmt(&self, f: &mut fmt::Formatter<'_>) -> fmt::Result {
+        write!(f, "table refused {}: {}", self.0, why(self.0))
+    }
+}
+
+impl std::error::Error for ImageRefused {}
+
+fn why(number: u8) -> &'static str {
+    match number {
+        1 => "its length does not fit",
+        2 => "its version is not 1",
+        3 => "a count is too large, or there is no scope or no reactor",
+        _ => "a row breaks a rule",
+    }
+}
+
 /// Whether an image is a table.
 pub fn check_table(image: &[u8]) -> Result<(), TableRefused> {
-    match slices::check_table(image) {
-        (0, _) => Ok(()),
-        (number, place) => Err(TableRefused { number, place }),
+    let mut place = [0; slices::PLACE_BYTES];
+    match slices::check_table(image, &mut place) {
+        0 => Ok(()),
+        number => Err(TableRefused {
+            number,
+            place: u64::from_be_bytes(place),
+        }),
     }
 }
 
@@ -134,18 +167,12 @@ impl ScopeClock {
     }
 
     fn map(&self, to_local: bool, tag: Tag) -> Result<Tag, Refused> {
-        let clock = [
-            self.global.offset,
-            u64::from(self.global.microstep),
-            self.local.offset,
-            u64::from(self.local.microstep),
-            u64::from(self.allowed),
-            self.suspended.offset,
-            u64::from(self.suspended.microstep),
-        ];
-        let mut mapped = [0; 2];
+        let [global, local, suspended] =
+            [self.global, self.local, self.suspended].map(<[u8; slices::TAG_BYTES]>::from);
+        let clock = [&global[..], &local, &[u8::from(self.allowed)], &suspended].concat();
+        let mut mapped = [0; slices::TAG_BYTES];
         match slices::map(to_local, &clock, tag.offset, tag.microstep, &mut mapped) {
-            0 => Ok(Tag::new(mapped[0], mapped[1] as u32)),
+            0 => Ok(Tag::from(mapped)),
             number => Err(Refused(number)),
         }
     }
@@ -165,11 +192,11 @@ pub fn run_day(day: &[u8]) -> Vec<u8> {
     }
 }
 
-/// The state after a day's records; none if its image is refused.
-pub fn state_after(day: &[u8]) -> Option<State> {
-    let mut words = Box::new([0; state::STATE_WORDS]);
-    match slices::state_after(day, &mut words[..]) {
-        0 => Some(State::of(&words)),
-        _ => None,
+/// The state after a day's records.
+pub fn state_after(day: &[u8]) -> Result<State, ImageRefused> {
+    let mut bytes = Box::new([0; state::STATE_BYTES]);
+    match slices::state_after(day, &mut bytes[..]) {
+        0 => Ok(State::of(&bytes)),
+        number => Err(ImageRefused(number)),
     }
 }

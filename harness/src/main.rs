@@ -6,7 +6,8 @@ use std::process::ExitCode;
 use std::sync::atomic::{AtomicU64, AtomicUsize, Ordering};
 use std::sync::Mutex;
 
-use barnshiver::state::STATE_WORDS;
+use barnshiver::slices::{CLOCK_BYTES, NO_ROOM, PLACE_BYTES, TAG_BYTES};
+use barnshiver::state::STATE_BYTES;
 use barnshiver::{slices, LINE_ROOM};
 use oracle::image::{self, number};
 use oracle::make::{make, KINDS};
@@ -61,20 +62,31 @@ fn usage() -> ExitCode {
     ExitCode::from(2)
 }
 
-/// What stands in a tag's place before a call, to see that a refusal leaves it.
-const UNTOUCHED: [u64; 2] = [0x5555_5555_5555_5555, 0xaaaa_aaaa_aaaa_aaaa];
+/// What stands in lent bytes before a call, to see which of them it leaves.
+const FILL: u8 = 0xa5;
 
-/// A clock's numbers, a tag, and what must come out: the number, and the tag if it is 0.
+/// A clock's bytes, a tag, and what must come out: the number, and the tag's bytes if it is 0. In a room too short for a tag
+/// and in one too long.
 fn one_map(
     case: usize,
     to_local: bool,
-    clock: &[u64],
+    clock: &[u8],
     tag: (u64, u32),
-    expected: (u8, [u64; 2]),
+    expected: (u8, &[u8]),
 ) -> Result<(), String> {
-    let mut mapped = UNTOUCHED;
+    let mut short = vec![FILL; case % TAG_BYTES];
+    let number = slices::map(to_local, clock, tag.0, tag.1, &mut short);
+    if number != NO_ROOM || short.iter().any(|&byte| byte != FILL) {
+        let room = short.len();
+        return Err(format!(
+            "map {case}: a tag into {room} bytes: {number}, {short:?}"
+        ));
+    }
+    let mut mapped = [FILL; TAG_BYTES + 3];
     let number = slices::map(to_local, clock, tag.0, tag.1, &mut mapped);
-    if (number, mapped) == expected {
+    let told = if number == 0 { TAG_BYTES } else { 0 };
+    let (answer, rest) = mapped.split_at(told);
+    if (number, answer) == expected && rest.iter().all(|&byte| byte == FILL) {
         return Ok(());
     }
     let way = if to_local {
@@ -100,29 +112,22 @@ fn maps(seed: u64, count: u64) -> Result<String, String> {
         .zip(written.answers.chunks(MAP_ANSWER));
     let (mut calls, mut refused) = (0, [0usize; 12]);
     for (index, (case, answer)) in cases.enumerate() {
-        let tag = |at: usize| [number(&case[at..at + 8]), number(&case[at + 8..at + 12])];
-        let to_local = case[0] == 1;
-        let (given, mut clock) = (tag(38), Vec::new());
-        clock.extend(tag(1));
-        clock.extend(tag(13));
-        clock.push(u64::from(case[25]));
-        clock.extend(tag(26));
-        let given = (given[0], given[1] as u32);
+        let (to_local, clock) = (case[0] == 1, &case[1..1 + CLOCK_BYTES]);
+        let given = (number(&case[38..46]), number(&case[46..]) as u32);
         let expected = match answer[0] {
-            0 => (0, [number(&answer[1..9]), number(&answer[9..13])]),
-            number => (number, UNTOUCHED),
+            0 => (0, &answer[1..]),
+            number => (number, &[][..]),
         };
-        one_map(index + 1, to_local, &clock, given, expected)?;
+        one_map(index + 1, to_local, clock, given, expected)?;
         refused[usize::from(expected.0)] += 1;
-        // The same clock in a form that is none: other lengths, an allowed that is no flag, a microstep of over 32 bits.
-        let mut wrong = clock.clone();
-        match index % 4 {
-            0 => wrong.truncate(index / 4 % 7),
+        // The same clock in a form that is none: other lengths, an allowed that is no flag.
+        let mut wrong = clock.to_vec();
+        match index % 3 {
+            0 => wrong.truncate(index / 3 % CLOCK_BYTES),
             1 => wrong.push(0),
-            2 => wrong[4] = 2 + number(&case[38..46]) % 1000,
-            _ => wrong[[1, 3, 6][index / 4 % 3]] += 1 << (32 + index / 12 % 31),
+            _ => wrong[24] = 2 + (index / 3 % 254) as u8,
         }
-        one_map(index + 1, to_local, &wrong, given, (11, UNTOUCHED))?;
+        one_map(index + 1, to_local, &wrong, given, (11, &[]))?;
         calls += 2;
     }
     Ok(format!(
@@ -169,8 +174,15 @@ fn tables(written: scripts::Written) -> Result<String, String> {
 
 /// An image, and what must be answered of it; a difference in words.
 fn one_table(image: &[u8], expected: (u8, u64)) -> Option<String> {
-    let got = slices::check_table(image);
-    (got != expected).then(|| format!("expected {expected:?} (number, place), got {got:?}"))
+    let mut place = [FILL; PLACE_BYTES + 1];
+    let short = slices::check_table(image, &mut place[..PLACE_BYTES - 1]);
+    if (short, place) != (NO_ROOM, [FILL; PLACE_BYTES + 1]) {
+        return Some(format!("a place into 7 bytes: {short}, {place:?}"));
+    }
+    let number = slices::check_table(image, &mut place);
+    let (at, rest) = place.split_at(PLACE_BYTES);
+    let same = number == expected.0 && at == expected.1.to_be_bytes() && rest == [FILL];
+    (!same).then(|| format!("expected {expected:?} (number, place), got {number}, {place:?}"))
 }
 
 fn days(from: u64, to: u64) -> Result<String, String> {
@@ -245,13 +257,10 @@ fn recorded(folder: &Path) -> Result<String, String> {
 /// A day's lines and its states after every record; how many states, and how many of them the Rust's side has.
 fn one_day(day: &[u8]) -> Result<(usize, usize), String> {
     lines(day)?;
-    let Ok((table, records)) = image::open(day) else {
-        let mut words = [7; STATE_WORDS];
-        let refused = slices::state_after(day, &mut words);
-        return match (refused, words == [7; STATE_WORDS]) {
-            (1, true) => Ok((0, 0)),
-            _ => Err("a refused image has a state".to_string()),
-        };
+    no_state(day, STATE_BYTES - 1, NO_ROOM)?;
+    let (table, records) = match image::open(day) {
+        Ok(opened) => opened,
+        Err(refused) => return no_state(day, STATE_BYTES, refused.number).map(|()| (0, 0)),
     };
     let (mut plain_lines, mut rust_lines) = (Vec::new(), Vec::new());
     deep::print_plain(day, &mut plain_lines).map_err(|error| error.to_string())?;
@@ -272,7 +281,8 @@ fn one_day(day: &[u8]) -> Result<(usize, usize), String> {
             end += record.bytes.len();
             what = format!("after record {at} ({record})");
         }
-        let ours = barnshiver::state_after(&day[..end]).ok_or(format!("{what}: no state"))?;
+        let ours =
+            barnshiver::state_after(&day[..end]).map_err(|words| format!("{what}: {words}"))?;
         let line = seen::line(at, &ours, &table);
         let expected = plain_lines.next().unwrap_or("");
         if line != expected {
@@ -294,8 +304,18 @@ fn one_day(day: &[u8]) -> Result<(usize, usize), String> {
     Ok((states, with_rust))
 }
 
-/// What stands behind the lines before a call.
-const FILL: u8 = 0xa5;
+/// So many bytes for a day's state must be answered this number, and stay as they were.
+fn no_state(day: &[u8], room: usize, expected: u8) -> Result<(), String> {
+    let mut state = vec![FILL; room];
+    let number = slices::state_after(day, &mut state);
+    match number == expected && state.iter().all(|&byte| byte == FILL) {
+        true => Ok(()),
+        false => Err(format!(
+            "no state in {room} bytes: expected {expected} and none changed, got {number}"
+        )),
+    }
+}
+
 /// Pops behind a day, so that its lines take more than the room of one.
 const POPS: usize = 600;
 const POP: [u8; 6] = [0, 0, 0, 2, 1, 6];

@@ -2,24 +2,29 @@
 
 extern "C" {
     pub fn barnshiver_global_to_local(
-        clock: *const u64,
+        clock: *const u8,
         clock_length: usize,
         offset: u64,
         microstep: u32,
-        tag: *mut u64,
+        tag: *mut u8,
         tag_length: usize,
     ) -> u8;
 
     pub fn barnshiver_local_to_global(
-        clock: *const u64,
+        clock: *const u8,
         clock_length: usize,
         offset: u64,
         microstep: u32,
-        tag: *mut u64,
+        tag: *mut u8,
         tag_length: usize,
     ) -> u8;
 
-    pub fn barnshiver_check_table(image: *const u8, image_length: usize, place: *mut u64) -> u8;
+    pub fn barnshiver_check_table(
+        image: *const u8,
+        image_length: usize,
+        place: *mut u8,
+        place_length: usize,
+    ) -> u8;
 
     pub fn barnshiver_run_day(
         day: *const u8,
@@ -31,7 +36,7 @@ extern "C" {
     pub fn barnshiver_state_after(
         day: *const u8,
         day_length: usize,
-        state: *mut u64,
+        state: *mut u8,
         state_length: usize,
     ) -> u8;
 }

@@ -1,9 +1,19 @@
-//! The library's functions on Rust's slices, with the answers as they come. All else is built on these.
+//! The library's functions on Rust's slices, with the answers as they come (barnshiver.h says what they are). All else is
+//! built on these.
 
 use crate::raw;
 
-/// Global to local, or local to global, on a clock's numbers; 0, or the refusal and `tag` as it was.
-pub fn map(to_local: bool, clock: &[u64], offset: u64, microstep: u32, tag: &mut [u64; 2]) -> u8 {
+/// What is answered where a lent slice is too short, which then stays as it was.
+pub const NO_ROOM: u8 = 255;
+/// Bytes of a tag: offset 8, microstep 4.
+pub const TAG_BYTES: usize = 12;
+/// Bytes of a clock: G, L, allowed 1, S.
+pub const CLOCK_BYTES: usize = 37;
+/// Bytes of a place.
+pub const PLACE_BYTES: usize = 8;
+
+/// Global to local, or local to global, on a clock's bytes: 0, or the refusal and `tag` as it was.
+pub fn map(to_local: bool, clock: &[u8], offset: u64, microstep: u32, tag: &mut [u8]) -> u8 {
     let function = if to_local {
         raw::barnshiver_global_to_local
     } else {
@@ -22,12 +32,12 @@ pub fn map(to_local: bool, clock: &[u64], offset: u64, microstep: u32, tag: &mut
     }
 }
 
-/// 0, or the refusal; and the place.
-pub fn check_table(image: &[u8]) -> (u8, u64) {
-    let mut place = 0;
-    // SAFETY: as above; `place` is a u64 of ours.
-    let number = unsafe { raw::barnshiver_check_table(image.as_ptr(), image.len(), &mut place) };
-    (number, place)
+/// 0, or the refusal; and the place over the front of `place`.
+pub fn check_table(image: &[u8], place: &mut [u8]) -> u8 {
+    // SAFETY: as above.
+    unsafe {
+        raw::barnshiver_check_table(image.as_ptr(), image.len(), place.as_mut_ptr(), place.len())
+    }
 }
 
 /// The lines of a day over the front of `lines`; how many bytes.
@@ -36,8 +46,8 @@ pub fn run_day(day: &[u8], lines: &mut [u8]) -> usize {
     unsafe { raw::barnshiver_run_day(day.as_ptr(), day.len(), lines.as_mut_ptr(), lines.len()) }
 }
 
-/// The state after a day's records; 0, or 1 and `state` as it was.
-pub fn state_after(day: &[u8], state: &mut [u64]) -> u8 {
+/// The state after a day's records over the front of `state`: 0; or the image's refusal and `state` as it was.
+pub fn state_after(day: &[u8], state: &mut [u8]) -> u8 {
     // SAFETY: as above.
     unsafe { raw::barnshiver_state_after(day.as_ptr(), day.len(), state.as_mut_ptr(), state.len()) }
 }

@@ -7,35 +7,39 @@ use oracle::image::{self, RawTag};
 use oracle::plain::{self, Clock, Plain};
 use oracle::records::split;
 
-use crate::state::STATE_WORDS;
-use crate::LINE_ROOM;
+use crate::slices::{CLOCK_BYTES, NO_ROOM, PLACE_BYTES, TAG_BYTES};
+use crate::state::STATE_BYTES;
+use crate::{Tag, LINE_ROOM};
 
-/// SAFETY of all below: a caller hands over pointers and lengths of slices that live through the call.
-unsafe fn map(to_local: bool, clock: &[u64], offset: u64, microstep: u32, tag: &mut [u64]) -> u8 {
-    let [g_offset, g_step, l_offset, l_step, allowed, s_offset, s_step] = clock[..] else {
+/// A map on a clock's bytes, and the tag that it answers over the front of `tag`.
+fn map(to_local: bool, clock: &[u8], given: RawTag, tag: &mut [u8]) -> u8 {
+    if tag.len() < TAG_BYTES {
+        return NO_ROOM;
+    }
+    if clock.len() != CLOCK_BYTES || clock[24] > 1 {
         return 11;
-    };
-    let within = |offset: u64, step: u64| {
-        let tag = RawTag::new(offset, u32::try_from(step).ok()?);
-        tag.within_limits().then_some(tag)
-    };
-    let (Some(global), Some(local), Some(suspended), 0 | 1) = (
-        within(g_offset, g_step),
-        within(l_offset, l_step),
-        within(s_offset, s_step),
-        allowed,
-    ) else {
-        return 11;
+    }
+    let part = |at: usize| {
+        let mut bytes = [0; TAG_BYTES];
+        bytes.copy_from_slice(&clock[at..at + TAG_BYTES]);
+        let tag = Tag::from(bytes);
+        RawTag::new(tag.offset, tag.microstep)
     };
     let clock = Clock {
-        global,
-        local,
-        allowed: allowed == 1,
-        suspended,
+        global: part(0),
+        local: part(12),
+        allowed: clock[24] == 1,
+        suspended: part(25),
     };
-    let Some(given) = within(offset, u64::from(microstep)) else {
+    if ![clock.global, clock.local, clock.suspended]
+        .iter()
+        .all(|tag| tag.within_limits())
+    {
+        return 11;
+    }
+    if !given.within_limits() {
         return 6;
-    };
+    }
     let mapped = if to_local {
         clock.to_local(given)
     } else {
@@ -43,53 +47,60 @@ unsafe fn map(to_local: bool, clock: &[u64], offset: u64, microstep: u32, tag: &
     };
     match mapped {
         Ok(mapped) => {
-            tag[0] = mapped.offset;
-            tag[1] = u64::from(mapped.microstep);
+            let bytes: [u8; TAG_BYTES] = Tag::new(mapped.offset, mapped.microstep).into();
+            tag[..TAG_BYTES].copy_from_slice(&bytes);
             0
         }
         Err(number) => number,
     }
 }
 
+// SAFETY of all below: a caller hands over pointers and lengths of slices that live through the call.
+
 #[no_mangle]
 unsafe extern "C" fn barnshiver_global_to_local(
-    clock: *const u64,
+    clock: *const u8,
     clock_length: usize,
     offset: u64,
     microstep: u32,
-    tag: *mut u64,
+    tag: *mut u8,
     tag_length: usize,
 ) -> u8 {
     let clock = slice::from_raw_parts(clock, clock_length);
     let tag = slice::from_raw_parts_mut(tag, tag_length);
-    map(true, clock, offset, microstep, tag)
+    map(true, clock, RawTag::new(offset, microstep), tag)
 }
 
 #[no_mangle]
 unsafe extern "C" fn barnshiver_local_to_global(
-    clock: *const u64,
+    clock: *const u8,
     clock_length: usize,
     offset: u64,
     microstep: u32,
-    tag: *mut u64,
+    tag: *mut u8,
     tag_length: usize,
 ) -> u8 {
     let clock = slice::from_raw_parts(clock, clock_length);
     let tag = slice::from_raw_parts_mut(tag, tag_length);
-    map(false, clock, offset, microstep, tag)
+    map(false, clock, RawTag::new(offset, microstep), tag)
 }
 
 #[no_mangle]
 unsafe extern "C" fn barnshiver_check_table(
     image: *const u8,
     image_length: usize,
-    place: *mut u64,
+    place: *mut u8,
+    place_length: usize,
 ) -> u8 {
+    let place = slice::from_raw_parts_mut(place, place_length);
+    if place.len() < PLACE_BYTES {
+        return NO_ROOM;
+    }
     let (number, at) = match image::check(slice::from_raw_parts(image, image_length)) {
         Ok(_) => (0, 0),
         Err(refused) => (refused.number, refused.place),
     };
-    *place = at as u64;
+    place[..PLACE_BYTES].copy_from_slice(&(at as u64).to_be_bytes());
     number
 }
 
@@ -117,22 +128,29 @@ unsafe extern "C" fn barnshiver_run_day(
 unsafe extern "C" fn barnshiver_state_after(
     day: *const u8,
     day_length: usize,
-    state: *mut u64,
+    state: *mut u8,
     state_length: usize,
 ) -> u8 {
     let state = slice::from_raw_parts_mut(state, state_length);
+    if state.len() < STATE_BYTES {
+        return NO_ROOM;
+    }
     match words(slice::from_raw_parts(day, day_length)) {
-        Some(words) if state.len() >= STATE_WORDS => {
-            state[..STATE_WORDS].copy_from_slice(&words);
+        Ok(words) => {
+            let bytes = words.iter().flat_map(|word| word.to_be_bytes());
+            state
+                .iter_mut()
+                .zip(bytes)
+                .for_each(|(at, byte)| *at = byte);
             0
         }
-        _ => 1,
+        Err(refused) => refused.number,
     }
 }
 
 /// The words of the state after a day's records, as barnshiver.h lays them out.
-fn words(day: &[u8]) -> Option<Vec<u64>> {
-    let (table, records) = image::open(day).ok()?;
+fn words(day: &[u8]) -> Result<Vec<u64>, image::Refused> {
+    let (table, records) = image::open(day)?;
     let mut plain = Plain::new(&table);
     for record in split(records) {
         plain.step(&record.op);
@@ -193,6 +211,6 @@ fn words(day: &[u8]) -> Option<Vec<u64>> {
     for bucket in &state.store.buckets {
         words.extend([bucket.action as u64, bucket.offset, u64::from(bucket.next)]);
     }
-    words.resize(STATE_WORDS, 0);
-    Some(words)
+    words.resize(STATE_BYTES / 8, 0);
+    Ok(words)
 }

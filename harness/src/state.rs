@@ -1,9 +1,9 @@
-//! The state after a day's records, taken apart from its words (barnshiver.h says what each is).
+//! The state after a day's records, taken apart from its bytes (barnshiver.h says what each is).
 
 use crate::{ScopeClock, Tag};
 
-/// Words of a state.
-pub const STATE_WORDS: usize = BUCKETS_AT + MOST * BUCKET_WORDS;
+/// Bytes of a state: numbers of eight, here called words.
+pub const STATE_BYTES: usize = 8 * (BUCKETS_AT + MOST * BUCKET_WORDS);
 /// The number that means "none".
 const NONE: u64 = 65535;
 /// Most reactors, scopes, and events, values or buckets.
@@ -78,6 +78,13 @@ pub struct Bucket {
     pub next: u64,
 }
 
+/// A number of at most eight bytes, the highest first.
+pub(crate) fn number(bytes: &[u8]) -> u64 {
+    bytes
+        .iter()
+        .fold(0, |high, &byte| high << 8 | u64::from(byte))
+}
+
 fn key(word: u64) -> Option<u16> {
     (word != NONE).then_some(word as u16)
 }
@@ -126,8 +133,9 @@ fn event(row: &[u64]) -> Event {
 }
 
 impl State {
-    /// Takes the words apart.
-    pub fn of(words: &[u64; STATE_WORDS]) -> Self {
+    /// Takes the bytes apart.
+    pub fn of(bytes: &[u8; STATE_BYTES]) -> Self {
+        let words: Vec<u64> = bytes.chunks(8).map(number).collect();
         // A count over the most there can be is no count; the rows end there.
         let rows = |at: usize, width: usize, count: u64| {
             words[at..]

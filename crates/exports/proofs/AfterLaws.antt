@@ -22,7 +22,7 @@ use Rattle.gate_day.proofs.WholeLaws.{rest-is, over-rests, ran-state, rests-cal
 use Rattle.gate_day.specs.Views.{Kept, Pieced, viewOf}
 use Rattle.gate_day.specs.declared.Day.{Day}
 use Rattle.gate_day.specs.declared.Pieces.{Pieces}
-use Rattle.exports.specs.Words.{afterAll}
+use Rattle.exports.specs.State.{afterAll}
 
 -- ---- piece by piece
 

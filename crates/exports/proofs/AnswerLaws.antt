@@ -1,62 +1,50 @@
--- What is answered for a day, and what the words are then. Assumes nothing.
-use mathlib.Core.Bool.{Bool, true, false, cond, _&&_}
-use mathlib.Core.Path.{_≡_, refl, ap, _∙_, sym}
+-- What is told of a table's check and of a day's state. Assumes nothing.
+use mathlib.Core.Path.{_≡_, ap, _∙_, sym}
 use mathlib.Core.List.{List}
 use Prim.Native.Nat.{ℕ, _≤_, _<_}
-use lib.Dec.{leb}
 use lib.ListN.{length, take, drop}
-use borrow.Author.Tests.{le-leb, lt-leb}
-use Rattle.lists.specs.Tests.{and-both}
-use Rattle.table.specs.Check.{isTable}
-use Rattle.machine.specs.State.{State}
-use Rattle.gate_day.specs.Days.{imageEnd, imageIn, recordBytes}
+use Rattle.table.specs.Check.{numberOf}
+use Rattle.table.specs.declared.Checked.{Checked}
+use Rattle.table.specs.declared.Checked.the-variants.{Accepted, Refused}
+use Rattle.table.specs.declared.ImageRefusal.{ImageRefusal}
+use Rattle.lines.specs.Written.{Written}
+use Rattle.gate_day.specs.Days.{imageEnd, opened}
 use Rattle.gate_day.specs.Views.{viewOf}
 use Rattle.gate_day.specs.declared.Day.{Day}
-use Rattle.exports.specs.Words.{opens, stateWords, stateOver, afterAll, answers, afterNumber, afterWords}
+use Rattle.exports.proofs.ToldLaws.{no-room, in-room}
+use Rattle.exports.specs.Told.{told, noRoom, front, beBytes}
+use Rattle.exports.specs.State.{stateBytes, stateLength, afterAll, stateBy, stateTold}
+use Rattle.exports.specs.Answers.{checkNumber, checkPlace, checkTold}
 
-pub off-right : (a b : Bool) → b ≡ false → (a && b) ≡ false
-off-right true b e = e
-off-right false b e = refl
+pub short-place : (place : List ℕ) (c : Checked) → length place < 8 → told noRoom place ≡ checkTold c place
+unfolding checkTold
+short-place place c h = no-room 8 place _ h
 
-module _ (day ws : List ℕ) where
-  abbrev Kept-back : Type 0
-  Kept-back = (1 ≡ afterNumber day ws) × (ws ≡ afterWords day ws)
+pub check-told : {place : List ℕ} → 8 ≤ length place → {c k : Checked} → c ≡ k → {at : ℕ} → at ≡ checkPlace c → {n : ℕ} → n ≡ checkNumber c →
+    {new : List ℕ} {end : ℕ} → Written place 0 (beBytes 8 at) new end → told n new ≡ checkTold k place
+unfolding checkTold
+check-told {place} room {c} e {at} p {n} q {new} w =
+    in-room 8 place _ room
+    (ap (λ x. told x new) q ∙ (ap (told (checkNumber c)) (w .all ∙ ap (λ x. front place (beBytes 8 x)) p) ∙
+    ap (λ x. told (checkNumber x) (front place (beBytes 8 (checkPlace x)))) e))
 
-  none : answers day ws ≡ false → Kept-back
-  unfolding afterNumber afterWords
-  none e = (sym (ap (λ b. cond b 0 1) e), sym (ap (λ b. cond b (stateOver (imageIn day) (afterAll (imageIn day) (recordBytes day)) ws) ws) e))
+pub short-state : (day state : List ℕ) → length state < stateLength → told noRoom state ≡ stateTold day state
+unfolding stateTold
+short-state day state h = no-room stateLength state _ h
 
-  pub few-words : length ws < stateWords → Kept-back
-  unfolding answers
-  few-words h = none go
-    where
-      go : answers day ws ≡ false
-      go = ap (λ b. b && opens day) (lt-leb stateWords (length ws) h)
+module _ (day : List ℕ) {state : List ℕ} (room : stateLength ≤ length state) {c : Checked} (e : c ≡ opened day) where
+  pub image-refused : {r : ImageRefusal} → c ≡ Refused r → {n : ℕ} → n ≡ numberOf r → told n state ≡ stateTold day state
+  unfolding stateTold
+  image-refused q m = in-room stateLength state _ room (ap (λ n. told n state) m ∙ ap (λ x. stateBy x day state) (sym q ∙ e))
 
-  pub cut-short : (end : ℕ) → end ≡ imageEnd day → length day < end → Kept-back
-  unfolding answers opens
-  cut-short end e h = none go
-    where
-      go : answers day ws ≡ false
-      go = off-right (leb stateWords (length ws)) _ (ap (λ b. b && isTable (imageIn day)) (lt-leb (imageEnd day) (length day) (rw e at h)))
-
-  pub no-table : (end : ℕ) → end ≡ imageEnd day → {t : Bool} → t ≡ isTable (take end day) → t ≡ false → Kept-back
-  unfolding answers opens
-  no-table end e {t} r f = none go
-    where
-      go : answers day ws ≡ false
-      go = off-right (leb stateWords (length ws)) _ (off-right (leb (imageEnd day) (length day)) _ (ap (λ n. isTable (take n day)) (sym e) ∙ (sym r ∙ f)))
-
-  pub all-told : (end : ℕ) → end ≡ imageEnd day → stateWords ≤ length ws → end ≤ length day → {t : Bool} → t ≡ isTable (take end day) → t ≡ true → (records : List ℕ) → records ≡ drop end day →
-      (d : Day) → viewOf (take end day) d ≡ afterAll (take end day) records → {new : List ℕ} → new ≡ stateOver (take end day) (viewOf (take end day) d) ws →
-      (0 ≡ afterNumber day ws) × (new ≡ afterWords day ws)
-  unfolding afterNumber afterWords answers opens
-  all-told end e w h {t} r f records q d v {new} n = (
-    sym (ap (λ b. cond b 0 1) go),
-    n ∙ (ap (λ s. stateOver (take end day) s ws) (v ∙ ap (afterAll (take end day)) q) ∙
-        (ap (λ m. stateOver (take m day) (afterAll (take m day) (drop m day)) ws) e ∙
-        sym (ap (λ b. cond b (stateOver (imageIn day) (afterAll (imageIn day) (recordBytes day)) ws) ws) go))),
-  )
-    where
-      go : answers day ws ≡ true
-      go = and-both (leb stateWords (length ws)) _ (le-leb stateWords (length ws) w) (and-both (leb (imageEnd day) (length day)) _ (le-leb (imageEnd day) (length day) (rw e at h)) (ap (λ m. isTable (take m day)) (sym e) ∙ (sym r ∙ f)))
+  pub all-told : c ≡ Accepted → {end : ℕ} → end ≡ imageEnd day → {records : List ℕ} → records ≡ drop end day →
+      (d : Day) → viewOf (take end day) d ≡ afterAll (take end day) records →
+      {new : List ℕ} {at : ℕ} → Written state 0 (stateBytes (take end day) (viewOf (take end day) d)) new at → told 0 new ≡ stateTold day state
+  unfolding stateTold
+  all-told q {end} i {records} s d v w =
+      in-room stateLength state _ room
+      (ap (told 0)
+      (w .all ∙
+      (ap (λ x. front state (stateBytes (take end day) x)) (v ∙ ap (afterAll (take end day)) s) ∙
+      ap (λ m. front state (stateBytes (take m day) (afterAll (take m day) (drop m day)))) i)) ∙
+      ap (λ x. stateBy x day state) (sym q ∙ e))

@@ -1,5 +1,6 @@
-pub mod OverLaws
 pub mod AfterLaws
+pub mod ToldLaws
 pub mod WordLaws
+pub mod FitLaws
 pub mod AnswerLaws
 pub mod MapLaws

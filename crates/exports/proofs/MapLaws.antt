@@ -1,92 +1,54 @@
--- Clocks of seven numbers, and what a map over one answers. Assumes nothing.
+-- What a map over a clock's bytes answers. Assumes nothing.
 use mathlib.Core.Bool.{Bool, true, false, cond, _&&_}
-use mathlib.Core.Path.{_≡_, refl, ap, _∙_, sym}
-use mathlib.Core.List.{List, [], _∷_}
-use Prim.Native.Nat.{ℕ, zero, suc, _≤_, _<_}
-use native.Mathlib.Omega.{arith}
-use lib.Dec.{leb, eqb}
-use lib.ListN.{length, getD, set}
-use borrow.Author.Tests.{le-leb, lt-leb, eq-eqb, ne-eqb}
-use Rattle.lists.specs.Every.{no-way}
+use mathlib.Core.Path.{_≡_, ap, _∙_, sym}
+use mathlib.Core.List.{List}
+use Prim.Native.Nat.{ℕ, _≤_, _<_}
+use lib.ListN.{length}
+use borrow.Author.Tests.{eq-eqb, ne-eqb}
 use Rattle.lists.specs.Walk.{done, refused}
 use Rattle.refusals.specs.Refusals.{numberOf}
+use Rattle.refusals.specs.declared.Refusal.{Refusal}
 use Rattle.refusals.specs.declared.Refusal.the-variants.{StateRule}
-use Rattle.tags.specs.Tags.{Tag, Clock, Answer, at, maxMicrostep}
-use Rattle.exports.proofs.AnswerLaws.{off-right}
-use Rattle.exports.specs.Answers.{stepIn, clockIn, isClock, mapped, mapNumber, mapWords}
+use Rattle.tags.specs.Tags.{Tag, Clock, Answer}
+use Rattle.records.specs.Records.{tagAt, isBit, isOne}
+use Rattle.lines.specs.Written.{Written}
+use Rattle.exports.proofs.ToldLaws.{no-room, in-room}
+use Rattle.exports.specs.Told.{told, noRoom, tagBytes}
+use Rattle.exports.specs.Answers.{clockIn, isClock, mapped, mapBy, mapTold}
 
-on-left : (a b : Bool) → a ≡ true → (a && b) ≡ b
-on-left true b e = refl
-on-left false b e = no-way e
+abbrev clockOf : Tag → Tag → Bool → Tag → Clock
+clockOf g l a s = record { G = g; L = l; allowed = a; S = s }
 
-pub past-end : (l : List ℕ) (i : ℕ) → length l ≤ i → 0 ≡ getD l i 0
-past-end [] i h = refl
-past-end (x ∷ l) zero h = absurd (omega arith)
-past-end (x ∷ l) (suc i) h = past-end l i (omega arith)
-
-module _ (ws : List ℕ) where
-  abbrev long : Bool
-  long = eqb (length ws) 7
-
-  abbrev allows : Bool
-  allows = leb (getD ws 4 0) 1
-
-  abbrev step : ℕ → Bool
-  step i = leb (getD ws i 0) maxMicrostep
-
-  pub not-seven : (length ws ≡ 7 → ⊥) → false ≡ isClock ws
+module _ (bs : List ℕ) where
+  pub clock-long : length bs ≡ 37 → {b : Bool} → b ≡ isBit bs 24 → b ≡ isClock bs
   unfolding isClock
-  not-seven h = sym (ap (λ b. b && (allows && (step 1 && (step 3 && step 6)))) (ne-eqb (length ws) 7 h))
+  clock-long h e = e ∙ sym (ap (λ x. x && isBit bs 24) (eq-eqb (length bs) 37 h))
 
-  pub not-allowed : {a : ℕ} → a ≡ getD ws 4 0 → 1 < a → false ≡ isClock ws
+  pub not-long : (length bs ≡ 37 → ⊥) → false ≡ isClock bs
   unfolding isClock
-  not-allowed {a} e h = sym (off-right long _ (ap (λ b. b && (step 1 && (step 3 && step 6))) (ap (λ n. leb n 1) (sym e) ∙ lt-leb a 1 h)))
+  not-long h = sym (ap (λ x. x && isBit bs 24) (ne-eqb (length bs) 37 h))
 
-  beyond : (i : ℕ) {a : ℕ} → a ≡ getD ws i 0 → maxMicrostep < a → step i ≡ false
-  beyond i {a} e h = ap (λ n. leb n maxMicrostep) (sym e) ∙ lt-leb a maxMicrostep h
+  pub clock-are : {g l s : Tag} {a : Bool} → g ≡ tagAt bs 0 → l ≡ tagAt bs 12 → a ≡ isOne bs 24 → s ≡ tagAt bs 25 → clockOf g l a s ≡ clockIn bs
+  clock-are eg el ea es = rw (eg, el, ea, es)
 
-  pub no-global : {a : ℕ} → a ≡ getD ws 1 0 → maxMicrostep < a → false ≡ isClock ws
-  unfolding isClock
-  no-global e h = sym (off-right long _ (off-right allows _ (ap (λ b. b && (step 3 && step 6)) (beyond 1 e h))))
-
-  pub no-local : {a : ℕ} → a ≡ getD ws 3 0 → maxMicrostep < a → false ≡ isClock ws
-  unfolding isClock
-  no-local e h = sym (off-right long _ (off-right allows _ (off-right (step 1) _ (ap (λ b. b && step 6) (beyond 3 e h)))))
-
-  pub seven : {a g l s : ℕ} → length ws ≡ 7 → a ≡ getD ws 4 0 → a ≤ 1 → g ≡ getD ws 1 0 → g ≤ maxMicrostep → l ≡ getD ws 3 0 → l ≤ maxMicrostep → s ≡ getD ws 6 0 → leb s maxMicrostep ≡ isClock ws
-  unfolding isClock
-  seven {a} {g} {l} {s} n ea ha eg hg el hl es =
-      sym
-      (on-left long _ (eq-eqb (length ws) 7 n) ∙
-      (on-left allows _ (ap (λ x. leb x 1) (sym ea) ∙ le-leb a 1 ha) ∙
-      (on-left (step 1) _ (ap (λ x. leb x maxMicrostep) (sym eg) ∙ le-leb g maxMicrostep hg) ∙
-      (on-left (step 3) _ (ap (λ x. leb x maxMicrostep) (sym el) ∙ le-leb l maxMicrostep hl) ∙ ap (λ x. leb x maxMicrostep) (sym es)))))
-
-  abbrev clockOf : ℕ → ℕ → ℕ → ℕ → ℕ → ℕ → ℕ → Clock
-  clockOf g gs l ls a s ss = record { G = at g gs; L = at l ls; allowed = eqb a 1; S = at s ss }
-
-  pub clock-are : {g gs l ls a s ss : ℕ} → g ≡ getD ws 0 0 → gs ≡ stepIn ws 1 → l ≡ getD ws 2 0 → ls ≡ stepIn ws 3 → a ≡ getD ws 4 0 → s ≡ getD ws 5 0 → ss ≡ stepIn ws 6 →
-      clockOf g gs l ls a s ss ≡ clockIn ws
-  clock-are eg egs el els ea es ess = rw (eg, egs, el, els, ea, es, ess)
-
-module _ (f : Clock → Tag → Answer) (ws : List ℕ) (t : Tag) (room : List ℕ) where
-  abbrev Says : ℕ → List ℕ → Type 0
-  Says n new = (n ≡ mapNumber (mapped f ws t room)) × (new ≡ mapWords (mapped f ws t room) room)
-
-  pub says : (a : Answer) → a ≡ mapped f ws t room → {n : ℕ} {new : List ℕ} → n ≡ mapNumber a → new ≡ mapWords a room → Says n new
-  says a m e w = (e ∙ ap mapNumber m, w ∙ ap (λ x. mapWords x room) m)
-
-  none : (leb 2 (length room) && isClock ws) ≡ false → Says 11 room
+module _ (f : Clock → Tag → Answer) (bs : List ℕ) (t : Tag) {b : Bool} (e : b ≡ isClock bs) where
+  pub no-clock : b ≡ false → refused StateRule ≡ mapped f bs t
   unfolding mapped
-  none e = says (refused StateRule) (sym (ap (λ b. cond b (f (clockIn ws) t) (refused StateRule)) e)) refl refl
+  no-clock h = sym (ap (λ x. cond x (f (clockIn bs) t) (refused StateRule)) (sym e ∙ h))
 
-  pub no-room : length room < 2 → Says 11 room
-  no-room h = none (ap (λ b. b && isClock ws) (lt-leb 2 (length room) h))
-
-  pub no-clock : {b : Bool} → b ≡ isClock ws → b ≡ false → Says 11 room
-  no-clock e h = none (off-right (leb 2 (length room)) (isClock ws) (sym e ∙ h))
-
-  pub answered : {b : Bool} {a : Answer} (c : Clock) → 2 ≤ length room → b ≡ isClock ws → b ≡ true → a ≡ f c t → c ≡ clockIn ws → a ≡ mapped f ws t room
+  pub by-clock : b ≡ true → {c : Clock} → c ≡ clockIn bs → {a : Answer} → a ≡ f c t → a ≡ mapped f bs t
   unfolding mapped
-  answered {b} {a} c r e h m k =
-      m ∙ (ap (λ x. f x t) k ∙ sym (ap (λ x. cond x (f (clockIn ws) t) (refused StateRule)) (on-left _ _ (le-leb 2 (length room) r) ∙ (sym e ∙ h))))
+  by-clock h k m = m ∙ (ap (λ x. f x t) k ∙ sym (ap (λ x. cond x (f (clockIn bs) t) (refused StateRule)) (sym e ∙ h)))
+
+pub short-tag : (tag : List ℕ) (a : Answer) → length tag < 12 → told noRoom tag ≡ mapTold a tag
+unfolding mapTold
+short-tag tag a h = no-room 12 tag _ h
+
+module _ {tag : List ℕ} (room : 12 ≤ length tag) {a b : Answer} (e : a ≡ b) where
+  pub tag-told : {t : Tag} → a ≡ done t → {new : List ℕ} {end : ℕ} → Written tag 0 (tagBytes t) new end → told 0 new ≡ mapTold b tag
+  unfolding mapTold
+  tag-told d w = in-room 12 tag _ room (ap (told 0) (w .all) ∙ ap (λ x. mapBy x tag) (sym d ∙ e))
+
+  pub refusal-told : {r : Refusal} → a ≡ refused r → {n : ℕ} → n ≡ numberOf r → told n tag ≡ mapTold b tag
+  unfolding mapTold
+  refusal-told d k = in-room 12 tag _ room (ap (λ n. told n tag) k ∙ ap (λ x. mapBy x tag) (sym d ∙ e))

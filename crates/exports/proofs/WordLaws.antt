@@ -1,6 +1,6 @@
--- The words of a day's arrays are those of the state that they hold. Assumes nothing.
-use mathlib.Core.Bool.{Bool, true, cond}
-use mathlib.Core.Path.{_≡_, refl, ap, _∙_, sym}
+-- The words of a day's arrays are those of the state that they hold, and so are their bytes. Assumes nothing.
+use mathlib.Core.Bool.{Bool}
+use mathlib.Core.Path.{_≡_, ap, _∙_, sym}
 use mathlib.Core.List.{List, [], _∷_, _++_}
 use Prim.Native.Nat.{ℕ, _*_, _≤_}
 use lib.ListN.{length, take}
@@ -17,29 +17,24 @@ use Rattle.slots.specs.Slots.{eventsOf}
 use Rattle.scopes.specs.Scopes as scope
 use Rattle.scopes.specs.Scopes.{mostScopes, scopesOf}
 use Rattle.store_calls.specs.Lent.{storeOf}
-use Rattle.lens.specs.Padded.{padded-length}
 use Rattle.unpacked.specs.Unpacked.{waits}
-use Rattle.lens.specs.Lens.{mostReactors}
 use Rattle.pops.specs.Pops.{peekHead, controlIn, replyOf, untaken}
 use Rattle.pops.specs.declared.Peeked.{Peeked}
 use Rattle.pops.proofs.AsMachine.{peek-is, control-is}
 use Rattle.unpacked.specs.Unpacked.{most-scopes, rules-table}
 use Rattle.gate_day.specs.Views.{Kept, viewOf}
 use Rattle.gate_day.specs.declared.Day.{Day}
-use Rattle.exports.specs.Words.{peekWords, flagWord, firstWords, over, stateOver, modesAt, scopesAt, eventsAt, valuesAt, bucketsAt, modesIn, scopesIn, eventsIn, valuesIn, bucketsIn}
+use Rattle.lines.specs.Written.{Written}
+use Rattle.lines.proofs.WrittenLaws.{written-then, written-as}
+use Rattle.exports.specs.Told.{wordBytes}
+use Rattle.exports.specs.State.{peekWords, flagWord, firstWords, stateBytes}
 
-over-of : {a b c v w : List ℕ} (at : ℕ) → a ≡ over b at v → b ≡ c → v ≡ w → a ≡ over c at w
-over-of {a} {b} {c} {v} {w} at e p q = e ∙ (ap (λ x. over x at v) p ∙ ap (over c at) q)
+bytes-of : {v w l m : List ℕ} → v ≡ w → l ≡ m → wordBytes v ++ l ≡ wordBytes w ++ m
+bytes-of {v} {w} {l} {m} p q = ap (λ x. wordBytes x ++ l) p ∙ ap (λ x. wordBytes w ++ x) q
 
 module _ {img : Image} {d : Day} (k : Kept img d) where
   pub few-wait : d .counts .waiting ≤ mostWaiting
   few-wait = waits img (viewOf img d) (k .keeps) _ _ _ _ _ _ _ (k .unpacked) .few
-
-  pub modes-long : length (d .modes) ≡ mostReactors
-  modes-long = ap length (k .unpacked .in-modes) ∙ padded-length 0 mostReactors _
-
-  pub scopes-long : length (d .scopes) ≡ mostScopes * scope.scopeWords
-  scopes-long = whole-long scope.decode scope.encode scope.scopeWords mostScopes scope.encode-long (d .scopes) (k .unpacked .in-scopes .whole)
 
   pub events-long : length (d .events) ≡ mostWaiting * slot.slotWords
   events-long = whole-long slot.decode slot.encode slot.slotWords mostWaiting slot.encode-long (d .events) (k .unpacked .in-events .held .whole)
@@ -68,15 +63,16 @@ module _ {img : Image} {d : Day} (k : Kept img d) where
       ap (λ l. l ++ (c ∷ d .counts .work ∷ d .counts .waiting ∷ d .held .values ∷ d .held .buckets ∷ [])) a ∙
       rw (b, ← (k .unpacked .in-events .waiting), ← (k .unpacked .in-store .some-values), ← (k .unpacked .in-store .some-buckets))
 
-  pub all-over : {first a b c e f g : List ℕ} (ws : List ℕ) → first ≡ firstWords img (viewOf img d) → a ≡ over ws 0 first → b ≡ over a modesAt (d .modes) → c ≡ over b scopesAt (d .scopes) →
-      e ≡ over c eventsAt (d .events) → f ≡ over e valuesAt (d .values) → g ≡ over f bucketsAt (d .buckets) → g ≡ stateOver img (viewOf img d) ws
-  unfolding stateOver
-  all-over ws i ea eb ec ee ef eg =
+  pub state-are : {old : List ℕ} {first a b c e f g : List ℕ} {i j l m n end : ℕ} → first ≡ firstWords img (viewOf img d) → Written old 0 (wordBytes first) a i →
+      Written a i (wordBytes (d .modes)) b j → Written b j (wordBytes (d .scopes)) c l → Written c l (wordBytes (d .events)) e m →
+      Written e m (wordBytes (d .values)) f n → Written f n (wordBytes (d .buckets)) g end → Written old 0 (stateBytes img (viewOf img d)) g end
+  unfolding stateBytes
+  state-are i wa wb wc we wf wg =
       let u = k .unpacked in
-      over-of bucketsAt eg
-      (over-of valuesAt ef
-      (over-of eventsAt ee
-      (over-of scopesAt ec (over-of modesAt eb (over-of 0 ea refl i) (u .in-modes)) (held-words scope.decode scope.encode scope.scopeWords mostScopes scope.encode-long _ _ (u .in-scopes)))
-      (held-words slot.decode slot.encode slot.slotWords mostWaiting slot.encode-long _ _ (u .in-events .held)))
-      (held-words decodeValue encodeValue valueWords mostHeld long-value _ _ (u .in-store .values)))
-      (held-words decodeBucket encodeBucket bucketWords mostHeld long-bucket _ _ (u .in-store .buckets))
+      written-as (written-then wa (written-then wb (written-then wc (written-then we (written-then wf wg)))))
+      (bytes-of i
+      (bytes-of (u .in-modes)
+      (bytes-of (held-words scope.decode scope.encode scope.scopeWords mostScopes scope.encode-long _ _ (u .in-scopes))
+      (bytes-of (held-words slot.decode slot.encode slot.slotWords mostWaiting slot.encode-long _ _ (u .in-events .held))
+      (bytes-of (held-words decodeValue encodeValue valueWords mostHeld long-value _ _ (u .in-store .values))
+      (ap wordBytes (held-words decodeBucket encodeBucket bucketWords mostHeld long-bucket _ _ (u .in-store .buckets))))))))

@@ -1,18 +1,20 @@
--- The table check and the clock maps, as numbers. Assumes nothing.
-use Prim.Native.Nat.{ℕ, _%_}
-use mathlib.Core.Bool.{Bool, true, false, cond, _&&_}
+-- The table check and the clock maps, as C has them. Assumes nothing.
+use Prim.Native.Nat.{ℕ}
+use mathlib.Core.Bool.{Bool, cond, _&&_}
 use mathlib.Core.List.{List}
-use lib.Dec.{leb, eqb}
-use lib.ListN.{length, getD, set}
+use lib.Dec.{eqb}
+use lib.ListN.{length}
 use Rattle.lists.specs.Walk.{done, refused}
 use Rattle.refusals.specs.Refusals.{numberOf}
 use Rattle.refusals.specs.declared.Refusal.the-variants.{StateRule}
 use Rattle.table.specs.Check as table
 use Rattle.table.specs.declared.Checked.{Checked}
 use Rattle.table.specs.declared.Checked.the-variants.{Accepted, Refused}
-use Rattle.tags.specs.Tags.{Tag, Clock, Answer, at, maxMicrostep}
+use Rattle.tags.specs.Tags.{Tag, Clock, Answer}
+use Rattle.records.specs.Records.{tagAt, isBit, isOne}
+use Rattle.exports.specs.Told.{Told, told, front, withRoom, beBytes, tagBytes}
 
--- ---- the table check: 0 for a table, or the refusal's number, and its place
+-- ---- the table check: 0 for a table, or the refusal's number; its place in eight bytes, 0 for a table
 
 abbrev pub checkNumber : Checked → ℕ
 checkNumber Accepted = 0
@@ -22,36 +24,26 @@ abbrev pub checkPlace : Checked → ℕ
 checkPlace Accepted = 0
 checkPlace (Refused n) = table.placeOf n
 
+unfoldable pub checkTold : Checked → List ℕ → Told
+checkTold c place = withRoom 8 place (told (checkNumber c) (front place (beBytes 8 (checkPlace c))))
+
 -- ---- the clock maps
 
-abbrev pub stepIn : List ℕ → ℕ → ℕ
-stepIn ws i = getD ws i 0 % 4294967296
-
--- G, L, allowed, S
+-- G, L, allowed, S: tags of 12 bytes, and one that is 0 or 1
 abbrev pub clockIn : List ℕ → Clock
-clockIn ws =
-    record {
-      G = at (getD ws 0 0) (stepIn ws 1);
-      L = at (getD ws 2 0) (stepIn ws 3);
-      allowed = eqb (getD ws 4 0) 1;
-      S = at (getD ws 5 0) (stepIn ws 6);
-    }
+clockIn bs = record { G = tagAt bs 0; L = tagAt bs 12; allowed = isOne bs 24; S = tagAt bs 25 }
 
--- seven numbers, each microstep one, allowed 0 or 1
 unfoldable pub isClock : List ℕ → Bool
-isClock ws =
-    eqb (length ws) 7 &&
-    (leb (getD ws 4 0) 1 &&
-    (leb (getD ws 1 0) maxMicrostep && (leb (getD ws 3 0) maxMicrostep && leb (getD ws 6 0) maxMicrostep)))
+isClock bs = eqb (length bs) 37 && isBit bs 24
 
--- by a map; with less than two numbers of room there is no answer
-unfoldable pub mapped : (Clock → Tag → Answer) → List ℕ → Tag → List ℕ → Answer
-mapped f ws t room = cond (leb 2 (length room) && isClock ws) (f (clockIn ws) t) (refused StateRule)
+-- by a map; bytes that are no clock break a state rule
+unfoldable pub mapped : (Clock → Tag → Answer) → List ℕ → Tag → Answer
+mapped f bs t = cond (isClock bs) (f (clockIn bs) t) (refused StateRule)
 
-abbrev pub mapNumber : Answer → ℕ
-mapNumber (done t) = 0
-mapNumber (refused n) = numberOf n
+-- 0 and the tag; or the refusal's number, and the bytes stay as they were
+abbrev pub mapBy : Answer → List ℕ → Told
+mapBy (done t) tag = told 0 (front tag (tagBytes t))
+mapBy (refused n) tag = told (numberOf n) tag
 
-abbrev pub mapWords : Answer → List ℕ → List ℕ
-mapWords (done t) ws = set (set ws 0 (t .offset)) 1 (t .microstep)
-mapWords (refused n) ws = ws
+unfoldable pub mapTold : Answer → List ℕ → Told
+mapTold a tag = withRoom 12 tag (mapBy a tag)

@@ -1,25 +1,22 @@
-// The proved functions for programs in C and Rust: harness/barnshiver.h says what each number and word is.
+// The proved functions for programs in C and Rust: harness/barnshiver.h says what each number and byte is.
 ghost use mathlib.Core.Path.{_≡_};
 ghost use mathlib.Core.Bool.{true};
 ghost use mathlib.Core.List.{[], _∷_};
 ghost use Prim.Native.Nat.{_+_, _≤_};
 ghost use lib.ListN.{length};
-ghost use Rattle.table.specs.Check.{isTable};
+ghost use Rattle.table.specs.Check.{isTable, check};
 ghost use Rattle.pops.specs.Pops.{replyOf};
 ghost use Rattle.lines.specs.Written.{Written};
 ghost use Rattle.gate_day.specs.Days.{fitting, dayAnswers};
 ghost use Rattle.gate_day.specs.Views.{Kept, viewOf};
-ghost use Rattle.exports.specs.Words.{peekWords, flagWord, firstWords, over, stateOver, stateWords, afterAll, afterNumber, afterWords};
-ghost use Prim.Native.Nat.{_%_};
-ghost use lib.ListN.{getD, set};
-ghost use lib.Dec.{leb};
-ghost use Rattle.refusals.specs.Refusals.{numberOf};
-ghost use Rattle.table.specs.Check.{check};
-ghost use Rattle.tags.specs.Tags.{at, Answer, globalToLocal, localToGlobal};
+ghost use Rattle.tags.specs.Tags.{at, globalToLocal, localToGlobal};
 ghost use Rattle.tags.specs.Views.{ofClock, mappedLocal, mappedGlobal};
-ghost use Rattle.exports.specs.Answers.{checkNumber, checkPlace, stepIn, clockIn, isClock, mapped, mapNumber, mapWords};
+ghost use Rattle.exports.specs.Told.{beBytes, wordBytes, tagBytes, told};
+ghost use Rattle.exports.specs.State.{peekWords, flagWord, firstWords, stateBytes, afterAll, stateTold};
+ghost use Rattle.exports.specs.Answers.{checkNumber, checkPlace, checkTold, clockIn, isClock, mapped, mapTold};
 use gate_day::Day;
 use pops::Peeked;
+use refusals::Refusal;
 use table::Checked;
 use tags::GlobalTag;
 use tags::LocalTag;
@@ -27,23 +24,75 @@ use tags::MappedGlobal;
 use tags::MappedLocal;
 use tags::ScopeClock;
 
+// ---- what is told in lent bytes
+
+// A lent slice is too short for what it is lent for; no refusal has this number.
+const NO_ROOM: u8 = 255;
+
+// The low bytes of a number, so many, the highest first; the place behind them.
+fn put_number(bytes: &mut [u8], at: usize, width: u8, n: u64) -> usize
+    requires { ⌜ at ≤ length (now bytes) ⌝ }
+    ensures { λ r. ⌜ Written (now (bytes .entry)) at (beBytes width n) (now (bytes .exit)) r ⌝ }
+{
+    if width == 0 {
+        return at;
+    }
+    let next = put_number(bytes, at, width - 1, n / 256);
+    let low = (n % 256) as u8;
+    lines::put(bytes, next, low)
+}
+
+// Numbers of eight bytes.
+fn put_words(bytes: &mut [u8], at: usize, words: &[u64]) -> usize
+    requires { ⌜ at ≤ length (now bytes) ⌝ }
+    ensures { λ r. ⌜ Written (now (bytes .entry)) at (wordBytes (now (words .entry))) (now (bytes .exit)) r ⌝ }
+{
+    let mut end = at;
+    let mut i: usize = 0;
+    while i < words.len() {
+        let word = words[i];
+        end = put_number(bytes, end, 8, word);
+        i += 1;
+    }
+    end
+}
+
+fn wide(key: u16) -> u64
+    ensures { λ r. ⌜ r ≡ key ⌝ }
+{
+    key as u64
+}
+
+// The same of shorter numbers.
+fn put_keys(bytes: &mut [u8], at: usize, keys: &[u16]) -> usize
+    requires { ⌜ at ≤ length (now bytes) ⌝ }
+    ensures { λ r. ⌜ Written (now (bytes .entry)) at (wordBytes (now (keys .entry))) (now (bytes .exit)) r ⌝ }
+{
+    let mut end = at;
+    let mut i: usize = 0;
+    while i < keys.len() {
+        let word = wide(keys[i]);
+        end = put_number(bytes, end, 8, word);
+        i += 1;
+    }
+    end
+}
+
 // ---- the state after a day
 
 // Room for the lines of a piece; `scratch` of proofs/ says the same.
 const SCRATCH: usize = 65536;
 
-// Where the rows of a state begin, one kind behind the other, and how many words it has.
-const MODES_AT: usize = 8;
+// Bytes of a state; `stateLength` of specs/ says the same.
+const STATE_BYTES: usize = 8
+    * (FIRST_WORDS
+        + plan::MOST_REACTORS
+        + scopes::ROOM
+        + slots::ROOM
+        + entries::MOST_HELD * entries::VALUE_WORDS
+        + entries::MOST_HELD * entries::BUCKET_WORDS);
 
-const SCOPES_AT: usize = MODES_AT + plan::MOST_REACTORS;
-
-const EVENTS_AT: usize = SCOPES_AT + scopes::ROOM;
-
-const VALUES_AT: usize = EVENTS_AT + slots::ROOM;
-
-const BUCKETS_AT: usize = VALUES_AT + entries::MOST_HELD * entries::VALUE_WORDS;
-
-const STATE_WORDS: usize = BUCKETS_AT + entries::MOST_HELD * entries::BUCKET_WORDS;
+const FIRST_WORDS: usize = 8;
 
 // The place so many bytes on.
 fn behind(bytes: &[u8], at: usize, n: usize) -> usize
@@ -79,38 +128,6 @@ fn run_all(image: &[u8], records: &[u8]) -> Day
     day
 }
 
-// The words over those from a place on.
-fn put_words(state: &mut [u64], at: usize, words: &[u64])
-    requires { ⌜ at + length (now words) ≤ length (now state) ⌝ }
-    ensures { λ _. ⌜ now (state .exit) ≡ over (now (state .entry)) at (now (words .entry)) ⌝ }
-{
-    let mut i: usize = 0;
-    while i < words.len() {
-        let word = words[i];
-        state[at + i] = word;
-        i += 1;
-    }
-}
-
-fn wide(key: u16) -> u64
-    ensures { λ r. ⌜ r ≡ key ⌝ }
-{
-    key as u64
-}
-
-// The same of shorter numbers.
-fn put_keys(state: &mut [u64], at: usize, keys: &[u16])
-    requires { ⌜ at + length (now keys) ≤ length (now state) ⌝ }
-    ensures { λ _. ⌜ now (state .exit) ≡ over (now (state .entry)) at (now (keys .entry)) ⌝ }
-{
-    let mut i: usize = 0;
-    while i < keys.len() {
-        let word = wide(keys[i]);
-        state[at + i] = word;
-        i += 1;
-    }
-}
-
 // What a peek answers, as words.
 struct Peek {
     found: u64,
@@ -142,7 +159,7 @@ fn flag_word(b: bool) -> u64
 }
 
 // The peek tag, control only, and the counts.
-fn first_words(image: &[u8], day: Day) -> [u64; MODES_AT]
+fn first_words(image: &[u8], day: Day) -> [u64; FIRST_WORDS]
     requires { ⌜ Kept (now image) day ⌝ }
     ensures { λ r. ⌜ r ≡ firstWords (now (image .entry)) (viewOf (now (image .entry)) day) ⌝ }
 {
@@ -166,10 +183,10 @@ fn first_words(image: &[u8], day: Day) -> [u64; MODES_AT]
     ]
 }
 
-// All words of a state.
-fn put_state(state: &mut [u64], image: &[u8], day: Day)
-    requires { ⌜ (stateWords ≤ length (now state)) × Kept (now image) day ⌝ }
-    ensures { λ _. ⌜ now (state .exit) ≡ stateOver (now (image .entry)) (viewOf (now (image .entry)) day) (now (state .entry)) ⌝ }
+// All bytes of a state, over the front.
+fn put_state(state: &mut [u8], image: &[u8], day: Day) -> usize
+    requires { ⌜ Kept (now image) day ⌝ }
+    ensures { λ r. ⌜ Written (now (state .entry)) 0 (stateBytes (now (image .entry)) (viewOf (now (image .entry)) day)) (now (state .exit)) r ⌝ }
 {
     let first = first_words(image, day);
     let modes = day.modes;
@@ -177,32 +194,32 @@ fn put_state(state: &mut [u64], image: &[u8], day: Day)
     let events = day.events;
     let values = day.values;
     let buckets = day.buckets;
-    put_words(state, 0, &first);
-    put_keys(state, MODES_AT, &modes);
-    put_words(state, SCOPES_AT, &scopes);
-    put_words(state, EVENTS_AT, &events);
-    put_words(state, VALUES_AT, &values);
-    put_words(state, BUCKETS_AT, &buckets);
+    let modes_at = put_words(state, 0, &first);
+    let scopes_at = put_keys(state, modes_at, &modes);
+    let events_at = put_words(state, scopes_at, &scopes);
+    let values_at = put_words(state, events_at, &events);
+    let buckets_at = put_words(state, values_at, &values);
+    put_words(state, buckets_at, &buckets)
 }
 
-// The state after a day's records, over the front of the words: 0. Or 1, and they stay as they were.
+// The state after a day's records, over the front of the bytes: 0. Or the image's refusal, and they stay as they were.
 #[no_mangle]
-pub extern "C" fn barnshiver_state_after(day: &[u8], state: &mut [u64]) -> u8
-    ensures { λ r. ⌜ (r ≡ afterNumber (now (day .entry)) (now (state .entry))) × (now (state .exit) ≡ afterWords (now (day .entry)) (now (state .entry))) ⌝ }
+pub extern "C" fn barnshiver_state_after(day: &[u8], state: &mut [u8]) -> u8
+    ensures { λ r. ⌜ told r (now (state .exit)) ≡ stateTold (now (day .entry)) (now (state .entry)) ⌝ }
 {
-    if state.len() < STATE_WORDS {
-        return 1;
+    if state.len() < STATE_BYTES {
+        return NO_ROOM;
     }
-    let end = gate_day::image_end(day);
-    if day.len() < end {
-        return 1;
+    let checked = gate_day::open(day);
+    match checked {
+        Checked::Accepted => {
+            let end = gate_day::image_end(day);
+            let after = run_all(&day[..end], &day[end..]);
+            put_state(state, &day[..end], after);
+            0
+        }
+        Checked::Refused(why) => table::number_of(why),
     }
-    if table::accepted(&day[..end]) {
-        let after = run_all(&day[..end], &day[end..]);
-        put_state(state, &day[..end], after);
-        return 0;
-    }
-    1
 }
 
 // ---- the run of a day
@@ -235,140 +252,121 @@ fn place_in(checked: Checked) -> u64
     }
 }
 
-// Whether an image is a table: 0, or the refusal's number and its place.
+const PLACE_BYTES: usize = 8;
+
+// Whether an image is a table: 0, or the refusal's number; and its place.
 #[no_mangle]
-pub extern "C" fn barnshiver_check_table(image: &[u8], place: &mut u64) -> u8
-    ensures { λ r. ⌜ (r ≡ checkNumber (check (now (image .entry)))) × (now (place .exit) ≡ checkPlace (check (now (image .entry)))) ⌝ }
+pub extern "C" fn barnshiver_check_table(image: &[u8], place: &mut [u8]) -> u8
+    ensures { λ r. ⌜ told r (now (place .exit)) ≡ checkTold (check (now (image .entry))) (now (place .entry)) ⌝ }
 {
+    if place.len() < PLACE_BYTES {
+        return NO_ROOM;
+    }
     let checked = table::check(image);
     let at = place_in(checked);
-    *place = at;
+    put_number(place, 0, 8, at);
     number_in(checked)
 }
 
 // ---- the clock maps
 
-const CLOCK_WORDS: usize = 7;
+// G, L, allowed, S.
+const CLOCK_BYTES: usize = 37;
 
-const LAST_MICROSTEP: u64 = 4294967295;
+const TAG_BYTES: usize = 12;
 
-// 0 past the end.
-fn word_at(words: &[u64], i: usize) -> u64
-    ensures { λ r. ⌜ r ≡ getD (now (words .entry)) i 0 ⌝ }
-{
-    if i < words.len() {
-        return words[i];
-    }
-    0
-}
-
-fn step_at(words: &[u64], i: usize) -> u32
-    ensures { λ r. ⌜ r ≡ stepIn (now (words .entry)) i ⌝ }
-{
-    let word = word_at(words, i);
-    (word % 4294967296) as u32
-}
-
-fn is_clock(clock: &[u64]) -> bool
+fn is_clock(clock: &[u8]) -> bool
     ensures { λ r. ⌜ r ≡ isClock (now (clock .entry)) ⌝ }
 {
-    if clock.len() != CLOCK_WORDS {
-        return false;
+    if clock.len() == CLOCK_BYTES {
+        return records::is_bit(clock, 24);
     }
-    let allowed = word_at(clock, 4);
-    if 1 < allowed {
-        return false;
-    }
-    let global = word_at(clock, 1);
-    if LAST_MICROSTEP < global {
-        return false;
-    }
-    let local = word_at(clock, 3);
-    if LAST_MICROSTEP < local {
-        return false;
-    }
-    let suspended = word_at(clock, 6);
-    suspended <= LAST_MICROSTEP
+    false
 }
 
-fn clock_in(words: &[u64]) -> ScopeClock
-    ensures { λ r. ⌜ ofClock r ≡ clockIn (now (words .entry)) ⌝ }
+fn clock_in(clock: &[u8]) -> ScopeClock
+    ensures { λ r. ⌜ ofClock r ≡ clockIn (now (clock .entry)) ⌝ }
 {
-    let g = word_at(words, 0);
-    let g_step = step_at(words, 1);
-    let l = word_at(words, 2);
-    let l_step = step_at(words, 3);
-    let allowed = word_at(words, 4) == 1;
-    let s = word_at(words, 5);
-    let s_step = step_at(words, 6);
+    let g = records::tag_at(clock, 0);
+    let l = records::tag_at(clock, 12);
+    let allowed = records::is_one(clock, 24);
+    let s = records::tag_at(clock, 25);
     ScopeClock {
-        activation_global: GlobalTag(g, g_step),
-        activation_local: LocalTag(l, l_step),
+        activation_global: g,
+        activation_local: LocalTag(l.0, l.1),
         allowed,
-        suspended_local: LocalTag(s, s_step),
+        suspended_local: LocalTag(s.0, s.1),
     }
 }
 
-fn put_tag(tag: &mut [u64], offset: u64, microstep: u32)
-    requires { ⌜ 2 ≤ length (now tag) ⌝ }
-    ensures { λ _. ⌜ now (tag .exit) ≡ set (set (now (tag .entry)) 0 offset) 1 microstep ⌝ }
+fn mapped_local(clock: &[u8], tag: GlobalTag) -> MappedLocal
+    ensures { λ r. ⌜ mappedLocal r ≡ mapped globalToLocal (now (clock .entry)) (at (tag .0) (tag .1)) ⌝ }
 {
-    tag[0] = offset;
-    tag[1] = microstep as u64;
-}
-
-// A global tag on the scope's local scale: 0, or the refusal's number.
-#[no_mangle]
-pub extern "C" fn barnshiver_global_to_local(
-    clock: &[u64],
-    offset: u64,
-    microstep: u32,
-    tag: &mut [u64],
-) -> u8
-    ensures { λ r. ⌜ (r ≡ mapNumber (mapped globalToLocal (now (clock .entry)) (at offset microstep) (now (tag .entry)))) × (now (tag .exit) ≡ mapWords (mapped globalToLocal (now (clock .entry)) (at offset microstep) (now (tag .entry))) (now (tag .entry))) ⌝ }
-{
-    if tag.len() < 2 {
-        return 11;
-    }
     if is_clock(clock) {
         let c = clock_in(clock);
-        match c.global_to_local(GlobalTag(offset, microstep)) {
-            MappedLocal::Tag(t) => {
-                put_tag(tag, t.0, t.1);
-                return 0;
-            }
-            MappedLocal::Refused(refusal) => {
-                return refusals::number_of(refusal);
-            }
-        }
+        return c.global_to_local(tag);
     }
-    11
+    MappedLocal::Refused(Refusal::StateRule)
+}
+
+fn mapped_global(clock: &[u8], tag: LocalTag) -> MappedGlobal
+    ensures { λ r. ⌜ mappedGlobal r ≡ mapped localToGlobal (now (clock .entry)) (at (tag .0) (tag .1)) ⌝ }
+{
+    if is_clock(clock) {
+        let c = clock_in(clock);
+        return c.local_to_global(tag);
+    }
+    MappedGlobal::Refused(Refusal::StateRule)
+}
+
+// A tag as a record has it, over the front.
+fn put_tag(tag: &mut [u8], offset: u64, microstep: u32) -> usize
+    ensures { λ r. ⌜ Written (now (tag .entry)) 0 (tagBytes (at offset microstep)) (now (tag .exit)) r ⌝ }
+{
+    let next = put_number(tag, 0, 8, offset);
+    put_number(tag, next, 4, microstep as u64)
+}
+
+// A global tag on the scope's local scale: 0, or the refusal's number, and the bytes stay as they were.
+#[no_mangle]
+pub extern "C" fn barnshiver_global_to_local(
+    clock: &[u8],
+    offset: u64,
+    microstep: u32,
+    tag: &mut [u8],
+) -> u8
+    ensures { λ r. ⌜ told r (now (tag .exit)) ≡ mapTold (mapped globalToLocal (now (clock .entry)) (at offset microstep)) (now (tag .entry)) ⌝ }
+{
+    if tag.len() < TAG_BYTES {
+        return NO_ROOM;
+    }
+    match mapped_local(clock, GlobalTag(offset, microstep)) {
+        MappedLocal::Tag(t) => {
+            put_tag(tag, t.0, t.1);
+            0
+        }
+        MappedLocal::Refused(refusal) => refusals::number_of(refusal),
+    }
 }
 
 // A local tag on the global scale likewise.
 #[no_mangle]
 pub extern "C" fn barnshiver_local_to_global(
-    clock: &[u64],
+    clock: &[u8],
     offset: u64,
     microstep: u32,
-    tag: &mut [u64],
+    tag: &mut [u8],
 ) -> u8
-    ensures { λ r. ⌜ (r ≡ mapNumber (mapped localToGlobal (now (clock .entry)) (at offset microstep) (now (tag .entry)))) × (now (tag .exit) ≡ mapWords (mapped localToGlobal (now (clock .entry)) (at offset microstep) (now (tag .entry))) (now (tag .entry))) ⌝ }
+    ensures { λ r. ⌜ told r (now (tag .exit)) ≡ mapTold (mapped localToGlobal (now (clock .entry)) (at offset microstep)) (now (tag .entry)) ⌝ }
 {
-    if tag.len() < 2 {
-        return 11;
+    if tag.len() < TAG_BYTES {
+        return NO_ROOM;
     }
-    if is_clock(clock) {
-        let c = clock_in(clock);
-        match c.local_to_global(LocalTag(offset, microstep)) {
-            MappedGlobal::Tag(t) => {
-                put_tag(tag, t.0, t.1);
-                return 0;
-            }
-            MappedGlobal::Refused(refusal) => {
-                return refusals::number_of(refusal);
-            }
+    match mapped_global(clock, LocalTag(offset, microstep)) {
+        MappedGlobal::Tag(t) => {
+            put_tag(tag, t.0, t.1);
+            0
         }
+        MappedGlobal::Refused(refusal) => refusals::number_of(refusal),
     }
-    11
 }

@@ -420,7 +420,7 @@ pub fn image_end(day: &[u8]) -> usize
 }
 
 // The image by its length: cut short, longer than the largest, or checked.
-fn open(day: &[u8]) -> Checked
+pub fn open(day: &[u8]) -> Checked
     ensures { λ r. ⌜ r ≡ opened (now (day .entry)) ⌝ }
 {
     let end = image_end(day);

@@ -48,7 +48,7 @@ pub enum Head {
 
 // ---- the operands, at a place of the body
 
-fn tag_at(body: &[u8], at: u8) -> GlobalTag
+pub fn tag_at(body: &[u8], at: u8) -> GlobalTag
     ensures { λ r. ⌜ ofGlobal r ≡ tagAt (now (body .entry)) at ⌝ }
 {
     let i = at as usize;
@@ -57,14 +57,14 @@ fn tag_at(body: &[u8], at: u8) -> GlobalTag
     GlobalTag(offset, microstep)
 }
 
-fn is_bit(body: &[u8], at: usize) -> bool
+pub fn is_bit(body: &[u8], at: usize) -> bool
     ensures { λ r. ⌜ r ≡ isBit (now (body .entry)) at ⌝ }
 {
     let byte = rows::one_byte(body, at);
     byte < 2
 }
 
-fn is_one(body: &[u8], at: usize) -> bool
+pub fn is_one(body: &[u8], at: usize) -> bool
     ensures { λ r. ⌜ r ≡ isOne (now (body .entry)) at ⌝ }
 {
     let byte = rows::one_byte(body, at);

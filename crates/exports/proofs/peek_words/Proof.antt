@@ -1,4 +1,4 @@
-use Rattle.exports.specs.Words.{peekWords}
+use Rattle.exports.specs.State.{peekWords}
 use Rattle.pops.specs.Pops.{replyOf}
 use mathlib.Core.List.{[], _∷_}
 use mathlib.Core.Path.{refl, ap, sym}

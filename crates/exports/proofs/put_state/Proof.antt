@@ -1,6 +1,6 @@
 use mathlib.Core.Path.{sym}
-use Rattle.exports.proofs.WordLaws.{modes-long, scopes-long, events-long, values-long, buckets-long, all-over}
-use native.Mathlib.Omega.{arith}
+use Rattle.lines.proofs.WrittenLaws.{written-room}
+use Rattle.exports.proofs.WordLaws.{events-long, values-long, buckets-long, state-are}
 use borrow.Author.Needs.{needs}
 use Rattle.exports.proofs.put_state.Statement.{statement}
 use Rattle.exports.proofs.put_state.Tie as tie
@@ -23,37 +23,37 @@ slice-aggregate-put-keys : tie.Need-slice-aggregate-put-keys
 slice-aggregate-put-keys c = search needs
 
 put-keys-requires : tie.Need-put-keys-requires
-put-keys-requires c κs = omega (arith, c .before .before .before .state .given, modes-long (c .before .before .before .before .before .before .before .before .before .before .before .before .before .before .before .pre .1), c .before .before .before .before .before .before .before .before .before .before .before .before .before .before .before .pre .0)
+put-keys-requires c κs = written-room (c .before .before .before .before .put-words .ensures)
 
 slice-aggregate-put-words-2 : tie.Need-slice-aggregate-put-words-2
 slice-aggregate-put-words-2 c = search needs
 
 put-words-requires-2 : tie.Need-put-words-requires-2
-put-words-requires-2 c κs = omega (arith, c .before .before .before .state2 .given, c .before .before .before .before .before .before .before .before .state .given, scopes-long (c .before .before .before .before .before .before .before .before .before .before .before .before .before .before .before .before .before .before .before .before .pre .1), c .before .before .before .before .before .before .before .before .before .before .before .before .before .before .before .before .before .before .before .before .pre .0)
+put-words-requires-2 c κs = written-room (c .before .before .before .before .put-keys .ensures)
 
 slice-aggregate-put-words-3 : tie.Need-slice-aggregate-put-words-3
-slice-aggregate-put-words-3 c = sym (events-long (c .before .before .before .before .before .before .before .before .before .before .before .before .before .before .before .before .before .before .before .before .before .before .before .before .before .pre .1))
+slice-aggregate-put-words-3 c = sym (events-long (c .before .before .before .before .before .before .before .before .before .before .before .before .before .before .before .before .before .before .before .before .before .before .before .before .before .pre))
 
 put-words-requires-3 : tie.Need-put-words-requires-3
-put-words-requires-3 c κs = omega (arith, c .before .before .before .state3 .given, c .before .before .before .before .before .before .before .before .state2 .given, c .before .before .before .before .before .before .before .before .before .before .before .before .before .state .given, events-long (c .before .before .before .before .before .before .before .before .before .before .before .before .before .before .before .before .before .before .before .before .before .before .before .before .before .pre .1), c .before .before .before .before .before .before .before .before .before .before .before .before .before .before .before .before .before .before .before .before .before .before .before .before .before .pre .0)
+put-words-requires-3 c κs = written-room (c .before .before .before .before .put-words2 .ensures)
 
 slice-aggregate-put-words-4 : tie.Need-slice-aggregate-put-words-4
-slice-aggregate-put-words-4 c = sym (values-long (c .before .before .before .before .before .before .before .before .before .before .before .before .before .before .before .before .before .before .before .before .before .before .before .before .before .before .before .before .before .before .pre .1))
+slice-aggregate-put-words-4 c = sym (values-long (c .before .before .before .before .before .before .before .before .before .before .before .before .before .before .before .before .before .before .before .before .before .before .before .before .before .before .before .before .before .before .pre))
 
 put-words-requires-4 : tie.Need-put-words-requires-4
-put-words-requires-4 c κs = omega (arith, c .before .before .before .state4 .given, c .before .before .before .before .before .before .before .before .state3 .given, c .before .before .before .before .before .before .before .before .before .before .before .before .before .state2 .given, c .before .before .before .before .before .before .before .before .before .before .before .before .before .before .before .before .before .before .state .given, values-long (c .before .before .before .before .before .before .before .before .before .before .before .before .before .before .before .before .before .before .before .before .before .before .before .before .before .before .before .before .before .before .pre .1), c .before .before .before .before .before .before .before .before .before .before .before .before .before .before .before .before .before .before .before .before .before .before .before .before .before .before .before .before .before .before .pre .0)
+put-words-requires-4 c κs = written-room (c .before .before .before .before .put-words3 .ensures)
 
 slice-aggregate-put-words-5 : tie.Need-slice-aggregate-put-words-5
-slice-aggregate-put-words-5 c = sym (buckets-long (c .before .before .before .before .before .before .before .before .before .before .before .before .before .before .before .before .before .before .before .before .before .before .before .before .before .before .before .before .before .before .before .before .before .before .before .pre .1))
+slice-aggregate-put-words-5 c = sym (buckets-long (c .before .before .before .before .before .before .before .before .before .before .before .before .before .before .before .before .before .before .before .before .before .before .before .before .before .before .before .before .before .before .before .before .before .before .before .pre))
 
 put-words-requires-5 : tie.Need-put-words-requires-5
-put-words-requires-5 c κs = omega (arith, c .before .before .before .state5 .given, c .before .before .before .before .before .before .before .before .state4 .given, c .before .before .before .before .before .before .before .before .before .before .before .before .before .state3 .given, c .before .before .before .before .before .before .before .before .before .before .before .before .before .before .before .before .before .before .state2 .given, c .before .before .before .before .before .before .before .before .before .before .before .before .before .before .before .before .before .before .before .before .before .before .before .state .given, buckets-long (c .before .before .before .before .before .before .before .before .before .before .before .before .before .before .before .before .before .before .before .before .before .before .before .before .before .before .before .before .before .before .before .before .before .before .before .pre .1), c .before .before .before .before .before .before .before .before .before .before .before .before .before .before .before .before .before .before .before .before .before .before .before .before .before .before .before .before .before .before .before .before .before .before .before .pre .0)
+put-words-requires-5 c κs = written-room (c .before .before .before .before .put-words4 .ensures)
 
 same-length : tie.Need-same-length
 same-length c = search needs
 
 returns : tie.Need-returns
-returns c = all-over (c .before .before .before .before .before .before .before .before .before .before .before .before .before .before .before .before .before .before .before .before .before .before .before .before .before .before .before .before .before .before .before .before .before .before .before .before .before .before .pre .1) (c .before .before .before .before .before .before .before .before .before .before .before .before .before .before .before .before .before .before .before .before .before .before .before .before .before .before .before .before .before .before .before .before .before .before .before .before .before .before .args .state .now) (c .before .before .before .before .before .before .before .before .before .before .before .before .before .before .before .before .before .before .before .before .before .before .before .before .before .before .before .before .before .before .before .before .before .before .before .first-words .ensures) (c .before .before .before .before .before .before .before .before .before .before .before .before .before .before .before .before .before .before .before .before .before .before .before .before .before .before .before .put-words .ensures) (c .before .before .before .before .before .before .before .before .before .before .before .before .before .before .before .before .before .before .before .before .before .before .put-keys .ensures) (c .before .before .before .before .before .before .before .before .before .before .before .before .before .before .before .before .before .put-words2 .ensures) (c .before .before .before .before .before .before .before .before .before .before .before .before .put-words3 .ensures) (c .before .before .before .before .before .before .before .put-words4 .ensures) (c .before .before .put-words5 .ensures)
+returns c = state-are (c .before .before .before .before .before .before .before .before .before .before .before .before .before .before .before .before .before .before .before .before .before .before .before .before .before .before .before .before .before .before .before .before .before .before .before .before .before .before .pre) (c .before .before .before .before .before .before .before .before .before .before .before .before .before .before .before .before .before .before .before .before .before .before .before .before .before .before .before .before .before .before .before .before .before .before .before .first-words .ensures) (c .before .before .before .before .before .before .before .before .before .before .before .before .before .before .before .before .before .before .before .before .before .before .before .before .before .before .before .put-words .ensures) (c .before .before .before .before .before .before .before .before .before .before .before .before .before .before .before .before .before .before .before .before .before .before .put-keys .ensures) (c .before .before .before .before .before .before .before .before .before .before .before .before .before .before .before .before .before .put-words2 .ensures) (c .before .before .before .before .before .before .before .before .before .before .before .before .put-words3 .ensures) (c .before .before .before .before .before .before .before .put-words4 .ensures) (c .before .before .put-words5 .ensures)
 
 pub put-state-spec : {M : Type 1} → statement M
 put-state-spec =

@@ -1,24 +1,25 @@
-use Rattle.exports.proofs.OverLaws.{same-number}
-use Prim.Native.Nat.{_+_, _-_, _≤_}
-use mathlib.Core.Path.{_≡_, refl, ap, sym, _∙_}
-use native.Mathlib.Omega.{arith}
-use lib.ListN.{length}
-use lib.Seq.{paste}
+use Prim.Native.Nat.{_-_, _≤_}
+use lib.ListN.{length, take}
 use borrow.Author.Needs.{needs}
-use Rattle.exports.proofs.OverLaws.{over-none, over-next, over-long, over-all}
+use Rattle.lines.specs.Written.{Written}
+use Rattle.lines.proofs.WrittenLaws.{written-room, written-long}
+use Rattle.exports.specs.Told.{wordBytes}
+use Rattle.exports.proofs.ToldLaws.{words-none, words-on, words-all}
+use mathlib.Core.Path.{refl}
 use Rattle.exports.proofs.put_words.Statement.{statement}
 use Rattle.exports.proofs.put_words.Tie as tie
 use Rattle.exports.proofs.put_words.Reads as reads
 use Rattle.exports.proofs.put_words.Lts as lts
+use Rattle.exports.proofs.put_number.Reads as put-number-reads
 
 abbrev Inv-loop : tie.InvT-loop
-Inv-loop state₀ at words i₀ state i = (i ≤ length words) × (state ≡ paste state₀ at words i)
+Inv-loop bytes₀ at words end₀ i₀ bytes end i = (i ≤ length words) × Written bytes₀ end₀ (wordBytes (take i words)) bytes end
 
 abbrev μ-loop : tie.MeasureT-loop
-μ-loop state₀ at words i₀ state i = length words - i
+μ-loop bytes₀ at words end₀ i₀ bytes end i = length words - i
 
 loop-holds : tie.Need-loop-holds Inv-loop μ-loop
-loop-holds c = (search needs, over-none (c .args .state .now) (c .args .at) (c .args .words .now))
+loop-holds c = (search needs, words-none _ _ (c .before .before .args .words .now) (c .before .before .pre))
 
 mul-word : tie.Need-mul-word Inv-loop μ-loop
 mul-word c = search needs
@@ -26,14 +27,8 @@ mul-word c = search needs
 shared-slice-read-word : tie.Need-shared-slice-read-word Inv-loop μ-loop
 shared-slice-read-word c = search needs
 
-add-state : tie.Need-add-state Inv-loop μ-loop
-add-state c = search needs
-
-mul-state : tie.Need-mul-state Inv-loop μ-loop
-mul-state c = search needs
-
-slice-write-state : tie.Need-slice-write-state Inv-loop μ-loop
-slice-write-state c = let l = over-long (c .before .before .before .args .state .now) (c .before .before .before .args .at) (c .before .before .before .args .words .now) (c .before .before .before .pre) (c .before .before .loop .inv .1) (c .before .before .loop .inv .0) in omega (arith, l, c .before .before .before .pre, c .before .loop-test .taken)
+put-number-requires : tie.Need-put-number-requires Inv-loop μ-loop
+put-number-requires c κs = written-room (c .before .before .before .loop .inv .1)
 
 add-i : tie.Need-add-i Inv-loop μ-loop
 add-i c = search needs
@@ -42,13 +37,13 @@ loop-less : tie.Need-loop-less Inv-loop μ-loop
 loop-less c = search needs
 
 loop-again : tie.Need-loop-again Inv-loop μ-loop
-loop-again c = (search needs, over-next (c .before .before .before .args .state .now) (c .before .before .before .args .at) (c .before .before .before .args .words .now) (c .before .before .before .pre) (c .before .before .loop .inv .1) (c .before .loop-test .taken))
+loop-again c = (search needs, words-on (c .before .before .before .before .before .before .before .before .before .args .words .now) (c .before .before .before .before .before .before .loop .i) (c .before .before .before .before .before .before .loop .inv .1) (c .before .before .before .before .before .loop-test .taken) refl (c .before .before .put-number .ensures))
 
 same-length : tie.Need-same-length Inv-loop μ-loop
-same-length c = over-long (c .before .before .args .state .now) (c .before .before .args .at) (c .before .before .args .words .now) (c .before .before .pre) (c .before .loop .inv .1) (c .before .loop .inv .0)
+same-length c = written-long (c .before .loop .inv .1)
 
 returns : tie.Need-returns Inv-loop μ-loop
-returns c = over-all (c .before .before .args .state .now) (c .before .before .args .at) (c .before .before .args .words .now) (c .before .before .pre) (c .before .loop .inv .1) (let l = c .before .loop .inv .0 in let t = c .loop-test .left in same-number l t)
+returns c = words-all (c .before .before .before .before .args .words .now) (c .before .loop .i) (c .before .loop .inv .1) (c .loop-test .left)
 
 pub put-words-spec : {M : Type 1} → statement M
 put-words-spec =
@@ -59,9 +54,7 @@ put-words-spec =
     loop-holds
     mul-word
     shared-slice-read-word
-    add-state
-    mul-state
-    slice-write-state
+    put-number-requires
     add-i
     loop-less
     loop-again

@@ -2,7 +2,7 @@ use Rattle.lines.proofs.WrittenLaws.{written-long}
 use Rattle.exports.proofs.AfterLaws.{all-ends, all-rests, all-on, all-inside, all-over}
 use Rattle.exports.proofs.AfterLaws.{after-begins}
 use Rattle.exports.proofs.AfterLaws.{scratch, afterIn}
-use Rattle.exports.specs.Words.{afterAll}
+use Rattle.exports.specs.State.{afterAll}
 use Rattle.gate_day.specs.Views.{Kept, viewOf}
 use borrow.Author.Needs.{needs}
 use lib.ListN.{length, drop}

@@ -1,13 +1,13 @@
--- The state after a day's records, as words in the order that harness/barnshiver.h names. Assumes nothing.
+-- The state after a day's records, as bytes in the order that harness/barnshiver.h names. Assumes nothing.
 use Prim.Native.Nat.{ℕ, _+_, _*_}
-use mathlib.Core.Bool.{Bool, true, false, cond, _&&_}
+use mathlib.Core.Bool.{Bool, cond}
 use mathlib.Core.List.{List, [], _∷_, _++_}
-use lib.Dec.{leb}
 use lib.ListN.{length}
-use lib.Seq.{paste}
 use Rattle.lists.specs.Held.{wordsOf}
 use Rattle.rows.specs.Bytes.{Image}
-use Rattle.table.specs.Check.{isTable}
+use Rattle.table.specs.Check.{numberOf}
+use Rattle.table.specs.declared.Checked.{Checked}
+use Rattle.table.specs.declared.Checked.the-variants.{Accepted, Refused}
 use Rattle.entries.specs.Entries.{mostHeld, blankValue, blankBucket}
 use Rattle.entries.specs.Words.{decodeValue, encodeValue, valueWords, long-value, decodeBucket, encodeBucket, bucketWords, long-bucket}
 use Rattle.machine.specs.State.{State, mostWaiting, fresh}
@@ -19,13 +19,8 @@ use Rattle.scopes.specs.Scopes.{mostScopes}
 use Rattle.lens.specs.Padded.{padded}
 use Rattle.lens.specs.Lens.{scopesFrom, mostReactors}
 use Rattle.records.specs.Records.{recordsFrom}
-use Rattle.gate_day.specs.Days.{callsOf, imageEnd, imageIn, recordBytes}
-
--- ---- a day: an image by its length, and its records
-
--- the image is all there, and it is a table
-unfoldable pub opens : List ℕ → Bool
-opens day = leb (imageEnd day) (length day) && isTable (imageIn day)
+use Rattle.gate_day.specs.Days.{callsOf, imageIn, recordBytes, opened}
+use Rattle.exports.specs.Told.{Told, told, front, withRoom, wordBytes}
 
 -- the plain machine's state after the calls among the records
 unfoldable pub afterAll : Image → List ℕ → State
@@ -67,39 +62,21 @@ valuesIn s = wordsOf decodeValue encodeValue valueWords mostHeld long-value (pad
 abbrev pub bucketsIn : State → List ℕ
 bucketsIn s = wordsOf decodeBucket encodeBucket bucketWords mostHeld long-bucket (padded blankBucket mostHeld (s .store .buckets))
 
--- these words from a place on, and the rest as it was
-unfoldable pub over : List ℕ → ℕ → List ℕ → List ℕ
-over ws at new = paste ws at new (length new)
+-- of eight bytes each, one kind behind the other
+unfoldable pub stateBytes : Image → State → List ℕ
+stateBytes img s =
+    wordBytes (firstWords img s) ++
+    (wordBytes (modesIn s) ++ (wordBytes (scopesIn s) ++ (wordBytes (eventsIn s) ++ (wordBytes (valuesIn s) ++ wordBytes (bucketsIn s)))))
 
--- where each kind begins, one behind the other
-abbrev pub modesAt : ℕ
-modesAt = 8
+abbrev pub stateLength : ℕ
+stateLength = 8 * (8 + mostReactors + mostScopes * scope.scopeWords + mostWaiting * slot.slotWords + mostHeld * valueWords + mostHeld * bucketWords)
 
-abbrev pub scopesAt : ℕ
-scopesAt = modesAt + mostReactors
+-- ---- what is told of a day, an image and its records
 
-abbrev pub eventsAt : ℕ
-eventsAt = scopesAt + mostScopes * scope.scopeWords
+-- 0 and the state; or the image's refusal as the bench has it, and the bytes stay as they were
+abbrev pub stateBy : Checked → List ℕ → List ℕ → Told
+stateBy Accepted day state = told 0 (front state (stateBytes (imageIn day) (afterAll (imageIn day) (recordBytes day))))
+stateBy (Refused n) day state = told (numberOf n) state
 
-abbrev pub valuesAt : ℕ
-valuesAt = eventsAt + mostWaiting * slot.slotWords
-
-abbrev pub bucketsAt : ℕ
-bucketsAt = valuesAt + mostHeld * valueWords
-
-abbrev pub stateWords : ℕ
-stateWords = bucketsAt + mostHeld * bucketWords
-
-unfoldable pub stateOver : Image → State → List ℕ → List ℕ
-stateOver img s ws = over (over (over (over (over (over ws 0 (firstWords img s)) modesAt (modesIn s)) scopesAt (scopesIn s)) eventsAt (eventsIn s)) valuesAt (valuesIn s)) bucketsAt (bucketsIn s)
-
--- ---- what is answered, and what the words are then
-
-unfoldable pub answers : List ℕ → List ℕ → Bool
-answers day ws = leb stateWords (length ws) && opens day
-
-unfoldable pub afterNumber : List ℕ → List ℕ → ℕ
-afterNumber day ws = cond (answers day ws) 0 1
-
-unfoldable pub afterWords : List ℕ → List ℕ → List ℕ
-afterWords day ws = cond (answers day ws) (stateOver (imageIn day) (afterAll (imageIn day) (recordBytes day)) ws) ws
+unfoldable pub stateTold : List ℕ → List ℕ → Told
+stateTold day state = withRoom stateLength state (stateBy (opened day) day state)

@@ -1,0 +1,67 @@
+-- Numbers put into lent bytes one behind the other, and lent slices that are too short. Assumes nothing.
+use mathlib.Core.Bool.{cond}
+use mathlib.Core.Path.{_≡_, refl, ap, _∙_, sym}
+use mathlib.Core.List.{List, [], _∷_, _++_, append-assoc, append-nil}
+use Prim.Native.Nat.{ℕ, suc, _+_, _-_, _/_, _%_, _≤_, _<_}
+use native.Mathlib.Omega.{arith}
+use native.Mathlib.Numerals.{add-one}
+use lib.ListN.{length, take, getD}
+use lib.Seq.{take-suc, take-all}
+use borrow.Author.Tests.{lt-ltb, le-ltb}
+use Rattle.tags.specs.Tags.{at}
+use Rattle.lines.specs.Written.{Written}
+use Rattle.lines.proofs.WrittenLaws.{written-none, written-then, written-as}
+use Rattle.exports.specs.Told.{Told, told, noRoom, withRoom, beBytes, wordBytes, tagBytes}
+
+-- ---- room
+
+module _ (n : ℕ) (room : List ℕ) (t : Told) where
+  pub no-room : length room < n → told noRoom room ≡ withRoom n room t
+  unfolding withRoom
+  no-room h = sym (ap (λ b. cond b (told noRoom room) t) (lt-ltb (length room) n h))
+
+  pub in-room : n ≤ length room → {a : Told} → a ≡ t → a ≡ withRoom n room t
+  unfolding withRoom
+  in-room h e = e ∙ sym (ap (λ b. cond b (told noRoom room) t) (le-ltb (length room) n h))
+
+-- ---- a number's bytes
+
+module _ (w n : ℕ) where
+  pub number-none : w ≡ 0 → [] ≡ beBytes w n
+  unfolding beBytes
+  number-none e = sym (ap (λ k. beBytes k n) e)
+
+  pub number-more : (w ≡ 0 → ⊥) → beBytes (w - 1) (n / 256) ++ (n % 256 ∷ []) ≡ beBytes w n
+  unfolding beBytes
+  number-more h = let e : suc (w - 1) ≡ w = omega (arith, h) in ap (λ k. beBytes k n) e
+
+-- ---- a tag's
+
+pub tag-written : (o s : ℕ) {old mid new : List ℕ} {m end : ℕ} → Written old 0 (beBytes 8 o) mid m → Written mid m (beBytes 4 s) new end → Written old 0 (tagBytes (at o s)) new end
+unfolding tagBytes
+tag-written o s v w = written-then v w
+
+-- ---- the bytes of numbers, one behind the other
+
+words-append : (a b : List ℕ) → wordBytes (a ++ b) ≡ wordBytes a ++ wordBytes b
+unfolding wordBytes
+words-append [] b = refl
+words-append (n ∷ a) b = ap (λ l. beBytes 8 n ++ l) (words-append a b) ∙ sym (append-assoc (beBytes 8 n) (wordBytes a) (wordBytes b))
+
+words-next : (ws : List ℕ) (i : ℕ) → i < length ws → wordBytes (take i ws) ++ beBytes 8 (getD ws i 0) ≡ wordBytes (take (i + 1) ws)
+unfolding wordBytes
+words-next ws i h =
+    ap (λ l. wordBytes (take i ws) ++ l) (sym (append-nil (beBytes 8 (getD ws i 0)))) ∙
+    (sym (words-append (take i ws) (getD ws i 0 ∷ [])) ∙ ap wordBytes (sym (take-suc ws i 0 h) ∙ ap (λ k. take k ws) (sym (add-one i))))
+
+pub words-none : (old : List ℕ) (at : ℕ) (ws : List ℕ) → at ≤ length old → Written old at (wordBytes (take 0 ws)) old at
+unfolding wordBytes
+words-none old at ws h = written-none old at h
+
+module _ {old : List ℕ} {at : ℕ} (ws : List ℕ) (i : ℕ) {mid : List ℕ} {m : ℕ} (v : Written old at (wordBytes (take i ws)) mid m) where
+  -- one more
+  pub words-on : i < length ws → {w : ℕ} → w ≡ getD ws i 0 → {new : List ℕ} {end : ℕ} → Written mid m (beBytes 8 w) new end → Written old at (wordBytes (take (i + 1) ws)) new end
+  words-on h {w} e x = written-as (written-then v x) (ap (λ n. wordBytes (take i ws) ++ beBytes 8 n) e ∙ words-next ws i h)
+
+  pub words-all : length ws ≤ i → Written old at (wordBytes ws) mid m
+  words-all h = written-as v (ap wordBytes (take-all i ws h))
