@@ -79,13 +79,13 @@ pub delayed-six : (t : Tag) → within t ≡ false → refused ArgumentTag ≡ d
 unfolding delayed
 delayed-six t w = simp w
 
-pub delayed-more : (t : Tag) {a : Answer} → within t ≡ true → t .microstep < maxMicrostep → a ≡ done (at (t .offset) (t .microstep + 1)) → a ≡ delayed t
+pub delayed-more : (t : Tag) {n : ℕ} {a : Answer} → n ≡ maxMicrostep → within t ≡ true → t .microstep < n → a ≡ done (at (t .offset) (t .microstep + 1)) → a ≡ delayed t
 unfolding delayed
-delayed-more t w h e = simp (w, lt-ltb _ _ h) e
+delayed-more t q w h e = let k : t .microstep < maxMicrostep = omega arith in simp (w, lt-ltb _ _ k) e
 
-pub delayed-over : (t : Tag) → within t ≡ true → maxMicrostep ≤ t .microstep → refused MappedTag ≡ delayed t
+pub delayed-over : (t : Tag) {n : ℕ} → n ≡ maxMicrostep → within t ≡ true → n ≤ t .microstep → refused MappedTag ≡ delayed t
 unfolding delayed
-delayed-over t w h = simp (w, le-ltb _ _ h)
+delayed-over t q w h = let k : maxMicrostep ≤ t .microstep = omega arith in simp (w, le-ltb _ _ k)
 
 pub ruleset delays = (delayed-six, delayed-more, delayed-over, flag)
 
@@ -102,8 +102,8 @@ pub ruleset answers = (answered-tag, answered-refused, refl)
 
 -- ---- a place
 
-pub settled-tag : (p : Place) {o m : ℕ} → p ≡ At o m → o ≤ maxOffset → m ≤ maxMicrostep → done (at o m) ≡ settledAt p
-settled-tag p e h k = rw e (simp (within-both _ h k))
+pub settled-tag : (p : Place) {o m a b : ℕ} → a ≡ maxOffset → b ≡ maxMicrostep → p ≡ At o m → o ≤ a → m ≤ b → done (at o m) ≡ settledAt p
+settled-tag p {o} {m} x y e h k = let i : o ≤ maxOffset = omega arith in let j : m ≤ maxMicrostep = omega arith in rw e (simp (within-both _ i j))
 
 pub settled-below : (p : Place) → p ≡ Below → refused MappedTag ≡ settledAt p
 settled-below p e = rw e
@@ -111,11 +111,14 @@ settled-below p e = rw e
 pub settled-beyond : (p : Place) → p ≡ Beyond → refused MappedTag ≡ settledAt p
 settled-beyond p e = rw e
 
-pub settled-offset : (p : Place) {o m : ℕ} → p ≡ At o m → maxOffset < o → refused MappedTag ≡ settledAt p
-settled-offset p {o} {m} e h = rw e (simp (within-not-offset (at o m) h))
+pub settled-offset : (p : Place) {o m a : ℕ} → a ≡ maxOffset → p ≡ At o m → a < o → refused MappedTag ≡ settledAt p
+settled-offset p {o} {m} x e h = let i : maxOffset < o = omega arith in rw e (simp (within-not-offset (at o m) i))
 
-pub settled-microstep : (p : Place) {o m : ℕ} → p ≡ At o m → o ≤ maxOffset → maxMicrostep < m → refused MappedTag ≡ settledAt p
-settled-microstep p {o} {m} e h k = rw e (simp (within-not-microstep (at o m) h k))
+pub settled-microstep : (p : Place) {o m a b : ℕ} → a ≡ maxOffset → b ≡ maxMicrostep → p ≡ At o m → o ≤ a → b < m → refused MappedTag ≡ settledAt p
+settled-microstep p {o} {m} x y e h k =
+    let i : o ≤ maxOffset = omega arith in
+    let j : maxMicrostep < m = omega arith in
+    rw e (simp (within-not-microstep (at o m) i j))
 
 pub ruleset settles = (settled-tag, settled-below, settled-beyond, settled-offset, settled-microstep)
 

@@ -1,3 +1,2 @@
 pub mod Tags
 pub mod Views
-pub mod Examples

@@ -2,14 +2,9 @@
 // Carried over from boomerang_runtime's time.rs (`Tag`) and sched/modal.rs (`ScopeClockState`, both maps).
 ghost use mathlib.Core.Path.{_≡_};
 ghost use mathlib.Core.Bool.{true, _&&_};
-ghost use Rattle.tags.specs.Tags.{within, sameTag, earlier, delayed, shifted, withinClock, toLocal, toGlobal, isHeld, globalToLocal, localToGlobal, freshClock};
+ghost use Rattle.tags.specs.Tags.{maxOffset, maxMicrostep, within, sameTag, earlier, delayed, shifted, withinClock, toLocal, toGlobal, isHeld, globalToLocal, localToGlobal, freshClock};
 ghost use Rattle.tags.specs.Views.{ofGlobal, ofLocal, ofFields, ofClock, answered, delayedGlobal, delayedLocal, mappedGlobal, mappedLocal, placeOf, settledAt, heldBackAt, heldAt, placedAt};
 use refusals::Refusal;
-
-// The largest offset, 2^62 - 1 nanoseconds.
-const LAST_OFFSET: u64 = 4611686018427387903;
-
-const LAST_MICROSTEP: u32 = 4294967295;
 
 // A global tag: offset in nanoseconds, microstep.
 pub struct GlobalTag(pub u64, pub u32);
@@ -65,10 +60,12 @@ enum Settled {
     Refused(Refusal),
 }
 
-fn is_within(t: Fields) -> bool
+// `last` has the scale's own limits, here and below.
+fn is_within(t: Fields, last: Fields) -> bool
+    requires { ⌜ (last .0 ≡ maxOffset) × (last .1 ≡ maxMicrostep) ⌝ }
     ensures { λ r. ⌜ r ≡ within (ofFields t) ⌝ }
 {
-    t.0 <= LAST_OFFSET
+    t.0 <= last.0
 }
 
 fn is_same(t: Fields, u: Fields) -> bool
@@ -90,11 +87,12 @@ fn is_earlier(t: Fields, u: Fields) -> bool
 }
 
 // One microstep more, or 7; 6 of what is no tag.
-fn delay(t: Fields) -> Settled
+fn delay(t: Fields, last: Fields) -> Settled
+    requires { ⌜ (last .0 ≡ maxOffset) × (last .1 ≡ maxMicrostep) ⌝ }
     ensures { λ r. ⌜ answered r ≡ delayed (ofFields t) ⌝ }
 {
-    if is_within(t) {
-        if t.1 < LAST_MICROSTEP {
+    if is_within(t, last) {
+        if t.1 < last.1 {
             Settled::Tag(Fields(t.0, t.1 + 1))
         } else {
             Settled::Refused(Refusal::MappedTag)
@@ -137,15 +135,16 @@ fn shift(to: Fields, from: Fields, x: Fields) -> Place
 }
 
 // A place as a tag, or 7.
-fn settle(p: Place) -> Settled
+fn settle(p: Place, last: Fields) -> Settled
+    requires { ⌜ (last .0 ≡ maxOffset) × (last .1 ≡ maxMicrostep) ⌝ }
     ensures { λ r. ⌜ answered r ≡ settledAt p ⌝ }
 {
     match p {
         Place::Below => Settled::Refused(Refusal::MappedTag),
         Place::Beyond => Settled::Refused(Refusal::MappedTag),
         Place::At(offset, microstep) => {
-            if offset <= LAST_OFFSET {
-                if microstep <= LAST_MICROSTEP as u64 {
+            if offset <= last.0 {
+                if microstep <= last.1 as u64 {
                     return Settled::Tag(Fields(offset, microstep as u32));
                 }
             }
@@ -190,13 +189,13 @@ fn hold_back(g: Fields, allowed: bool, p: Place) -> Settled
     ensures { λ r. ⌜ answered r ≡ placedAt (ofFields g) allowed p ⌝ }
 {
     match p {
-        Place::Below => delay(g),
+        Place::Below => delay(g, GlobalTag::LAST),
         Place::Beyond => Settled::Refused(Refusal::MappedTag),
         Place::At(offset, microstep) => {
             if is_held_back(g, allowed, offset, microstep) {
-                delay(g)
+                delay(g, GlobalTag::LAST)
             } else {
-                settle(p)
+                settle(p, GlobalTag::LAST)
             }
         }
     }
@@ -207,15 +206,18 @@ fn hold_back(g: Fields, allowed: bool, p: Place) -> Settled
 impl GlobalTag {
     pub const ZERO: GlobalTag = GlobalTag(0, 0);
 
-    pub const MAX_OFFSET: u64 = LAST_OFFSET;
+    // 2^62 - 1 nanoseconds.
+    pub const MAX_OFFSET: u64 = 4611686018427387903;
 
-    pub const MAX_MICROSTEP: u32 = LAST_MICROSTEP;
+    pub const MAX_MICROSTEP: u32 = 4294967295;
+
+    const LAST: Fields = Fields(GlobalTag::MAX_OFFSET, GlobalTag::MAX_MICROSTEP);
 
     // The tag lies within the limits.
     pub fn within(self) -> bool
         ensures { λ r. ⌜ r ≡ within (ofGlobal self) ⌝ }
     {
-        is_within(Fields(self.0, self.1))
+        is_within(Fields(self.0, self.1), GlobalTag::LAST)
     }
 
     pub fn same(self, other: GlobalTag) -> bool
@@ -235,7 +237,7 @@ impl GlobalTag {
     pub fn delay(self) -> DelayedGlobal
         ensures { λ r. ⌜ delayedGlobal r ≡ delayed (ofGlobal self) ⌝ }
     {
-        match delay(Fields(self.0, self.1)) {
+        match delay(Fields(self.0, self.1), GlobalTag::LAST) {
             Settled::Tag(t) => DelayedGlobal::Tag(GlobalTag(t.0, t.1)),
             Settled::Refused(n) => DelayedGlobal::Refused(n),
         }
@@ -245,15 +247,18 @@ impl GlobalTag {
 impl LocalTag {
     pub const ZERO: LocalTag = LocalTag(0, 0);
 
-    pub const MAX_OFFSET: u64 = LAST_OFFSET;
+    // 2^62 - 1 nanoseconds.
+    pub const MAX_OFFSET: u64 = 4611686018427387903;
 
-    pub const MAX_MICROSTEP: u32 = LAST_MICROSTEP;
+    pub const MAX_MICROSTEP: u32 = 4294967295;
+
+    const LAST: Fields = Fields(LocalTag::MAX_OFFSET, LocalTag::MAX_MICROSTEP);
 
     // The tag lies within the limits.
     pub fn within(self) -> bool
         ensures { λ r. ⌜ r ≡ within (ofLocal self) ⌝ }
     {
-        is_within(Fields(self.0, self.1))
+        is_within(Fields(self.0, self.1), LocalTag::LAST)
     }
 
     pub fn same(self, other: LocalTag) -> bool
@@ -273,7 +278,7 @@ impl LocalTag {
     pub fn delay(self) -> DelayedLocal
         ensures { λ r. ⌜ delayedLocal r ≡ delayed (ofLocal self) ⌝ }
     {
-        match delay(Fields(self.0, self.1)) {
+        match delay(Fields(self.0, self.1), LocalTag::LAST) {
             Settled::Tag(t) => DelayedLocal::Tag(LocalTag(t.0, t.1)),
             Settled::Refused(n) => DelayedLocal::Refused(n),
         }
@@ -352,7 +357,7 @@ impl ScopeClock {
         let from = self.activation_global;
         let to = self.activation_local;
         let p = shift(Fields(to.0, to.1), Fields(from.0, from.1), Fields(g.0, g.1));
-        as_local(settle(p))
+        as_local(settle(p, LocalTag::LAST))
     }
 
     // Local x to global, of a clock and a tag that are not looked at.

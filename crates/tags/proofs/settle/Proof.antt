@@ -16,8 +16,8 @@ enum-known-p c = search needs
 cast-if2 : tie.Need-cast-if2
 cast-if2 c = search needs
 
-cast-t10 : tie.Need-cast-t10
-cast-t10 c = search needs
+cast-t11 : tie.Need-cast-t11
+cast-t11 c = search needs
 
 returns : tie.Need-returns
 returns c = search settles
@@ -42,7 +42,7 @@ settle-spec =
     enum-told-2
     enum-known-p
     cast-if2
-    cast-t10
+    cast-t11
     returns
     returns-2
     returns-3
