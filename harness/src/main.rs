@@ -8,14 +8,16 @@ use std::sync::Mutex;
 
 use barnshiver::slices::{CLOCK_BYTES, NO_ROOM, PLACE_BYTES, TAG_BYTES};
 use barnshiver::state::STATE_BYTES;
-use barnshiver::{slices, LINE_ROOM};
+use barnshiver::{slices, ImageRefused, State, LINE_ROOM};
 use oracle::image::{self, number};
 use oracle::make::{make, KINDS};
 use oracle::plain::{self, Plain};
 use oracle::records::split;
 use oracle::{deep, scripts, shrink};
 
+mod beside;
 mod seen;
+mod selftest;
 
 const USAGE: &str = "\
 harness maps SEED COUNT      clock maps against the published clock's and 01's answers
@@ -24,6 +26,11 @@ harness tables days FOLDER   the same on the images of recorded days
 harness days FROM TO         made days of every kind, seeds FROM to TO - 1: the lines, and the state after every record
                              against the Rust's and the plain machine's
 harness days recorded FOLDER the same on recorded days
+harness beside FROM TO DAMAGED FOLDER [SEEDS PROGRAM [WORD..]]
+                             the lines of the days that `oracle beside` has, all in this process; and PROGRAM's on the recorded, long and
+                             damaged ones and on the made ones of the first so many SEEDS
+harness selftest             wrong answers and wrong states in the library's place, each of which must be found
+harness help                 these lines
 
 Exit status: 0 all agrees, 1 a difference, 2 the arguments are at fault.";
 
@@ -35,6 +42,21 @@ fn main() -> ExitCode {
             scripts::table::write_days(Path::new(folder)).and_then(tables)
         }
         ["days", "recorded", folder] => recorded(Path::new(folder)),
+        ["beside", from, to, damaged, folder, ref program @ ..] => {
+            let (seeds, words) = match program.split_first() {
+                Some((seeds, words)) if !words.is_empty() => (seeds.parse(), words),
+                Some(_) => return usage(),
+                None => (Ok(0), program),
+            };
+            match (from.parse(), to.parse(), damaged.parse(), seeds) {
+                (Ok(from), Ok(to), Ok(damaged), Ok(seeds)) => {
+                    beside::beside((from, to), damaged, Path::new(folder), seeds, words)
+                }
+                _ => return usage(),
+            }
+        }
+        ["selftest"] => selftest::selftest(),
+        ["help"] => Ok(USAGE.to_string()),
         [what, first, second] => match (what, first.parse(), second.parse()) {
             ("maps", Ok(seed), Ok(count)) => maps(seed, count),
             ("tables", Ok(seed), Ok(count)) => {
@@ -258,6 +280,14 @@ fn recorded(folder: &Path) -> Result<String, String> {
 fn one_day(day: &[u8]) -> Result<(usize, usize), String> {
     lines(day)?;
     no_state(day, STATE_BYTES - 1, NO_ROOM)?;
+    states(day, &barnshiver::state_after)
+}
+
+/// The state after a day's records, if its image is accepted.
+type StateAfter<'s> = dyn Fn(&[u8]) -> Result<State, ImageRefused> + 's;
+
+/// The states after every record of a day.
+fn states(day: &[u8], state_after: &StateAfter<'_>) -> Result<(usize, usize), String> {
     let (table, records) = match image::open(day) {
         Ok(opened) => opened,
         Err(refused) => return no_state(day, STATE_BYTES, refused.number).map(|()| (0, 0)),
@@ -281,8 +311,7 @@ fn one_day(day: &[u8]) -> Result<(usize, usize), String> {
             end += record.bytes.len();
             what = format!("after record {at} ({record})");
         }
-        let ours =
-            barnshiver::state_after(&day[..end]).map_err(|words| format!("{what}: {words}"))?;
+        let ours = state_after(&day[..end]).map_err(|words| format!("{what}: {words}"))?;
         let line = seen::line(at, &ours, &table);
         let expected = plain_lines.next().unwrap_or("");
         if line != expected {

@@ -5,6 +5,8 @@
 //! long day of each kind; and so many damaged copies, a byte dropped, changed, doubled, or the day cut there, at places
 //! spread over all bytes of some fifty short days.
 //!
+//! The harness has the library's function run all days in one process and the bench program some of them: several sides (`Side`) may answer.
+//!
 //! Each must be answered in time and with exit status 0. `compare` and `judge` must find nothing, recorded answers must
 //! come byte for byte, and so must the plain machine's (that settles the order of actions and what lies outside the
 //! Rust's domain, damaged days above all). A difference is shown on the smallest day that has one.
@@ -118,11 +120,36 @@ fn first_difference(day: &[u8], expected: &[u8], got: &[u8]) -> Result<Option<St
     ))
 }
 
-/// A day to be run, with its name and perhaps its recorded answers.
+/// One that answers days: all that are recorded, damaged or long, and the made ones of the first so many seeds.
+pub struct Side<'s> {
+    pub name: &'s str,
+    pub seeds: u64,
+    pub runner: &'s Runner<'s>,
+}
+
+/// A day to be run, with its name and perhaps its recorded answers; for a made one, how many seeds come before its own.
 struct Case {
     name: String,
     day: Vec<u8>,
     recorded: Option<Vec<u8>>,
+    before: u64,
+}
+
+impl Case {
+    fn new(name: String, day: Vec<u8>) -> Self {
+        Self {
+            name,
+            day,
+            recorded: None,
+            before: 0,
+        }
+    }
+}
+
+impl Side<'_> {
+    fn takes(&self, case: &Case) -> bool {
+        case.before < self.seeds
+    }
 }
 
 /// A day made worse at one byte.
@@ -168,9 +195,8 @@ fn recorded(folder: &Path) -> Result<Vec<Case>, String> {
     let mut cases = Vec::new();
     for path in files(folder, "day")? {
         cases.push(Case {
-            name: path.display().to_string(),
-            day: read(&path)?,
             recorded: Some(read(&path.with_extension("answers"))?),
+            ..Case::new(path.display().to_string(), read(&path)?)
         });
     }
     let small = folder.join("small");
@@ -180,21 +206,17 @@ fn recorded(folder: &Path) -> Result<Vec<Case>, String> {
         Vec::new()
     } {
         let text = String::from_utf8_lossy(&read(&path)?).into_owned();
-        cases.push(Case {
-            name: path.display().to_string(),
-            day: assemble(&text).map_err(|words| format!("{}: {words}", path.display()))?,
-            recorded: None,
-        });
+        let day = assemble(&text).map_err(|words| format!("{}: {words}", path.display()))?;
+        cases.push(Case::new(path.display().to_string(), day));
     }
     Ok(cases)
 }
 
 fn made(seed: u64, kind: &str) -> Case {
-    Case {
-        name: format!("seed {seed} kind {kind}"),
-        day: make(seed, kind).unwrap_or_default(),
-        recorded: None,
-    }
+    Case::new(
+        format!("seed {seed} kind {kind}"),
+        make(seed, kind).unwrap_or_default(),
+    )
 }
 
 /// Damaged copies of short days: places and ways spread evenly, each drawn within its stretch.
@@ -213,11 +235,8 @@ fn damaged_cases(seed: u64, count: usize, bases: &[Case]) -> Vec<Case> {
         }
         let (at, way) = ((drawn - before) / WAYS, (drawn - before) % WAYS);
         let (how, day) = damaged(&bases[base].day, at, way, &mut rng);
-        cases.push(Case {
-            name: format!("{}, byte {at} {how}", bases[base].name),
-            day,
-            recorded: None,
-        });
+        let name = format!("{}, byte {at} {how}", bases[base].name);
+        cases.push(Case::new(name, day));
     }
     cases
 }
@@ -252,7 +271,7 @@ pub fn beside(
     (from, to): (u64, u64),
     damaged: usize,
     folder: &Path,
-    runner: &Runner<'_>,
+    sides: &[Side<'_>],
 ) -> Result<Result<String, String>, String> {
     let mut cases = recorded(folder)?;
     let stored = cases.len();
@@ -262,45 +281,63 @@ pub fn beside(
     bases.extend(seeds.flat_map(|seed| KINDS.iter().map(move |kind| made(seed, kind))));
     let long = LONG_KINDS.iter().filter(|kind| kind.contains('-'));
     cases.extend(long.map(|kind| made(from, kind)));
-    let made_days = (from..to).flat_map(|seed| KINDS.iter().map(move |kind| made(seed, kind)));
+    let made_days = (from..to).flat_map(|seed| {
+        KINDS.iter().map(move |kind| Case {
+            before: seed - from,
+            ..made(seed, kind)
+        })
+    });
     cases.extend(made_days);
     let whole = cases.len();
     cases.extend(damaged_cases(from, damaged, &bases));
-    Ok(run(&cases, runner).map(|counts| {
+    let by_side = |side: &Side<'_>| {
+        let taken = cases.iter().filter(|case| side.takes(case)).count();
+        format!("{taken} through {}", side.name)
+    };
+    let by_side: Vec<String> = sides.iter().map(by_side).collect();
+    Ok(run(&cases, sides).map(|counts| {
         format!(
             "{} days: {stored} recorded, {} made, {} damaged ({} refused tables in all); {} records, {} of them compared \
-             with the Rust; {} days left its domain\nno difference",
+             with the Rust; {} days left its domain; {}\nno difference",
             cases.len(),
             whole - stored,
             cases.len() - whole,
             counts.refused_tables,
             counts.records,
             counts.compared,
-            counts.left
+            counts.left,
+            by_side.join(", ")
         )
     }))
 }
 
 /// Runs all cases, several at a time; the first that differs is shown on the smallest day.
-fn run(cases: &[Case], runner: &Runner<'_>) -> Result<Counts, String> {
+fn run(cases: &[Case], sides: &[Side<'_>]) -> Result<Counts, String> {
     let workers = thread::available_parallelism().map_or(2, |count| count.get());
     let (next, counts) = (AtomicUsize::new(0), Mutex::new(Counts::default()));
-    let worst: Mutex<Option<(usize, String)>> = Mutex::new(None);
+    let worst: Mutex<Option<(usize, &Side<'_>, String)>> = Mutex::new(None);
     let work = || loop {
         let index = next.fetch_add(1, Ordering::Relaxed);
         let Some(case) = cases.get(index) else {
             return;
         };
-        match check_case(case, runner) {
-            Ok(outcome) => locked(&counts).add(&case.day, &outcome),
-            Err(words) => {
-                // Those before it are being worked on; none after it is begun.
-                next.store(cases.len(), Ordering::Relaxed);
-                let mut worst = locked(&worst);
-                if worst.as_ref().map_or(true, |(first, _)| index < *first) {
-                    *worst = Some((index, words));
+        let mut agreed = None;
+        for side in sides.iter().filter(|side| side.takes(case)) {
+            match check_case(case, side.runner) {
+                Ok(outcome) => agreed = Some(outcome),
+                Err(words) => {
+                    // Those before it are being worked on; none after it is begun.
+                    next.store(cases.len(), Ordering::Relaxed);
+                    let mut worst = locked(&worst);
+                    if worst.as_ref().map_or(true, |(first, ..)| index < *first) {
+                        *worst = Some((index, side, words));
+                    }
+                    return;
                 }
             }
+        }
+        if let Some(outcome) = agreed {
+            locked(&counts).add(&case.day, &outcome);
         }
     };
     thread::scope(|scope| {
@@ -310,10 +347,10 @@ fn run(cases: &[Case], runner: &Runner<'_>) -> Result<Counts, String> {
     });
     let found = locked(&worst).take();
     match found {
-        Some((index, words)) => {
-            let differs = |day: &[u8]| check(day, runner(day, SHORT_LIMIT)).err();
+        Some((index, side, words)) => {
+            let differs = |day: &[u8]| check(day, (side.runner)(day, SHORT_LIMIT)).err();
             Err(shown(
-                &cases[index].name,
+                &format!("{}: {}", side.name, cases[index].name),
                 &words,
                 &cases[index].day,
                 differs,
@@ -366,13 +403,24 @@ mod tests {
         cases
     }
 
+    fn side<'s>(name: &'s str, seeds: u64, runner: &'s Runner<'s>) -> Side<'s> {
+        Side {
+            name,
+            seeds,
+            runner,
+        }
+    }
+
     fn report(change: impl Fn(&str) -> String + Sync) -> String {
-        run(&cases(), &*wrong(change)).map(|_| ()).unwrap_err()
+        let wrong = wrong(change);
+        let sides = [side("wrong", 1, &*wrong)];
+        run(&cases(), &sides).map(|_| ()).unwrap_err()
     }
 
     #[test]
     fn right_answers_agree() {
-        let counts = run(&cases(), &*wrong(str::to_string)).map_err(|words| panic!("{words}"));
+        let right = wrong(str::to_string);
+        let counts = run(&cases(), &[side("right", 1, &*right)]).map_err(|words| panic!("{words}"));
         assert!(counts.unwrap().records > 1000);
     }
 
@@ -409,6 +457,21 @@ mod tests {
             None => line.to_string(),
         });
         assert!(order.contains("there: 01: record"), "{order}");
+    }
+
+    #[test]
+    fn a_wrong_second_side_is_named_and_has_its_own_days() {
+        let (right, wrong) = (
+            wrong(str::to_string),
+            wrong(|line| line.replace("terminal 1", "terminal 0")),
+        );
+        let mut cases = cases();
+        let sides = [side("first", 2, &*right), side("second", 1, &*wrong)];
+        let words = run(&cases, &sides).map(|_| ()).unwrap_err();
+        assert!(words.starts_with("second: seed "), "{words}");
+        assert!(words.contains("\nplain 0 0 1 -\npop\nthere: "), "{words}");
+        cases.iter_mut().for_each(|case| case.before = 1);
+        assert!(run(&cases, &sides).is_ok());
     }
 
     #[test]

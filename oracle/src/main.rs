@@ -190,7 +190,12 @@ fn run(words: &[&str]) -> Result<(), Failure> {
             let seeds = (number(from)?, number(to)?);
             let damaged = number(damaged)? as usize;
             let runner = |day: &[u8], limit: Duration| beside::child(words, day, limit);
-            let outcome = beside::beside(seeds, damaged, Path::new(folder), &runner);
+            let side = beside::Side {
+                name: "the program",
+                seeds: u64::MAX,
+                runner: &runner,
+            };
+            let outcome = beside::beside(seeds, damaged, Path::new(folder), &[side]);
             writeln!(out, "{}", outcome.map_err(Fault)?.map_err(Difference)?)?;
         }
         ["help"] => writeln!(out, "{USAGE}")?,
