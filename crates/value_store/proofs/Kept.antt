@@ -9,7 +9,7 @@ use lib.ListN.{length}
 use borrow.Author.Tests.{le-leb}
 use Rattle.lists.specs.Tests.{and-left, and-right}
 use Rattle.lists.specs.Lay.{lay-take}
-use Rattle.lists.specs.Walk.{Result, done, refused, _>>=_, bind-done}
+use Rattle.lists.specs.Walk.{Result, done, refused, bind-done}
 use Rattle.refusals.specs.declared.Refusal.{Refusal}
 use Rattle.refusals.specs.declared.Refusal.the-variants as R
 use Rattle.table.specs.Check.{isTable}
@@ -19,7 +19,7 @@ use Rattle.entries.specs.Entries.{mostHeld, blankValue, blankBucket}
 use Rattle.store.specs.Store.{Store, storeRules, pushed, moved}
 use Rattle.store_rules.specs.Rules.{countedRules}
 use Rattle.store_rules.proofs.Kept.{Kept, pushed-kept, taken-kept, clearedBefore-kept, cleared-kept, moved-kept, rules-kept, kept-rules}
-use Rattle.value_store.specs.Calls.{Call, push, next, take-out, clear-before, clear, move, Outcome, outcome, ok, Arrays, heldIn, laid, actionOf, argumentsIn, isSound, checked, perform, step}
+use Rattle.value_store.specs.Calls.{Call, push, next, take-out, clear-before, clear, move, Outcome, outcome, ok, Arrays, heldIn, laid, actionOf, argumentsIn, isSound, perform, called, step}
 
 done-is : {a b : Outcome} → _≡_ {A = Result Refusal Outcome} (done a) (done b) → a ≡ b
 done-is e = cc
@@ -64,11 +64,11 @@ module _ (image : List ℕ) (a : Arrays) (lv : length (a .values) ≡ mostHeld) 
   sound-rules e = and-right (leb (a .«open») mostHeld) _ (and-right (leb (a .held) mostHeld) _ (and-right (isTable image) _ e))
 
   pub steps-keep : step image a c ≡ done o → isSound image (laid a (o .store)) ≡ true
-  unfolding step checked
+  unfolding step called
   steps-keep d = go (isSound image a) (ltb (actionOf c) (K.count image K.action)) (argumentsIn c) refl refl refl d
     where
       go : (b k w : Bool) → isSound image a ≡ b → ltb (actionOf c) (K.count image K.action) ≡ k → argumentsIn c ≡ w →
-          (cond b (cond k (cond w (done (heldIn a)) (refused R.ArgumentTag)) (refused R.Key)) (refused R.StateRule) >>= λ s. perform s c) ≡ done o → isSound image (laid a (o .store)) ≡ true
+          cond b (cond k (cond w (perform (heldIn a) c) (refused R.ArgumentTag)) (refused R.Key)) (refused R.StateRule) ≡ done o → isSound image (laid a (o .store)) ≡ true
       go true true true x y z d = sound-laid (o .store) (sound-table x) (calls-keep (K.count image K.action) (heldIn a) c o (sound-rules x) y z d)
       go true true false x y z d = absurd (not-done d)
       go true false w x y z d = absurd (not-done d)

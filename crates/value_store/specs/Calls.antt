@@ -42,6 +42,15 @@ abbrev pub said : Found → Answer
 said nothing = nothing-there
 said (found n) = number n
 
+-- what is answered, and the store after it: the one given where it is refused
+abbrev pub said-by : Result Refusal Outcome → Answer
+said-by (done o) = o .answer
+said-by (refused r) = no r
+
+abbrev pub left-by : Store → Result Refusal Outcome → Store
+left-by s (done o) = o .store
+left-by s (refused r) = s
+
 unfoldable pub perform : Store → Call → Result Refusal Outcome
 perform s (push a t v) = pushed s a t v >>= λ u. done (outcome ok u)
 perform s (next a o m) = done (outcome (said (nextMicrostep s a o m)) s)
@@ -99,15 +108,13 @@ argumentsIn (move a t u) = within t && within u
 unfoldable pub isSound : List ℕ → Arrays → Bool
 isSound image a = isTable image && countedRules (K.count image K.action) (a .held) (a .«open») (heldIn a)
 
--- 11, 5, 6: then the store that is held
-unfoldable pub checked : List ℕ → Arrays → ℕ → Bool → Result Refusal Store
-checked image a action within-limits =
-    cond (isSound image a)
-    (cond (ltb action (K.count image K.action)) (cond within-limits (done (heldIn a)) (refused R.ArgumentTag)) (refused R.Key))
-    (refused R.StateRule)
+-- 5, 6: then the call
+unfoldable pub called : List ℕ → Store → Call → Result Refusal Outcome
+called image s c = cond (ltb (actionOf c) (K.count image K.action)) (cond (argumentsIn c) (perform s c) (refused R.ArgumentTag)) (refused R.Key)
 
+-- 11 before all else
 unfoldable pub step : List ℕ → Arrays → Call → Result Refusal Outcome
-step image a c = checked image a (actionOf c) (argumentsIn c) >>= λ s. perform s c
+step image a c = cond (isSound image a) (called image (heldIn a) c) (refused R.StateRule)
 
 pub record Answered : Type 0 where
   pub answer : Answer

@@ -3,13 +3,13 @@
 ghost use mathlib.Core.Path.{_≡_};
 ghost use mathlib.Core.Bool.{_&&_};
 ghost use mathlib.Core.List.{map};
-ghost use Rattle.tags.specs.Tags.{within};
+ghost use Rattle.tags.specs.Tags.{at, within};
 ghost use Rattle.tags.specs.Views.{ofGlobal};
 ghost use Rattle.entries.specs.Entries.{ofValue, ofBucket};
 ghost use Rattle.entries.specs.Words.{valuesOf, bucketsOf, HeldValues, HeldBuckets};
-ghost use Rattle.value_store.specs.Calls.{push, next, take-out, clear-before, clear, move, said, freshArrays, step, answered};
-ghost use Rattle.store_calls.specs.Lent.{told, foundOf, nextOf};
-ghost use Rattle.value_store.specs.Views.{arraysOf, answerOf, answeredOf, answerFor, arraysIn, checkedRows};
+ghost use Rattle.value_store.specs.Calls.{push, next, take-out, clear-before, clear, move, said, perform as performed, actionOf, argumentsIn, called, freshArrays, isSound, step, answered};
+ghost use Rattle.store_calls.specs.Lent.{storeOf, Lent, foundOf, nextOf};
+ghost use Rattle.value_store.specs.Views.{arraysOf, answerOf, callOf, DidCall, answeredOf, answerFor, arraysIn};
 use entries::BUCKET_WORDS;
 use entries::Bucket;
 use entries::BucketRows;
@@ -18,6 +18,7 @@ use entries::VALUE_WORDS;
 use entries::Value;
 use entries::ValueRows;
 use refusals::Refusal;
+use store_calls::Changed;
 use store_calls::Counts;
 use store_calls::Found;
 use store_calls::Next;
@@ -115,33 +116,22 @@ pub fn store_of(values: &ValueRows, buckets: &BucketRows, held: Counts) -> Store
     }
 }
 
-// ---- the calls
+// ---- the calls on lent rows
 
-// 11, 5, 6, in that order, or done.
-fn check(
-    image: &[u8],
-    values: &ValueRows,
-    buckets: &BucketRows,
-    held: Counts,
-    action: u16,
-    within: bool,
-) -> Outcome
-    ensures { λ r. ⌜ r ≡ told (checkedRows (now (image .entry)) (now (values .entry)) (now (buckets .entry)) held action within) ⌝ }
-{
-    if !table::accepted(image) {
-        return Outcome::Refused(Refusal::StateRule);
-    }
-    let actions = rows::count(image, rows::ACTION);
-    if !store_rules::keeps_rules(values, buckets, held, actions) {
-        return Outcome::Refused(Refusal::StateRule);
-    }
-    if actions <= action {
-        return Outcome::Refused(Refusal::Key);
-    }
-    if within {
-        return Outcome::Done;
-    }
-    Outcome::Refused(Refusal::ArgumentTag)
+// An action, and what the call says of it.
+pub enum Call {
+    Push(u16, GlobalTag, u64),
+    NextMicrostep(u16, u64, u32),
+    Take(u16, GlobalTag),
+    ClearOlderThan(u16, GlobalTag),
+    Clear(u16),
+    MoveValue(u16, GlobalTag, GlobalTag),
+}
+
+// What a call on lent rows answers, and how many of each are held after it.
+pub struct Called {
+    pub answer: Answer,
+    pub held: Counts,
 }
 
 fn answer_of(outcome: Outcome) -> Answer
@@ -151,6 +141,15 @@ fn answer_of(outcome: Outcome) -> Answer
         Outcome::Done => Answer::Done,
         Outcome::Refused(r) => Answer::Refused(r),
     }
+}
+
+fn changed(c: Changed) -> Called
+    ensures { λ r. ⌜ (answerOf (r .answer) ≡ answerFor (c .outcome)) × (r .held ≡ c .held) ⌝ }
+{
+    let outcome = c.outcome;
+    let held = c.held;
+    let answer = answer_of(outcome);
+    Called { answer, held }
 }
 
 fn found_answer(found: Found) -> Answer
@@ -171,10 +170,130 @@ fn next_answer(next: Next) -> Answer
     }
 }
 
+fn offset_within(offset: u64, microstep: u32) -> bool
+    ensures { λ r. ⌜ r ≡ within (at offset microstep) ⌝ }
+{
+    let t = GlobalTag(offset, microstep);
+    t.within()
+}
+
 fn both_within(t: GlobalTag, u: GlobalTag) -> bool
     ensures { λ r. ⌜ r ≡ (within (ofGlobal t) && within (ofGlobal u)) ⌝ }
 {
     if t.within() { u.within() } else { false }
+}
+
+impl Call {
+    fn action(self) -> u16
+        ensures { λ r. ⌜ r ≡ actionOf (callOf self) ⌝ }
+    {
+        match self {
+            Call::Push(action, _, _) => action,
+            Call::NextMicrostep(action, _, _) => action,
+            Call::Take(action, _) => action,
+            Call::ClearOlderThan(action, _) => action,
+            Call::Clear(action) => action,
+            Call::MoveValue(action, _, _) => action,
+        }
+    }
+
+    // The argument tags are within the limits.
+    fn within(self) -> bool
+        ensures { λ r. ⌜ r ≡ argumentsIn (callOf self) ⌝ }
+    {
+        match self {
+            Call::Push(_, tag, _) => tag.within(),
+            Call::NextMicrostep(_, offset, least) => offset_within(offset, least),
+            Call::Take(_, tag) => tag.within(),
+            Call::ClearOlderThan(_, tag) => tag.within(),
+            Call::Clear(_) => true,
+            Call::MoveValue(_, old, new) => both_within(old, new),
+        }
+    }
+}
+
+fn perform(values: &mut ValueRows, buckets: &mut BucketRows, held: Counts, call: Call) -> Called
+    requires { ⌜ Lent (now values) (now buckets) held ⌝ }
+    ensures { λ r. ⌜ DidCall (now (values .entry)) (now (buckets .entry)) held (performed (storeOf (now (values .entry)) (now (buckets .entry)) held) (callOf call)) (now (values .exit)) (now (buckets .exit)) r ⌝ }
+{
+    match call {
+        Call::Push(action, tag, value) => {
+            let c = store_calls::push(values, buckets, held, action, tag, value);
+            changed(c)
+        }
+        Call::NextMicrostep(action, offset, least) => {
+            let n = held.buckets;
+            let next = store_calls::next_microstep(buckets, n, action, offset, least);
+            let answer = next_answer(next);
+            Called { answer, held }
+        }
+        Call::Take(action, tag) => {
+            let t = store_calls::take(values, buckets, held, action, tag);
+            let found = t.found;
+            let left = t.held;
+            let answer = found_answer(found);
+            Called { answer, held: left }
+        }
+        Call::ClearOlderThan(action, tag) => {
+            let left = store_calls::clear_older_than(values, buckets, held, action, tag);
+            Called {
+                answer: Answer::Done,
+                held: left,
+            }
+        }
+        Call::Clear(action) => {
+            let left = store_calls::clear(values, buckets, held, action);
+            Called {
+                answer: Answer::Done,
+                held: left,
+            }
+        }
+        Call::MoveValue(action, old, new) => {
+            let c = store_calls::move_value(values, buckets, held, action, old, new);
+            changed(c)
+        }
+    }
+}
+
+// The call on rows that keep the state rules: 5, 6, then 9.
+pub fn call_rows(
+    image: &[u8],
+    values: &mut ValueRows,
+    buckets: &mut BucketRows,
+    held: Counts,
+    call: Call,
+) -> Called
+    requires { ⌜ Lent (now values) (now buckets) held ⌝ }
+    ensures { λ r. ⌜ DidCall (now (values .entry)) (now (buckets .entry)) held (called (now (image .entry)) (storeOf (now (values .entry)) (now (buckets .entry)) held) (callOf call)) (now (values .exit)) (now (buckets .exit)) r ⌝ }
+{
+    let actions = rows::count(image, rows::ACTION);
+    let action = call.action();
+    if actions <= action {
+        return Called {
+            answer: Answer::Refused(Refusal::Key),
+            held,
+        };
+    }
+    if call.within() {
+        return perform(values, buckets, held, call);
+    }
+    Called {
+        answer: Answer::Refused(Refusal::ArgumentTag),
+        held,
+    }
+}
+
+// ---- the store by value
+
+// The table is accepted and the store keeps the rules: else 11.
+fn is_sound(image: &[u8], values: &ValueRows, buckets: &BucketRows, held: Counts) -> bool
+    ensures { λ r. ⌜ r ≡ isSound (now (image .entry)) (arraysIn (now (values .entry)) (now (buckets .entry)) held) ⌝ }
+{
+    if table::accepted(image) {
+        let actions = rows::count(image, rows::ACTION);
+        return store_rules::keeps_rules(values, buckets, held, actions);
+    }
+    false
 }
 
 impl Store {
@@ -192,9 +311,9 @@ impl Store {
         }
     }
 
-    // Pushing again overwrites; the bucket rises to the largest pushed plus one, held at the limit.
-    pub fn push(self, image: &[u8], action: u16, tag: GlobalTag, value: u64) -> Answered
-        ensures { λ r. ⌜ answeredOf r ≡ answered (arraysOf self) (step (now (image .entry)) (arraysOf self) (push action (ofGlobal tag) value)) ⌝ }
+    // To rows, 11, the call there, and back.
+    fn run(self, image: &[u8], call: Call) -> Answered
+        ensures { λ r. ⌜ answeredOf r ≡ answered (arraysOf self) (step (now (image .entry)) (arraysOf self) (callOf call)) ⌝ }
     {
         let values = self.values;
         let buckets = self.buckets;
@@ -204,181 +323,58 @@ impl Store {
         };
         let mut v = value_rows(values);
         let mut b = bucket_rows(buckets);
-        let within = tag.within();
-        match check(image, &v, &b, held, action, within) {
-            Outcome::Refused(r) => Answered {
-                answer: Answer::Refused(r),
+        if !is_sound(image, &v, &b, held) {
+            return Answered {
+                answer: Answer::Refused(Refusal::StateRule),
                 store: self,
-            },
-            Outcome::Done => {
-                let c = store_calls::push(&mut v, &mut b, held, action, tag, value);
-                let outcome = c.outcome;
-                let left = c.held;
-                let answer = answer_of(outcome);
-                let store = store_of(&v, &b, left);
-                Answered {
-                    answer: answer,
-                    store: store,
-                }
-            }
+            };
         }
+        let c = call_rows(image, &mut v, &mut b, held, call);
+        let answer = c.answer;
+        let left = c.held;
+        let store = store_of(&v, &b, left);
+        Answered { answer, store }
+    }
+
+    // Pushing again overwrites; the bucket rises to the largest pushed plus one, held at the limit.
+    pub fn push(self, image: &[u8], action: u16, tag: GlobalTag, value: u64) -> Answered
+        ensures { λ r. ⌜ answeredOf r ≡ answered (arraysOf self) (step (now (image .entry)) (arraysOf self) (push action (ofGlobal tag) value)) ⌝ }
+    {
+        self.run(image, Call::Push(action, tag, value))
     }
 
     // The larger of the bucket's next microstep and the least, or the least if no bucket; "nothing" at the limit.
     pub fn next_microstep(self, image: &[u8], action: u16, offset: u64, least: u32) -> Answered
         ensures { λ r. ⌜ answeredOf r ≡ answered (arraysOf self) (step (now (image .entry)) (arraysOf self) (next action offset least)) ⌝ }
     {
-        let values = self.values;
-        let buckets = self.buckets;
-        let held = Counts {
-            values: self.held,
-            buckets: self.open,
-        };
-        let v = value_rows(values);
-        let b = bucket_rows(buckets);
-        let t = GlobalTag(offset, least);
-        let within = t.within();
-        match check(image, &v, &b, held, action, within) {
-            Outcome::Refused(r) => Answered {
-                answer: Answer::Refused(r),
-                store: self,
-            },
-            Outcome::Done => {
-                let open = self.open;
-                let answer = next_answer(store_calls::next_microstep(
-                    &b,
-                    open,
-                    action,
-                    offset,
-                    least,
-                ));
-                Answered {
-                    answer: answer,
-                    store: self,
-                }
-            }
-        }
+        self.run(image, Call::NextMicrostep(action, offset, least))
     }
 
     // "Nothing" for a value not held; the bucket stays.
     pub fn take(self, image: &[u8], action: u16, tag: GlobalTag) -> Answered
         ensures { λ r. ⌜ answeredOf r ≡ answered (arraysOf self) (step (now (image .entry)) (arraysOf self) (take-out action (ofGlobal tag))) ⌝ }
     {
-        let values = self.values;
-        let buckets = self.buckets;
-        let held = Counts {
-            values: self.held,
-            buckets: self.open,
-        };
-        let mut v = value_rows(values);
-        let mut b = bucket_rows(buckets);
-        let within = tag.within();
-        match check(image, &v, &b, held, action, within) {
-            Outcome::Refused(r) => Answered {
-                answer: Answer::Refused(r),
-                store: self,
-            },
-            Outcome::Done => {
-                let c = store_calls::take(&mut v, &mut b, held, action, tag);
-                let found = c.found;
-                let left = c.held;
-                let answer = found_answer(found);
-                let store = store_of(&v, &b, left);
-                Answered {
-                    answer: answer,
-                    store: store,
-                }
-            }
-        }
+        self.run(image, Call::Take(action, tag))
     }
 
     // Clearing before a tag.
     pub fn clear_older_than(self, image: &[u8], action: u16, tag: GlobalTag) -> Answered
         ensures { λ r. ⌜ answeredOf r ≡ answered (arraysOf self) (step (now (image .entry)) (arraysOf self) (clear-before action (ofGlobal tag))) ⌝ }
     {
-        let values = self.values;
-        let buckets = self.buckets;
-        let held = Counts {
-            values: self.held,
-            buckets: self.open,
-        };
-        let mut v = value_rows(values);
-        let mut b = bucket_rows(buckets);
-        let within = tag.within();
-        match check(image, &v, &b, held, action, within) {
-            Outcome::Refused(r) => Answered {
-                answer: Answer::Refused(r),
-                store: self,
-            },
-            Outcome::Done => {
-                let left = store_calls::clear_older_than(&mut v, &mut b, held, action, tag);
-                let store = store_of(&v, &b, left);
-                Answered {
-                    answer: Answer::Done,
-                    store: store,
-                }
-            }
-        }
+        self.run(image, Call::ClearOlderThan(action, tag))
     }
 
     // All that the action has.
     pub fn clear(self, image: &[u8], action: u16) -> Answered
         ensures { λ r. ⌜ answeredOf r ≡ answered (arraysOf self) (step (now (image .entry)) (arraysOf self) (clear action)) ⌝ }
     {
-        let values = self.values;
-        let buckets = self.buckets;
-        let held = Counts {
-            values: self.held,
-            buckets: self.open,
-        };
-        let mut v = value_rows(values);
-        let mut b = bucket_rows(buckets);
-        let within = true;
-        match check(image, &v, &b, held, action, within) {
-            Outcome::Refused(r) => Answered {
-                answer: Answer::Refused(r),
-                store: self,
-            },
-            Outcome::Done => {
-                let left = store_calls::clear(&mut v, &mut b, held, action);
-                let store = store_of(&v, &b, left);
-                Answered {
-                    answer: Answer::Done,
-                    store: store,
-                }
-            }
-        }
+        self.run(image, Call::Clear(action))
     }
 
     // A take and then a push; nothing for equal tags or a value not held.
     pub fn move_value(self, image: &[u8], action: u16, old: GlobalTag, new: GlobalTag) -> Answered
         ensures { λ r. ⌜ answeredOf r ≡ answered (arraysOf self) (step (now (image .entry)) (arraysOf self) (move action (ofGlobal old) (ofGlobal new))) ⌝ }
     {
-        let values = self.values;
-        let buckets = self.buckets;
-        let held = Counts {
-            values: self.held,
-            buckets: self.open,
-        };
-        let mut v = value_rows(values);
-        let mut b = bucket_rows(buckets);
-        let within = both_within(old, new);
-        match check(image, &v, &b, held, action, within) {
-            Outcome::Refused(r) => Answered {
-                answer: Answer::Refused(r),
-                store: self,
-            },
-            Outcome::Done => {
-                let c = store_calls::move_value(&mut v, &mut b, held, action, old, new);
-                let outcome = c.outcome;
-                let left = c.held;
-                let answer = answer_of(outcome);
-                let store = store_of(&v, &b, left);
-                Answered {
-                    answer: answer,
-                    store: store,
-                }
-            }
-        }
+        self.run(image, Call::MoveValue(action, old, new))
     }
 }

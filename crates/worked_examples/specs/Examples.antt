@@ -10,7 +10,7 @@ use Rattle.refusals.specs.declared.Refusal.the-variants.{MappedTag}
 use Rattle.tags.specs.Tags as tag
 use Rattle.tags.specs.Tags.{Tag, Clock, at, zeroTag, within, withinClock, sameTag, earlier, delayed, shifted, checked, globalToLocal, localToGlobal}
 use Rattle.store.specs.Store.{Store, emptyStore, isValue, isBucket, isBefore, isThere, isSpent, following, larger, lacks, pushed, nextIn, nextMicrostep, valueIn, taken, clearedBefore, moved}
-use Rattle.value_store.specs.Calls.{Call, push, next, take-out, clear-before, move, Answer, ok, number, nothing-there, no, Outcome, perform}
+use Rattle.value_store.specs.Calls.{Call, push, next, take-out, clear-before, move, Answer, ok, number, nothing-there, Outcome, said-by, perform}
 
 pub data Name : Type 0 where
   m1 : Name
@@ -85,10 +85,6 @@ table =
 
 -- ---- what the definitions answer
 
-abbrev saidBy : Result Refusal Outcome → Answer
-saidBy (done o) = o .answer
-saidBy (refused r) = no r
-
 -- a refused call leaves the store as it is
 abbrev leftBy : Store → Result Refusal Outcome → Store
 leftBy s (done o) = o .store
@@ -96,7 +92,7 @@ leftBy s (refused r) = s
 
 unfoldable pub performed : Store → List Call → List Answer
 performed s [] = []
-performed s (c ∷ cs) = saidBy (perform s c) ∷ performed (leftBy s (perform s c)) cs
+performed s (c ∷ cs) = said-by (perform s c) ∷ performed (leftBy s (perform s c)) cs
 
 abbrev pub answerOf : Asked → Said
 answerOf (to-global c x) = tagged (localToGlobal c x)

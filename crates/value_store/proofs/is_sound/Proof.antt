@@ -1,0 +1,24 @@
+-- `value_store::is_sound` meets its contract: by cases. Assumes nothing.
+use Rattle.value_store.proofs.Laws.{sound-rules, sound-table}
+use borrow.Author.Needs.{needs}
+use Rattle.value_store.proofs.is_sound.Statement.{statement}
+use Rattle.value_store.proofs.is_sound.Tie as tie
+
+accepted-requires : tie.Need-accepted-requires
+accepted-requires c κs = search needs
+
+count-requires : tie.Need-count-requires
+count-requires c κs = search needs
+
+keeps-rules-requires : tie.Need-keeps-rules-requires
+keeps-rules-requires c κs = search needs
+
+returns : tie.Need-returns
+returns c = search sound-rules
+
+returns-2 : tie.Need-returns-2
+returns-2 c = search sound-table
+
+pub is-sound-spec : {M : Type 1} → statement M
+is-sound-spec =
+    tie.close (tie.spec accepted-requires count-requires keeps-rules-requires returns returns-2)
