@@ -1,12 +1,14 @@
 -- A fresh manager's scopes, one by one, and that arrays of these and of nothing hold a fresh state. Assumes nothing.
-use mathlib.Core.Bool.{Bool}
+use mathlib.Core.Bool.{Bool, true}
 use mathlib.Core.Path.{_≡_, refl, ap, _∙_, sym}
 use mathlib.Core.List.{List, [], _∷_, map}
-use Prim.Native.Nat.{ℕ}
-use lib.ListN.{length, replicate}
+use Prim.Native.Nat.{ℕ, _≤_}
+use lib.ListN.{length, take, replicate, length-map}
 use Rattle.lists.specs.Lists.{from}
+use Rattle.lists.specs.Every.{length-from}
 use Rattle.rows.specs.Bytes.{Image}
 use Rattle.rows.specs.Rows.{initialMode}
+use Rattle.table.specs.Check.{isTable}
 use Rattle.tags.specs.Tags.{freshClock}
 use Rattle.schedule.specs.Schedule.{isActive}
 use Rattle.entries.specs.Entries.{mostHeld, blankValue, blankBucket}
@@ -17,9 +19,9 @@ use Rattle.machine.specs.State.{State, fresh, mostWaiting}
 use Rattle.slots.specs.Slots as slot
 use Rattle.scopes.specs.Scopes.{Scope}
 use Rattle.lens.specs.declared.Counts.{Counts}
-use Rattle.lens.specs.Padded.{padded, padded-none}
+use Rattle.lens.specs.Padded.{padded, padded-none, padded-length, padded-take}
 use Rattle.lens.specs.Lens.{Scoped, joined, scopesFrom, mostReactors}
-use Rattle.unpacked.specs.Unpacked.{Unpacked}
+use Rattle.unpacked.specs.Unpacked.{Unpacked, most-reactors}
 
 -- "clocks fresh, allowed if the scope starts active"; what is active counts as active before
 abbrev pub freshScope : Bool → Scope
@@ -65,3 +67,15 @@ fresh-unpacked img modes ss events values buckets m s e v b =
             some-buckets = refl;
           };
     }
+
+-- ---- the modes in use, read back
+
+module _ (img : Image) (t : isTable img ≡ true) (modes : List ℕ) (e : modes ≡ padded 0 mostReactors (freshModes img)) (n : ℕ) (k : n ≡ reactors img) where
+  long : length (freshModes img) ≡ n
+  long = rw (length-map, length-from) (sym k)
+
+  pub modes-room : n ≤ length modes
+  modes-room = rw (e, padded-length, k) (most-reactors img t)
+
+  pub modes-taken : take n modes ≡ freshModes img
+  modes-taken = let p = padded-take 0 mostReactors (freshModes img) (rw (long, k) (most-reactors img t)) in rw e (rw long at p)

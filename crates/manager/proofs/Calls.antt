@@ -47,7 +47,7 @@ use Rattle.manager.proofs.Front.{front-view}
 use Rattle.pops.specs.declared.Peeked.{Peeked}
 use Rattle.pops.specs.declared.Peeked.the-variants as T
 use Rattle.pops.proofs.AsMachine as pops
-use Rattle.manager.specs.Arrays.{Arrays, Answered, answered, asks, ended, endedWith, packed, viewOf, isSound, stepOn, Shown, shownReady, noReady, Popped, popped}
+use Rattle.manager.specs.Arrays.{Arrays, Answered, answered, asks, ended, endedBy, packed, viewOf, isSound, stepOn, Shown, shownReady, noReady, Popped, popped}
 use Rattle.manager.specs.Views.{arraysIn, withEvents, pushedAs, pushedIn, someWork, Unpacks, readyIn, readyFrom, poppedIn}
 use Rattle.manager.specs.declared.Unpacked.{Unpacked}
 use Rattle.manager.proofs.Packs.{rowState, state-is, table-of-sound, waits, queue-packs}
@@ -192,9 +192,9 @@ module _ (img : Image) (a : Arrays) {b : Bool} (eb : b ≡ isSound img a) where
           packs-is : arraysIn (withEvents u ws (p .counts)) ≡ packed after
           packs-is = queue-packs img a u x sound (k .waiting) (k .work) ws (p .counts) (d .queued) ∙ ap (λ (s : State). packed (withQueue s (k .waiting) (k .work))) (sym (state-is img a u x))
 
-          go : (o : code.Outcome) → P.replyOf o ≡ k .reply → pushedAs a u ws (p .counts) o ≡ endedWith a after (k .reply)
-          go O.Done r = ap (answered M.ok) packs-is ∙ ap (endedWith a after) r
-          go (O.Refused m) r = ap (endedWith a after) r
+          go : (o : code.Outcome) → P.replyOf o ≡ k .reply → pushedAs a u ws (p .counts) o ≡ endedBy a false (packed after) (k .reply)
+          go O.Done r = ap (answered M.ok) packs-is ∙ ap (endedBy a false (packed after)) r
+          go (O.Refused m) r = ap (endedBy a false (packed after)) r
 
       module _ {r : Answered} (p : Pushed) (ws : List ℕ) (er : r ≡ pushedIn a u ws p) where
         pub call-plain : (t : Tag) (terminal : Bool) (ks : List ℕ) → Pushes (pushOf es (u .counts .work) (rootMade (keysOk img ks) t (setOf ks) terminal false false)) p ws
@@ -239,6 +239,6 @@ module _ (img : Image) (a : Arrays) {b : Bool} (eb : b ≡ isSound img a) where
           ready-from = ap (λ (t : Tag). readyAt t (gatheringOf (p .gathered) keys)) (d .tag) ∙ ready-is (k .tag) (k .took .events) (gatheringOf (p .gathered) keys) (d .takes .gathered)
 
           go : (b : Bool) {m : Arrays} → m ≡ packed after →
-              answered (cond b (M.ready (readyOf (k .tag) (k .took .events))) M.nothing) m ≡ endedWith a after (cond b (M.ready (readyOf (k .tag) (k .took .events))) M.nothing)
+              answered (cond b (M.ready (readyOf (k .tag) (k .took .events))) M.nothing) m ≡ endedBy a false (packed after) (cond b (M.ready (readyOf (k .tag) (k .took .events))) M.nothing)
           go true e = rw e
           go false e = rw e

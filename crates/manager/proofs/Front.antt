@@ -2,22 +2,18 @@
 use mathlib.Core.Bool.{Bool, false}
 use mathlib.Core.Path.{_≡_, refl, ap, _∙_, sym}
 use mathlib.Core.Logic.{_⊎_, ⊎-elim}
-use mathlib.Core.List.{List, [], _∷_, _++_, map, map-append}
-use Prim.Native.Nat.{ℕ, zero, suc, _+_, _*_, _≤_, _<_, min}
+use mathlib.Core.List.{List, map}
+use Prim.Native.Nat.{ℕ, _+_, _≤_, _<_, min}
 use native.Mathlib.Nat.{min-eq-left, min-eq-right, min-le-right}
 use native.Mathlib.Numerals.{add-one}
 use native.Mathlib.Omega.{arith}
 use lib.ListN.{length, take, getD, set, replicate, length-take, length-map, List·getD-map}
 use lib.Seq.{take-suc, take-suc-set, take-all}
 use Rattle.lists.specs.Tests.{below?}
-use Rattle.lists.specs.Lists.{from}
-use Rattle.lists.specs.Every.{length-from}
 use Rattle.lists.specs.Rows.{map-set}
 use Rattle.lists.specs.Steps.{read-in}
-use Rattle.lists.specs.Held.{thingsOf, things-length, zero-things, Whole, Held}
-use Rattle.entries.specs.Entries.{Value, Bucket, mostHeld, blankValue, blankBucket}
-use Rattle.entries.specs.Words.{HeldValues, HeldBuckets, zero-values, zero-buckets, decodeValue, encodeValue, valueWords, long-value, decodeBucket, encodeBucket, bucketWords, long-bucket}
-use Rattle.tags.specs.Tags.{Clock, freshClock}
+use Rattle.lists.specs.Held.{thingsOf, things-length, Held}
+use Rattle.tags.specs.Tags.{freshClock}
 use Rattle.tags.specs.Views.{ofClock}
 use Rattle.tags.specs.declared.ScopeClock.{ScopeClock}
 use Rattle.scopes.specs.declared.Scope as code
@@ -162,19 +158,6 @@ scopes-length ws = things-length scope.decode scope.encode scope.scopeWords most
 pub end-few : (n N : ℕ) {e : ℕ} → e ≡ min n N → e ≤ N
 end-few n N q = rw q (min-le-right n N)
 
--- rows of zeros are blank
-pub values-none : (l : List Value) → HeldValues (replicate (mostHeld * valueWords) 0) (padded blankValue mostHeld (take 0 l))
-unfolding decodeValue encodeValue
-values-none l =
-    rows-none decodeValue encodeValue valueWords mostHeld long-value blankValue l (replicate (mostHeld * valueWords) 0)
-    (record { whole = zero-values; things = zero-things decodeValue encodeValue valueWords mostHeld long-value blankValue refl refl (mostHeld * valueWords) })
-
-pub buckets-none : (l : List Bucket) → HeldBuckets (replicate (mostHeld * bucketWords) 0) (padded blankBucket mostHeld (take 0 l))
-unfolding decodeBucket encodeBucket
-buckets-none l =
-    rows-none decodeBucket encodeBucket bucketWords mostHeld long-bucket blankBucket l (replicate (mostHeld * bucketWords) 0)
-    (record { whole = zero-buckets; things = zero-things decodeBucket encodeBucket bucketWords mostHeld long-bucket blankBucket refl refl (mostHeld * bucketWords) })
-
 -- numbers
 module _ (N : ℕ) (l : List ℕ) (full : length l ≡ N) where
   pub numbers-none : replicate N 0 ≡ padded 0 N (take 0 l)
@@ -224,35 +207,3 @@ module _ (ws : List ℕ) (i : ℕ) (h : mostScopes ≤ i) where
 
   pub ever-all : (out : List Bool) → length out ≡ mostScopes → take i out ≡ take i (map (λ x. x .ever) (scopesOf ws)) → out ≡ map (λ x. x .ever) (scopesOf ws)
   ever-all out n t = part-all (λ x. x .ever) out n t
-
--- ---- a fresh manager's
-
-from-last : (n j : ℕ) → from j (suc n) ≡ from j n ++ ((j + n) ∷ [])
-unfolding from
-from-last zero j = let e : j + 0 ≡ j = omega arith in rw e
-from-last (suc n) j = let e : suc j + n ≡ j + suc n = omega arith in ap (j ∷_) (rw e at (from-last n (suc j)))
-
-module _ {A : Type 0} (f : ℕ → A) (b : A) (N : ℕ) where
-  pub first-none : replicate N b ≡ padded b N (map f (from 0 0))
-  unfolding from
-  first-none = sym (padded-none b N)
-
-  pub first-next : (i : ℕ) (out : List A) {x : A} → out ≡ padded b N (map f (from 0 i)) → x ≡ f i → set out i x ≡ padded b N (map f (from 0 (i + 1)))
-  first-next i out e q =
-      let n : length (map f (from 0 i)) ≡ i = length-map (from 0 i) f ∙ length-from 0 i in
-      let m : set (padded b N (map f (from 0 i))) (length (map f (from 0 i))) (f i) ≡ padded b N (map f (from 0 i) ++ (f i ∷ [])) = padded-more b N (map f (from 0 i)) (f i) in
-      let z : 0 + i ≡ i = omega arith in
-      let l : from 0 (suc i) ≡ from 0 i ++ (i ∷ []) = rw z at (from-last i 0) in
-      rw (add-one, l, map-append, e, q) (rw n at m)
-
-  pub first-all : (i n : ℕ) (out : List A) → i ≤ n → n ≤ i → out ≡ padded b N (map f (from 0 i)) → out ≡ padded b N (map f (from 0 n))
-  first-all i n out u v e = let s : i ≡ n = omega arith in rw s at e
-
-module _ (active : List Bool) (out : List ScopeClock) (k : length active ≡ mostScopes) (n : length out ≡ mostScopes) (i : ℕ) (t : take i (map ofClock out) ≡ take i (map freshClock active)) where
-  pub fresh-next : (x : ScopeClock) → i < mostScopes → ofClock x ≡ freshClock (getD active i false) → take (i + 1) (map ofClock (set out i x)) ≡ take (i + 1) (map freshClock active)
-  fresh-next x h e =
-      rw (map-set ofClock out i x)
-      (copy-next (map freshClock active) (map ofClock out) i (ofClock x) (freshClock false) (rw (length-map, k) h) (length-map out ofClock ∙ (n ∙ sym (length-map active freshClock ∙ k))) t (e ∙ sym (List·getD-map freshClock active i false)))
-
-  pub fresh-all : mostScopes ≤ i → map ofClock out ≡ map freshClock active
-  fresh-all h = copy-all (map freshClock active) (map ofClock out) i (length-map out ofClock ∙ (n ∙ sym (length-map active freshClock ∙ k))) (rw (length-map, k) h) t

@@ -3,3 +3,4 @@ pub mod Packs
 pub mod Calls
 pub mod Runs
 pub mod Transits
+pub mod Values

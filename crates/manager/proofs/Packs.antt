@@ -1,47 +1,41 @@
 -- The manager as rows and back: the state in them, its rules, and the state that is packed again. Assumes nothing.
-use mathlib.Core.Bool.{Bool, true, false, not, _&&_}
+use mathlib.Core.Bool.{Bool, true, false, _&&_}
 use mathlib.Core.Path.{_≡_, refl, ap, _∙_, sym}
 use mathlib.Core.List.{List, [], _∷_, map}
 use Prim.Native.Nat.{ℕ, zero, suc, _≤_, min}
 use native.Mathlib.Nat.{min-eq-left}
-use native.Mathlib.Omega.{arith}
 use lib.Dec.{leb}
 use lib.ListN.{length, take, replicate, length-take, length-map}
-use borrow.Author.Tests.{leb-true, eqb-true}
+use borrow.Author.Tests.{leb-true}
 use Rattle.lists.specs.Tests.{and-left, and-right}
-use Rattle.lists.specs.Lists.{count, from}
 use Rattle.rows.specs.Bytes.{Image}
 use Rattle.table.specs.Check.{isTable}
 use Rattle.tags.specs.Views.{ofClock}
 use Rattle.tags.specs.Tags.{Clock, freshClock}
 use Rattle.entries.specs.Entries.{mostHeld, blankValue, blankBucket, ofValue, ofBucket}
 use Rattle.entries.specs.Words.{valuesOf, bucketsOf, HeldValues, HeldBuckets}
-use Rattle.store.specs.Store.{storeRules, emptyStore}
+use Rattle.store.specs.Store.{emptyStore}
 use Rattle.store_calls.specs.Lent.{storeOf}
 use Rattle.store_rules.proofs.Kept.{Kept, rules-kept}
 use Rattle.machine.specs.Table.{scopes, reactors, actions}
-use Rattle.machine.specs.State.{Event, State, mostWaiting, ordinary, withQueue, fresh}
+use Rattle.machine.specs.State.{Event, State, mostWaiting, withQueue, fresh}
 use Rattle.machine.specs.Machine.{rules}
-use Rattle.kept.specs.Kept.{rules-tell}
+use Rattle.kept.specs.Kept.{rules-tell, fresh-rules}
+use Rattle.fresh.specs.Fresh.{freshModes, freshScopes, noEvents, noValues, scopes-fresh, modes-room, modes-taken}
 use Rattle.kept.specs.Steps.{Ruled}
 use Rattle.slots.specs.Slots as slot
 use Rattle.slots.specs.Slots.{eventOf, eventsOf}
 use Rattle.scopes.specs.Scopes as scope
-use Rattle.scopes.specs.Scopes.{Scope, mostScopes, scopesOf}
+use Rattle.scopes.specs.Scopes.{mostScopes, scopesOf}
 use Rattle.lens.specs.declared.Counts.{Counts}
-use Rattle.lens.specs.Padded.{padded, padded-none, padded-length, padded-take, padded-map}
-use Rattle.lens.specs.Lens.{Queued, Waits, Stored, Fits, joined, joined-length, scopesFrom, stateIn, Scoped, Even, clocks-of, active-of, ever-of, mostReactors}
+use Rattle.lens.specs.Padded.{padded, padded-none, padded-take, padded-map}
+use Rattle.lens.specs.Lens.{Queued, Waits, joined, joined-length, scopesFrom, stateIn, Scoped, Even, clocks-of, active-of, ever-of, mostReactors}
 use Rattle.unpacked.specs.Unpacked as rows
 use Rattle.state_rules.specs.Sound.{sound}
 use Rattle.manager.specs.Arrays.{Arrays, viewOf, packed, isSound, noState, bareOf, freshOver}
-use Rattle.value_store.specs.Calls as store
-use Rattle.slots.specs.declared.Slot.{Slot}
 use Rattle.table.specs.Check.{check}
 use Rattle.table.specs.declared.Checked.{Checked}
 use Rattle.table.specs.declared.Checked.the-variants.{Accepted, Refused}
-use Rattle.rows.specs.Rows.{initialMode}
-use Rattle.schedule.specs.Schedule.{isActive}
-use Rattle.lists.specs.Every.{length-from}
 use Rattle.state_rules.proofs.Rules.{scopes-few, reactors-few}
 use Rattle.manager.specs.Views.{arraysOf, arraysIn, Holds, Full, Unpacks}
 use Rattle.manager.specs.declared.Manager.{Manager}
@@ -238,69 +232,61 @@ module _ (img : Image) (a : Arrays) (u : Unpacked) (x : Unpacks img a u) where
 
 -- ---- a fresh manager
 
-map-blank : {A B : Type 0} (f : A → B) (n : ℕ) (a : A) → map f (replicate n a) ≡ replicate n (f a)
-map-blank f zero a = refl
-map-blank f (suc n) a = ap (f a ∷_) (map-blank f n a)
+pub bare-is : (modes ss es vs bs : List ℕ) {m : Arrays} → slot.Held es (replicate mostWaiting slot.blank) → HeldValues vs (replicate mostHeld blankValue) → HeldBuckets bs (replicate mostHeld blankBucket) →
+    m ≡ arraysIn (record { modes = modes; scopes = ss; events = es; values = vs; buckets = bs; counts = noEvents; held = noValues }) → m ≡ bareOf modes (scopesOf ss)
+bare-is modes ss es vs bs e v b q = q ∙ rw (e .things, v .things, b .things)
 
-pub bare-is : {ks : List Clock} (active : List Bool) (modes : List ℕ) (blank : Slot) {st : store.Arrays} → ks ≡ map freshClock active → eventOf blank ≡ slot.blank → st ≡ store.freshArrays →
-    record { clocks = ks; active = active; ever = active; modes = modes; slots = map eventOf (replicate mostWaiting blank); waiting = 0; work = 0; store = st } ≡ bareOf (map freshClock active) active modes
-bare-is active modes blank ek eb es = rw (ek, es, map-blank eventOf mostWaiting blank, eb)
-
-bare-packs : (s : State) {active : List Bool} {modes : List ℕ} → s .clocks ≡ map freshClock (s .active) → s .ever ≡ s .active → s .waiting ≡ [] → s .work ≡ 0 → s .store ≡ emptyStore →
-    active ≡ padded false mostScopes (s .active) → modes ≡ padded 0 mostReactors (s .modes) → bareOf (map freshClock active) active modes ≡ packed s
-bare-packs s c e w o t ea em =
+-- nothing waits in this state
+bare-packs : (s : State) (k : ℕ) {modes ss : List ℕ} → Even k (s .clocks) (s .active) (s .ever) → s .waiting ≡ [] → s .work ≡ 0 → s .store ≡ emptyStore →
+    modes ≡ padded 0 mostReactors (s .modes) → Scoped (scopesFrom s) ss → bareOf modes (scopesOf ss) ≡ packed s
+bare-packs s k e w o t em es =
     rw (
-      ea,
+      es .things,
+      padded-map (λ x. x .clock) scope.blank mostScopes (scopesFrom s),
+      padded-map (λ x. x .active) scope.blank mostScopes (scopesFrom s),
+      padded-map (λ x. x .ever) scope.blank mostScopes (scopesFrom s),
+      clocks-of k (s .clocks) (s .active) (s .ever) e,
+      active-of k (s .clocks) (s .active) (s .ever) e,
+      ever-of k (s .clocks) (s .active) (s .ever) e,
       em,
-      c,
-      e,
       w,
       o,
       t,
-      padded-map freshClock false mostScopes (s .active),
       padded-none slot.blank mostWaiting,
       padded-none blankValue mostHeld,
       padded-none blankBucket mostHeld,
     )
 
-module _ (img : Image) {k : Checked} (ek : k ≡ check img) (y : k ≡ Accepted) where
-  table-yes : isTable img ≡ true
-  unfolding isTable
-  table-yes = let c : check img ≡ Accepted = sym ek ∙ y in rw c
+module _ (img : Image) {k : Checked} (ek : k ≡ check img) where
+  module _ (y : k ≡ Accepted) where
+    pub fresh-table : isTable img ≡ true
+    unfolding isTable
+    fresh-table = let c : check img ≡ Accepted = sym ek ∙ y in rw c
 
-  pub fresh-scopes : {n : ℕ} → n ≡ scopes img → n ≤ mostScopes
-  fresh-scopes e = rw e (scopes-few img table-yes)
+    module _ {modes : List ℕ} {n : ℕ} (em : modes ≡ padded 0 mostReactors (freshModes img)) (en : n ≡ reactors img) where
+      pub fresh-prefix : n ≤ length modes
+      fresh-prefix = modes-room img fresh-table modes em n en
 
-  pub fresh-reactors : {r : ℕ} → r ≡ reactors img → r ≤ mostReactors
-  fresh-reactors e = rw e (reactors-few img table-yes)
+      pub fresh-own : n ≡ length (take n modes)
+      fresh-own = let f = fresh-prefix in sym (length-take n modes ∙ min-eq-left f)
 
-  module _ (l : List ℕ) {r : ℕ} {modes : List ℕ} (e : r ≡ reactors img) (m : modes ≡ padded 0 mostReactors l) where
-    pub fresh-prefix : r ≤ length modes
-    fresh-prefix = rw (m, padded-length {A = ℕ} 0 mostReactors l) (fresh-reactors e)
+      pub fresh-packs : {ss : List ℕ} {m : Arrays} → Scoped (freshScopes img (take n modes)) ss → m ≡ bareOf modes (scopesOf ss) → m ≡ freshOver img
+      unfolding freshOver fresh
+      fresh-packs s q =
+          let t = fresh-table in
+          rw t
+          (q ∙
+          bare-packs (fresh img) (scopes img) (rows.even img (fresh img) (fresh-rules img t)) refl refl refl em
+          (rw (scopes-fresh img, ← (modes-taken img t modes em n en)) s))
 
-    pub fresh-own : r ≡ length (take r modes)
-    fresh-own = let f = fresh-prefix in sym (length-take r modes ∙ min-eq-left f)
-
-module _ (img : Image) where
-  pub fresh-packs : {k : Checked} {n r : ℕ} {active : List Bool} {modes own : List ℕ} {m : Arrays} → k ≡ check img → k ≡ Accepted → n ≡ scopes img → r ≡ reactors img →
-      modes ≡ padded 0 mostReactors (map (initialMode img) (from 0 r)) → own ≡ take r modes → active ≡ padded false mostScopes (map (isActive img own) (from 0 n)) →
-      m ≡ bareOf (map freshClock active) active modes → m ≡ freshOver img
-  unfolding freshOver isTable fresh
-  fresh-packs {k} {n} {r} {active} {modes} {own} {m} ek y en er em eo ea q =
-      let c : check img ≡ Accepted = sym ek ∙ y in
-      let t : isTable img ≡ true = rw c in
-      let len : length (map (initialMode img) (from 0 r)) ≡ r = length-map (from 0 r) (initialMode img) ∙ length-from 0 r in
-      let few : r ≤ mostReactors = rw er (reactors-few img t) in
-      let p : take (length (map (initialMode img) (from 0 r))) (padded {A = ℕ} 0 mostReactors (map (initialMode img) (from 0 r))) ≡ map (initialMode img) (from 0 r)
-      = padded-take {A = ℕ} 0 mostReactors (map (initialMode img) (from 0 r)) (rw len few) in
-      let o : own ≡ map (initialMode img) (from 0 (reactors img)) = eo ∙ (ap (take r) em ∙ ((rw len at p) ∙ ap (λ (j : ℕ). map (initialMode img) (from 0 j)) er)) in
-      rw c (q ∙ bare-packs (fresh img) refl refl refl refl refl (ea ∙ rw (o, en)) (em ∙ ap (λ (j : ℕ). padded {A = ℕ} 0 mostReactors (map (initialMode img) (from 0 j))) er))
-
-  pub blank-packs : {k : Checked} {x : _} {m : Arrays} → k ≡ check img → k ≡ Refused x → m ≡ bareOf (map freshClock (replicate mostScopes false)) (replicate mostScopes false) (replicate mostReactors 0) → m ≡ freshOver img
-  unfolding freshOver isTable
-  blank-packs ek y q =
+  pub blank-packs : {x : _} {ss : List ℕ} {m : Arrays} → k ≡ Refused x → scope.Held ss (replicate mostScopes scope.blank) → m ≡ bareOf (replicate mostReactors 0) (scopesOf ss) → m ≡ freshOver img
+  unfolding freshOver isTable joined
+  blank-packs y h q =
       let c : check img ≡ Refused _ = sym ek ∙ y in
-      rw c (q ∙ bare-packs noState refl refl refl refl refl (sym (padded-none false mostScopes)) (sym (padded-none {A = ℕ} 0 mostReactors)))
+      rw c
+      (q ∙
+      bare-packs noState 0 (record { clocks = refl; active = refl; ever = refl }) refl refl refl (sym (padded-none {A = ℕ} 0 mostReactors))
+      (record { whole = h .whole; things = h .things ∙ sym (padded-none scope.blank mostScopes) }))
 
 -- ---- what is packed is read again
 

@@ -28,7 +28,7 @@ use Rattle.machine.specs.Machine.{Call, Reply, Outcome, settleWith, asked, popA
 use Rattle.kept.specs.Kept.{rules-tell, rules-pass, step-performs, step-keeps, fresh-rules}
 use Rattle.kept.specs.Steps.{Ruled}
 use Rattle.state_rules.specs.Sound.{sound}
-use Rattle.manager.specs.Arrays.{Arrays, asks, ended, endedWith, packed, viewOf, isSound, stepOn, runOn, freshOver}
+use Rattle.manager.specs.Arrays.{Arrays, asks, ended, packed, viewOf, isSound, stepOn, runOn, freshOver}
 use Rattle.manager.proofs.Packs.{view-packed, table-of-sound, rules-of-sound}
 
 -- ---- a refusal returns the state as given, and so does a question
@@ -130,16 +130,6 @@ module _ (img : Image) (a : Arrays) (c : Call) (s : isSound img a ≡ true) wher
   ended-view false e (M.flag b) q = rw q left-view
   ended-view false e (M.number n) q = rw q left-view
 
-  ended-reply : (b : Bool) (r : Reply) → o .reply ≡ r → ended a b o .reply ≡ o .reply
-  ended-reply true r q = refl
-  ended-reply false (M.refusal n) q = rw q
-  ended-reply false M.ok q = rw q
-  ended-reply false M.nothing q = rw q
-  ended-reply false (M.ready r) q = rw q
-  ended-reply false (M.tag t) q = rw q
-  ended-reply false (M.flag b) q = rw q
-  ended-reply false (M.number n) q = rw q
-
   step-is : stepOn img a c ≡ ended a (asks c) o
   unfolding stepOn o
   step-is = rw s
@@ -147,7 +137,7 @@ module _ (img : Image) (a : Arrays) (c : Call) (s : isSound img a ≡ true) wher
   -- the machine's answer, and the machine's state in what is handed back
   pub step-reply : stepOn img a c .reply ≡ step img (viewOf img a) c .reply
   unfolding o
-  step-reply = ap (λ x. x .reply) step-is ∙ (ended-reply (asks c) (o .reply) refl ∙ ap (λ (x : Outcome). x .reply) (sym (step-performs img (viewOf img a) c (rules-of-sound img a s))))
+  step-reply = ap (λ x. x .reply) step-is ∙ ap (λ (x : Outcome). x .reply) (sym (step-performs img (viewOf img a) c (rules-of-sound img a s)))
 
   pub step-view : viewOf img (stepOn img a c .manager) ≡ step img (viewOf img a) c .state
   unfolding o

@@ -21,7 +21,7 @@ use Rattle.plan.specs.Lent.{Good, rows-good}
 use Rattle.plan.specs.declared.Request.{Request}
 use Rattle.transition.specs.Transiting.{callOf, replyOf, Applied}
 use Rattle.transition.specs.declared.Transited.{Transited}
-use Rattle.manager.specs.Arrays.{Arrays, Answered, answered, endedWith, packed, viewOf, isSound, stepOn}
+use Rattle.manager.specs.Arrays.{Arrays, Answered, answered, endedBy, packed, viewOf, isSound, stepOn}
 use Rattle.manager.specs.Views.{arraysIn, transitedIn, Unpacks}
 use Rattle.manager.specs.declared.Unpacked.{Unpacked}
 use Rattle.manager.proofs.Packs.{rules-of-sound, table-of-sound, unpacked, unpacked-packs}
@@ -67,9 +67,9 @@ module _ (img : Image) (a : Arrays) {b : Bool} (eb : b ≡ isSound img a) (y : n
     packs-is : Applied o t xs ws vs bs → arraysIn (rowsAfter t xs ws vs bs) ≡ packed (o .state)
     packs-is d = unpacked-packs (o .state) (rowsAfter t xs ws vs bs) (scopes img) (rows.even img (o .state) rules-after) (d .unpacked)
 
-    ends : Applied o t xs ws vs bs → (k : done.Outcome) → replyOf k ≡ o .reply → transitedIn a (rowsAfter t xs ws vs bs) k ≡ endedWith a (o .state) (o .reply)
-    ends d D.Done e = ap (answered M.ok) (packs-is d) ∙ ap (endedWith a (o .state)) e
-    ends d (D.Refused n) e = ap (endedWith a (o .state)) e
+    ends : Applied o t xs ws vs bs → (k : done.Outcome) → replyOf k ≡ o .reply → transitedIn a (rowsAfter t xs ws vs bs) k ≡ endedBy a false (packed (o .state)) (o .reply)
+    ends d D.Done e = ap (answered M.ok) (packs-is d) ∙ ap (endedBy a false (packed (o .state))) e
+    ends d (D.Refused n) e = ap (endedBy a false (packed (o .state))) e
 
     pub call-transit : {r : Answered} → ((s : State) → rules img s ≡ true →
         rows.Unpacked s (u .modes) (u .scopes) (u .events) (u .values) (u .buckets) (u .counts) (u .held) → Applied (perform img s (callOf q)) t xs ws vs bs)

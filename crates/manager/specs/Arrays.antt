@@ -1,7 +1,7 @@
 -- The manager as arrays, the plain machine's state in them, and one call on what is handed in. Assumes nothing.
 use Prim.Native.Nat.{ℕ}
-use mathlib.Core.Bool.{Bool, true, false, cond}
-use mathlib.Core.List.{List, [], _∷_}
+use mathlib.Core.Bool.{Bool, true, false, cond, _||_}
+use mathlib.Core.List.{List, [], _∷_, map}
 use lib.ListN.{length, take, replicate}
 use Rattle.refusals.specs.declared.Refusal.the-variants as R
 use Rattle.rows.specs.Bytes.{Image}
@@ -18,7 +18,7 @@ use Rattle.machine.specs.Heads.{Ready}
 use Rattle.machine.specs.Machine as M
 use Rattle.machine.specs.Machine.{Call, Reply, Outcome, refusal, perform}
 use Rattle.slots.specs.Slots.{blank}
-use Rattle.scopes.specs.Scopes.{mostScopes}
+use Rattle.scopes.specs.Scopes.{Scope, mostScopes}
 use Rattle.lens.specs.Padded.{padded}
 use Rattle.state_rules.specs.Sound.{sound}
 use Rattle.lens.specs.Lens.{mostReactors}
@@ -74,13 +74,13 @@ packed s =
 abbrev pub noState : State
 noState = record { modes = []; clocks = []; active = []; ever = []; waiting = []; work = 0; store = emptyStore }
 
--- nothing waits or is held
-abbrev pub bareOf : List Clock → List Bool → List ℕ → Arrays
-bareOf clocks active modes =
+-- these modes and scopes, and nothing waits or is held
+abbrev pub bareOf : List ℕ → List Scope → Arrays
+bareOf modes ss =
     record {
-      clocks = clocks;
-      active = active;
-      ever = active;
+      clocks = map (λ x. x .clock) ss;
+      active = map (λ x. x .active) ss;
+      ever = map (λ x. x .ever) ss;
       modes = modes;
       slots = replicate mostWaiting blank;
       waiting = 0;
@@ -125,20 +125,22 @@ asks (M.clearBefore a t) = false
 asks (M.moveValue a t u) = false
 asks (M.clearAction a) = false
 
--- "A refusal returns its number and the state as given."
-abbrev pub endedWith : Arrays → State → Reply → Answered
-endedWith a s (M.refusal n) = answered (M.refusal n) a
-endedWith a s M.ok = answered M.ok (packed s)
-endedWith a s M.nothing = answered M.nothing (packed s)
-endedWith a s (M.ready r) = answered (M.ready r) (packed s)
-endedWith a s (M.tag t) = answered (M.tag t) (packed s)
-endedWith a s (M.flag b) = answered (M.flag b) (packed s)
-endedWith a s (M.number n) = answered (M.number n) (packed s)
+abbrev pub isRefusal : Reply → Bool
+isRefusal (M.refusal n) = true
+isRefusal M.ok = false
+isRefusal M.nothing = false
+isRefusal (M.ready r) = false
+isRefusal (M.tag t) = false
+isRefusal (M.flag b) = false
+isRefusal (M.number n) = false
 
--- what a call leaves: the manager as it was handed in where it only asks or is refused, else the machine's new state
+-- "A refusal returns its number and the state as given": the manager as it was handed in where a call only asks or is refused, else the one after it
+abbrev pub endedBy : Arrays → Bool → Arrays → Reply → Answered
+endedBy a asking b r = answered r (cond (asking || isRefusal r) a b)
+
+-- the one after it has the machine's new state
 abbrev pub ended : Arrays → Bool → Outcome → Answered
-ended a true o = answered (o .reply) a
-ended a false o = endedWith a (o .state) (o .reply)
+ended a asking o = endedBy a asking (packed (o .state)) (o .reply)
 
 -- 11 before all else, then the plain machine's answer
 unfoldable pub stepOn : Image → Arrays → Call → Answered

@@ -13,6 +13,7 @@ use Rattle.store_calls.specs.declared.Counts as store
 use Rattle.store_calls.specs.Lent.{storeOf}
 use Rattle.store_calls.specs.declared.Outcome as done
 use Rattle.store_calls.specs.declared.Outcome.the-variants as D
+use Rattle.value_store.specs.Calls as C
 use Rattle.value_store.specs.Views as stores
 use Rattle.machine.specs.State.{State, mostWaiting}
 use Rattle.slots.specs.Slots as slot
@@ -99,6 +100,26 @@ pub record Unpacks (img : Image) (a : Arrays) (u : Unpacked) : Type 0 where
 -- the rows with other events
 abbrev pub withEvents : Unpacked → List ℕ → Counts → Unpacked
 withEvents u ws c = record { modes = u .modes; scopes = u .scopes; events = ws; values = u .values; buckets = u .buckets; counts = c; held = u .held }
+
+-- the rows with other values
+abbrev pub withValues : Unpacked → List ℕ → List ℕ → store.Counts → Unpacked
+withValues u vs bs h = record { modes = u .modes; scopes = u .scopes; events = u .events; values = vs; buckets = bs; counts = u .counts; held = h }
+
+-- ---- the calls of the value store among the machine's, and their answers
+
+abbrev pub valueCall : C.Call → M.Call
+valueCall (C.push a t v) = M.pushValue a t v
+valueCall (C.next a o m) = M.nextStep a o m
+valueCall (C.take-out a t) = M.takeValue a t
+valueCall (C.clear-before a t) = M.clearBefore a t
+valueCall (C.clear a) = M.clearAction a
+valueCall (C.move a t u) = M.moveValue a t u
+
+abbrev pub valueReply : C.Answer → Reply
+valueReply C.ok = M.ok
+valueReply (C.number n) = M.number n
+valueReply C.nothing-there = M.nothing
+valueReply (C.no r) = M.refusal r
 
 -- ---- answers
 

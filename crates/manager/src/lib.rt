@@ -1,10 +1,17 @@
 // The event manager by value: document 01, "The plain machine", "State rules" and "Numbers of refusal".
 // Each call goes to rows, tests the state rules, works there, and comes back; the run of a day works on the rows themselves.
+// Every call of the plain machine (`machine`, Machine: `Call`) has its method:
+//   plain         push_event                 onlyControl    peek_is_control_only      nextStep       next_value_microstep
+//   network       push_network_event         ordinaryWork   nonterminal_work          takeValue      take_value
+//   control       push_control_event         (some work)    has_nonterminal_work      clearBefore    clear_values_older_than
+//   action        push_action_event          activeNow      scope_active              moveValue      move_value
+//   transit       apply_transition           everActive     scope_ever_active         clearAction    clear_values
+//   pop           pop_next_event             pushValue      push_value
+//   peekTag       peek_tag
 ghost use mathlib.Core.Path.{_≡_};
 ghost use mathlib.Core.List.{map};
 ghost use Prim.Native.Nat.{_≤_, min};
 ghost use lib.ListN.{length, take};
-ghost use Rattle.rows.specs.Kinds.{scope as scopeKind, reactor as reactorKind, count};
 ghost use Rattle.tags.specs.Views.{ofClock};
 ghost use Rattle.entries.specs.Entries.{mostHeld, blankValue, blankBucket, ofValue, ofBucket};
 ghost use Rattle.entries.specs.Words.{HeldValues, HeldBuckets};
@@ -14,22 +21,16 @@ ghost use Rattle.scopes.specs.Scopes.{mostScopes, scopesOf};
 ghost use Rattle.machine.specs.State.{mostWaiting};
 ghost use Rattle.lens.specs.Padded.{padded};
 ghost use Rattle.lens.specs.Lens.{joined, Scoped, mostReactors};
-ghost use Rattle.manager.specs.Arrays.{isSound, stepOn, shownReady, noReady, popped, bareOf, freshOver};
-ghost use mathlib.Core.Bool.{false};
-ghost use Rattle.lists.specs.Lists.{from};
-ghost use Rattle.rows.specs.Rows.{initialMode};
-ghost use Rattle.schedule.specs.Schedule.{isActive};
+ghost use Rattle.manager.specs.Arrays.{isSound, asks, isRefusal, endedBy, stepOn, shownReady, noReady, popped, bareOf, freshOver};
 ghost use Rattle.table.specs.Check.{check};
-ghost use Rattle.tags.specs.Tags.{freshClock};
-ghost use Rattle.manager.specs.Views.{arraysOf, arraysIn, Unpacks, withEvents, answeredOf, pushedIn, transitedIn, someWork, replyOf, shownOf, readyIn, readyFrom, poppedOf, poppedIn};
+ghost use Rattle.manager.specs.Views.{arraysOf, arraysIn, Unpacks, withEvents, answeredOf, pushedIn, transitedIn, someWork, replyOf, shownOf, readyIn, readyFrom, poppedOf, poppedIn, valueCall, valueReply};
+ghost use Rattle.value_store.specs.Views.{callOf, answerOf};
 ghost use Rattle.pops.specs.Pops.{replyOf as peekedReply};
 ghost use Rattle.tags.specs.Views.{ofGlobal};
-ghost use Rattle.machine.specs.Machine.{plain, network, control, action, transit, peekTag, onlyControl, ordinaryWork, activeNow, everActive, pop};
-use entries::BUCKET_WORDS;
+ghost use Rattle.machine.specs.Machine.{plain, network, control, action, transit, peekTag, onlyControl, ordinaryWork, activeNow, everActive, pop, pushValue, nextStep, takeValue, clearBefore, moveValue, clearAction};
 use entries::Bucket;
 use entries::BucketRows;
 use entries::MOST_HELD;
-use entries::VALUE_WORDS;
 use entries::Value;
 use entries::ValueRows;
 use key_set::KeySet;
@@ -48,6 +49,7 @@ use state_rules::Given;
 use table::Checked;
 use tags::GlobalTag;
 use tags::ScopeClock;
+use value_store::Call;
 use value_store::Store;
 
 // Clocks, active now and ever active by scope, modes by reactor, the events that wait and how many of them are ordinary, and the value store.
@@ -145,7 +147,7 @@ fn value_rows(values: [Value; MOST_HELD], n: usize) -> ValueRows
     ensures { λ _. ⌜ length values ≡ mostHeld ⌝ }
 {
     let end = at_most(n, MOST_HELD);
-    let mut rows = [0u64; MOST_HELD * VALUE_WORDS];
+    let mut rows = fresh::values();
     let mut i: usize = 0;
     while i < end {
         let v = values[i];
@@ -160,7 +162,7 @@ fn bucket_rows(buckets: [Bucket; MOST_HELD], n: usize) -> BucketRows
     ensures { λ _. ⌜ length buckets ≡ mostHeld ⌝ }
 {
     let end = at_most(n, MOST_HELD);
-    let mut rows = [0u64; MOST_HELD * BUCKET_WORDS];
+    let mut rows = fresh::buckets();
     let mut i: usize = 0;
     while i < end {
         let b = buckets[i];
@@ -291,68 +293,31 @@ fn pack(u: Unpacked) -> Manager
 
 // ---- a fresh manager
 
-fn first_modes(image: &[u8], n: u16) -> [u16; MOST_REACTORS]
-    requires { ⌜ n ≤ mostReactors ⌝ }
-    ensures { λ r. ⌜ r ≡ padded 0 mostReactors (map (initialMode (now (image .entry))) (from 0 n)) ⌝ }
+// These modes and scopes, and nothing waits or is held.
+fn bare(modes: [u16; MOST_REACTORS], scopes: [u64; scopes::ROOM]) -> Manager
+    ensures { λ r. ⌜ arraysOf r ≡ bareOf modes (scopesOf scopes) ⌝ }
 {
-    let mut out = [0u16; MOST_REACTORS];
-    let mut i: u16 = 0;
-    while i < n {
-        let mode = rows::initial_mode(image, i);
-        let k = i as usize;
-        out[k] = mode;
-        i += 1;
-    }
-    out
-}
-
-fn first_active(image: &[u8], modes: &[u16], n: u16) -> [bool; MOST_SCOPES]
-    requires { ⌜ n ≤ mostScopes ⌝ }
-    ensures { λ r. ⌜ r ≡ padded false mostScopes (map (isActive (now (image .entry)) (now (modes .entry))) (from 0 n)) ⌝ }
-{
-    let mut out = [false; MOST_SCOPES];
-    let mut i: u16 = 0;
-    while i < n {
-        let active = schedule::is_active(image, modes, i);
-        let k = i as usize;
-        out[k] = active;
-        i += 1;
-    }
-    out
-}
-
-fn first_clocks(active: [bool; MOST_SCOPES]) -> [ScopeClock; MOST_SCOPES]
-    ensures { λ r. ⌜ map ofClock r ≡ map freshClock active ⌝ }
-{
-    let blank = ScopeClock::fresh(false);
-    let mut out = [blank; MOST_SCOPES];
-    let mut i: usize = 0;
-    while i < MOST_SCOPES {
-        let now = active[i];
-        let clock = ScopeClock::fresh(now);
-        out[i] = clock;
-        i += 1;
-    }
-    out
-}
-
-fn bare(active: [bool; MOST_SCOPES], modes: [u16; MOST_REACTORS]) -> Manager
-    ensures { λ r. ⌜ arraysOf r ≡ bareOf (map freshClock active) active modes ⌝ }
-{
-    let clocks = first_clocks(active);
-    let blank = Slot::blank();
-    let slots = [blank; MOST_WAITING];
-    let store = Store::new();
-    Manager {
-        clocks,
-        active,
-        ever: active,
-        modes,
-        slots,
+    let events = slots::blank_rows();
+    let values = fresh::values();
+    let buckets = fresh::buckets();
+    let counts = lens::Counts {
         waiting: 0,
         work: 0,
-        store,
-    }
+    };
+    let held = store_calls::Counts {
+        values: 0,
+        buckets: 0,
+    };
+    let rows = Unpacked {
+        modes,
+        scopes,
+        events,
+        values,
+        buckets,
+        counts,
+        held,
+    };
+    pack(rows)
 }
 
 // What the table check answers, and over an accepted table the fresh manager, else a blank one.
@@ -406,7 +371,7 @@ pub enum Answer {
     Nothing,
     Tag(GlobalTag),
     Flag(bool),
-    Number(usize),
+    Number(u64),
     Refused(Refusal),
 }
 
@@ -454,6 +419,82 @@ fn finish_transition(m: Manager, u: Unpacked, o: store_calls::Outcome) -> Answer
             }
         }
     }
+}
+
+// A call on the values that only asks.
+fn only_asks(call: Call) -> bool
+    ensures { λ r. ⌜ r ≡ asks (valueCall (callOf call)) ⌝ }
+{
+    match call {
+        Call::NextMicrostep(_, _, _) => true,
+        Call::Push(_, _, _) => false,
+        Call::Take(_, _) => false,
+        Call::ClearOlderThan(_, _) => false,
+        Call::Clear(_) => false,
+        Call::MoveValue(_, _, _) => false,
+    }
+}
+
+fn value_answer(said: value_store::Answer) -> Answer
+    ensures { λ r. ⌜ replyOf r ≡ valueReply (answerOf said) ⌝ }
+{
+    match said {
+        value_store::Answer::Done => Answer::Done,
+        value_store::Answer::Nothing => Answer::Nothing,
+        value_store::Answer::Number(n) => Answer::Number(n),
+        value_store::Answer::Refused(n) => Answer::Refused(n),
+    }
+}
+
+fn is_refused(said: value_store::Answer) -> bool
+    ensures { λ r. ⌜ r ≡ isRefusal (valueReply (answerOf said)) ⌝ }
+{
+    match said {
+        value_store::Answer::Done => false,
+        value_store::Answer::Nothing => false,
+        value_store::Answer::Number(_) => false,
+        value_store::Answer::Refused(_) => true,
+    }
+}
+
+// What a call on the values leaves, of the rows after it: the manager as it was handed in where it only asks or is refused.
+fn finish_value(m: Manager, u: Unpacked, call: Call, said: value_store::Answer) -> Answered
+    ensures { λ r. ⌜ answeredOf r ≡ endedBy (arraysOf m) (asks (valueCall (callOf call))) (arraysIn u) (valueReply (answerOf said)) ⌝ }
+{
+    let answer = value_answer(said);
+    if only_asks(call) {
+        return Answered { answer, manager: m };
+    }
+    if is_refused(said) {
+        return Answered { answer, manager: m };
+    }
+    let manager = pack(u);
+    Answered { answer, manager }
+}
+
+// A call on the values.
+fn value_call(m: Manager, image: &[u8], call: Call) -> Answered
+    ensures { λ r. ⌜ answeredOf r ≡ stepOn (now (image .entry)) (arraysOf m) (valueCall (callOf call)) ⌝ }
+{
+    let e = enter(image, m);
+    let u = e.rows;
+    let mut values = u.values;
+    let mut buckets = u.buckets;
+    let held = u.held;
+    if !e.sound {
+        return Answered {
+            answer: Answer::Refused(Refusal::StateRule),
+            manager: m,
+        };
+    }
+    let c = value_store::call_rows(image, &mut values, &mut buckets, held, call);
+    let said = c.answer;
+    let left = c.held;
+    let mut rows = u;
+    rows.values = values;
+    rows.buckets = buckets;
+    rows.held = left;
+    finish_value(m, rows, call, said)
 }
 
 fn peeked(p: Peeked) -> Answer
@@ -576,16 +617,16 @@ impl Manager {
         let checked = table::check(image);
         match checked {
             Checked::Refused(_) => {
-                let manager = bare([false; MOST_SCOPES], [0u16; MOST_REACTORS]);
+                let none = scopes::blank_rows();
+                let manager = bare([0u16; MOST_REACTORS], none);
                 Fresh { checked, manager }
             }
             Checked::Accepted => {
-                let scope_count = rows::count(image, rows::SCOPE);
-                let reactor_count = rows::count(image, rows::REACTOR);
-                let modes = first_modes(image, reactor_count);
-                let k = reactor_count as usize;
-                let active = first_active(image, &modes[..k], scope_count);
-                let manager = bare(active, modes);
+                let modes = fresh::modes(image);
+                let n = rows::count(image, rows::REACTOR);
+                let end = n as usize;
+                let scopes = fresh::scopes(image, &modes[..end]);
+                let manager = bare(modes, scopes);
                 Fresh { checked, manager }
             }
         }
@@ -775,7 +816,7 @@ impl Manager {
             };
         }
         Answered {
-            answer: Answer::Number(self.work),
+            answer: Answer::Number(self.work as u64),
             manager: self,
         }
     }
@@ -849,6 +890,56 @@ impl Manager {
             answer: Answer::Flag(s.ever),
             manager: self,
         }
+    }
+
+    // ---- values
+
+    // Pushing again overwrites; the bucket rises to the largest pushed plus one, held at the limit.
+    pub fn push_value(self, image: &[u8], action: u16, tag: GlobalTag, value: u64) -> Answered
+        ensures { λ r. ⌜ answeredOf r ≡ stepOn (now (image .entry)) (arraysOf self) (pushValue action (ofGlobal tag) value) ⌝ }
+    {
+        value_call(self, image, Call::Push(action, tag, value))
+    }
+
+    // The larger of the bucket's next microstep and the least, or the least if no bucket; "nothing" at the limit.
+    pub fn next_value_microstep(
+        self,
+        image: &[u8],
+        action: u16,
+        offset: u64,
+        least: u32,
+    ) -> Answered
+        ensures { λ r. ⌜ answeredOf r ≡ stepOn (now (image .entry)) (arraysOf self) (nextStep action offset least) ⌝ }
+    {
+        value_call(self, image, Call::NextMicrostep(action, offset, least))
+    }
+
+    // "Nothing" for a value not held; the bucket stays.
+    pub fn take_value(self, image: &[u8], action: u16, tag: GlobalTag) -> Answered
+        ensures { λ r. ⌜ answeredOf r ≡ stepOn (now (image .entry)) (arraysOf self) (takeValue action (ofGlobal tag)) ⌝ }
+    {
+        value_call(self, image, Call::Take(action, tag))
+    }
+
+    // The action's values before the tag, and the buckets that have none left.
+    pub fn clear_values_older_than(self, image: &[u8], action: u16, tag: GlobalTag) -> Answered
+        ensures { λ r. ⌜ answeredOf r ≡ stepOn (now (image .entry)) (arraysOf self) (clearBefore action (ofGlobal tag)) ⌝ }
+    {
+        value_call(self, image, Call::ClearOlderThan(action, tag))
+    }
+
+    // A take and then a push; nothing for equal tags or a value not held.
+    pub fn move_value(self, image: &[u8], action: u16, old: GlobalTag, new: GlobalTag) -> Answered
+        ensures { λ r. ⌜ answeredOf r ≡ stepOn (now (image .entry)) (arraysOf self) (moveValue action (ofGlobal old) (ofGlobal new)) ⌝ }
+    {
+        value_call(self, image, Call::MoveValue(action, old, new))
+    }
+
+    // All that the action has.
+    pub fn clear_values(self, image: &[u8], action: u16) -> Answered
+        ensures { λ r. ⌜ answeredOf r ≡ stepOn (now (image .entry)) (arraysOf self) (clearAction action) ⌝ }
+    {
+        value_call(self, image, Call::Clear(action))
     }
 
     // ---- pop

@@ -1,4 +1,5 @@
-use Rattle.gate_day.proofs.StartLaws.{modes-room, started}
+use Rattle.fresh.specs.Fresh.{modes-room}
+use Rattle.gate_day.proofs.StartLaws.{started}
 use lib.Seq.{length-take-le}
 use mathlib.Core.Path.{refl, sym}
 use borrow.Author.Needs.{needs}

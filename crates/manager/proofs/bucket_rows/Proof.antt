@@ -6,7 +6,7 @@ use Rattle.lens.specs.Padded.{padded}
 use Rattle.entries.specs.Entries.{mostHeld, blankBucket, ofBucket}
 use Rattle.entries.specs.Words.{HeldBuckets}
 use Rattle.value_store.proofs.Laws.{length-mapped}
-use Rattle.manager.proofs.Front.{end-few, buckets-none, rows-next, rows-all}
+use Rattle.manager.proofs.Front.{end-few, rows-none, rows-next, rows-all}
 use borrow.Author.Needs.{needs}
 use Rattle.manager.proofs.bucket_rows.Statement.{statement}
 use Rattle.manager.proofs.bucket_rows.Tie as tie
@@ -20,8 +20,11 @@ abbrev μ-loop : tie.MeasureT-loop
 at-most-requires : tie.Need-at-most-requires Inv-loop μ-loop
 at-most-requires c κs = search needs
 
+buckets-requires : tie.Need-buckets-requires Inv-loop μ-loop
+buckets-requires c κs = search needs
+
 loop-holds : tie.Need-loop-holds Inv-loop μ-loop
-loop-holds c = (search needs, search end-few, search buckets-none)
+loop-holds c = (search needs, search end-few, search rows-none)
 
 mul-b : tie.Need-mul-b Inv-loop μ-loop
 mul-b c = search needs
@@ -51,6 +54,7 @@ bucket-rows-spec =
     Inv-loop
     μ-loop
     at-most-requires
+    buckets-requires
     loop-holds
     mul-b
     array-copy-out-b

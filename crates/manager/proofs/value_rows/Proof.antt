@@ -6,7 +6,7 @@ use Rattle.lens.specs.Padded.{padded}
 use Rattle.entries.specs.Entries.{mostHeld, blankValue, ofValue}
 use Rattle.entries.specs.Words.{HeldValues}
 use Rattle.value_store.proofs.Laws.{length-mapped}
-use Rattle.manager.proofs.Front.{end-few, values-none, rows-next, rows-all}
+use Rattle.manager.proofs.Front.{end-few, rows-none, rows-next, rows-all}
 use borrow.Author.Needs.{needs}
 use Rattle.manager.proofs.value_rows.Statement.{statement}
 use Rattle.manager.proofs.value_rows.Tie as tie
@@ -20,8 +20,11 @@ abbrev μ-loop : tie.MeasureT-loop
 at-most-requires : tie.Need-at-most-requires Inv-loop μ-loop
 at-most-requires c κs = search needs
 
+values-requires : tie.Need-values-requires Inv-loop μ-loop
+values-requires c κs = search needs
+
 loop-holds : tie.Need-loop-holds Inv-loop μ-loop
-loop-holds c = (search needs, search end-few, search values-none)
+loop-holds c = (search needs, search end-few, search rows-none)
 
 mul-v : tie.Need-mul-v Inv-loop μ-loop
 mul-v c = search needs
@@ -51,6 +54,7 @@ value-rows-spec =
     Inv-loop
     μ-loop
     at-most-requires
+    values-requires
     loop-holds
     mul-v
     array-copy-out-v
