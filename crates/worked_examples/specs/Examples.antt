@@ -4,13 +4,12 @@ use mathlib.Core.Path.{_≡_, refl, ap, _∙_, sym}
 use mathlib.Core.Bool.{false}
 use mathlib.Core.List.{List, [], _∷_, map, List·Memᴰ, List·Memᴰ·head, List·Memᴰ·tail}
 use Rattle.lists.specs.Lists.{any, lose, upsert}
-use Rattle.lists.specs.Walk.{Result, done, refused}
-use Rattle.refusals.specs.declared.Refusal.{Refusal}
+use Rattle.lists.specs.Walk.{done, refused}
 use Rattle.refusals.specs.declared.Refusal.the-variants.{MappedTag}
 use Rattle.tags.specs.Tags as tag
 use Rattle.tags.specs.Tags.{Tag, Clock, at, zeroTag, within, withinClock, sameTag, earlier, delayed, shifted, checked, globalToLocal, localToGlobal}
 use Rattle.store.specs.Store.{Store, emptyStore, isValue, isBucket, isBefore, isThere, isSpent, following, larger, lacks, pushed, nextIn, nextMicrostep, valueIn, taken, clearedBefore, moved}
-use Rattle.value_store.specs.Calls.{Call, push, next, take-out, clear-before, move, Answer, ok, number, nothing-there, Outcome, said-by, perform}
+use Rattle.value_store.specs.Calls.{Call, push, next, take-out, clear-before, move, Answer, ok, number, nothing-there, said-by, left-by, perform}
 
 pub data Name : Type 0 where
   m1 : Name
@@ -85,14 +84,9 @@ table =
 
 -- ---- what the definitions answer
 
--- a refused call leaves the store as it is
-abbrev leftBy : Store → Result Refusal Outcome → Store
-leftBy s (done o) = o .store
-leftBy s (refused r) = s
-
 unfoldable pub performed : Store → List Call → List Answer
 performed s [] = []
-performed s (c ∷ cs) = said-by (perform s c) ∷ performed (leftBy s (perform s c)) cs
+performed s (c ∷ cs) = said-by (perform s c) ∷ performed (left-by s (perform s c)) cs
 
 abbrev pub answerOf : Asked → Said
 answerOf (to-global c x) = tagged (localToGlobal c x)
