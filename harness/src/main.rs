@@ -1,9 +1,9 @@
 //! The library beside the oracle: clock maps, images, runs of days, and the state after every record.
 
 use std::io::Write;
-use std::path::Path;
+use std::path::{Path, PathBuf};
 use std::process::ExitCode;
-use std::sync::atomic::{AtomicU64, AtomicUsize, Ordering};
+use std::sync::atomic::{AtomicUsize, Ordering};
 use std::sync::Mutex;
 
 use barnshiver::slices::{CLOCK_BYTES, NO_ROOM, PLACE_BYTES, TAG_BYTES};
@@ -207,48 +207,21 @@ fn one_table(image: &[u8], expected: (u8, u64)) -> Option<String> {
     (!same).then(|| format!("expected {expected:?} (number, place), got {number}, {place:?}"))
 }
 
+/// A day with its name.
+type Named = (String, Vec<u8>);
+
 fn days(from: u64, to: u64) -> Result<String, String> {
-    let (next, found) = (AtomicU64::new(from), Mutex::new(Vec::new()));
-    let (states, with_rust) = (AtomicUsize::new(0), AtomicUsize::new(0));
-    let work = || loop {
-        let seed = next.fetch_add(1, Ordering::Relaxed);
-        if seed >= to {
-            return;
-        }
-        for kind in KINDS {
-            let day = make(seed, kind).unwrap_or_default();
-            match one_day(&day) {
-                Ok(counts) => {
-                    states.fetch_add(counts.0, Ordering::Relaxed);
-                    with_rust.fetch_add(counts.1, Ordering::Relaxed);
-                }
-                Err(words) => {
-                    next.store(to, Ordering::Relaxed);
-                    let name = format!("seed {seed} kind {kind}");
-                    let mut found = found.lock().unwrap_or_else(|lock| lock.into_inner());
-                    found.push((seed, name, words, day));
-                    return;
-                }
-            }
-        }
+    let made = |seed, kind| {
+        let day = make(seed, kind).unwrap_or_default();
+        (format!("seed {seed} kind {kind}"), day)
     };
-    let workers = std::thread::available_parallelism().map_or(2, |count| count.get());
-    std::thread::scope(|scope| {
-        for _ in 0..workers {
-            scope.spawn(work);
-        }
-    });
-    let mut found = found.into_inner().unwrap_or_else(|lock| lock.into_inner());
-    found.sort();
-    if let Some((_, name, words, day)) = found.first() {
-        return Err(shrink::shown(name, words, day, |day| one_day(day).err()));
-    }
+    let days: Vec<Named> = (from..to)
+        .flat_map(|seed| KINDS.iter().map(move |kind| made(seed, kind)))
+        .collect();
+    let said = several(&days)?;
     Ok(format!(
-        "{} days of every kind, seeds {from} to {to} - 1; {} states like the plain machine's, {} of them like the Rust's too: \
-         no difference",
-        (to.saturating_sub(from)) * KINDS.len() as u64,
-        states.into_inner(),
-        with_rust.into_inner()
+        "{} days of every kind, seeds {from} to {to} - 1; {said}",
+        days.len()
     ))
 }
 
@@ -261,18 +234,56 @@ fn recorded(folder: &Path) -> Result<String, String> {
     if files.is_empty() {
         return Err(format!("{} has no day", folder.display()));
     }
-    let (mut states, mut with_rust) = (0, 0);
-    for file in &files {
+    let read = |file: &PathBuf| {
         let name = file.display().to_string();
-        let day = std::fs::read(file).map_err(|error| format!("{name}: {error}"))?;
-        let counts = one_day(&day)
-            .map_err(|words| shrink::shown(&name, &words, &day, |day| one_day(day).err()))?;
-        states += counts.0;
-        with_rust += counts.1;
+        match std::fs::read(file) {
+            Ok(day) => Ok((name, day)),
+            Err(error) => Err(format!("{name}: {error}")),
+        }
+    };
+    let days: Vec<Named> = files.iter().map(read).collect::<Result<_, _>>()?;
+    let said = several(&days)?;
+    Ok(format!("{} recorded days; {said}", days.len()))
+}
+
+/// Days, several at a time: what was found the same, or the first difference on the smallest day.
+fn several(days: &[Named]) -> Result<String, String> {
+    let (next, found) = (AtomicUsize::new(0), Mutex::new(Vec::new()));
+    let (states, with_rust) = (AtomicUsize::new(0), AtomicUsize::new(0));
+    let work = || loop {
+        let index = next.fetch_add(1, Ordering::Relaxed);
+        let Some((_, day)) = days.get(index) else {
+            return;
+        };
+        match one_day(day) {
+            Ok(counts) => {
+                states.fetch_add(counts.0, Ordering::Relaxed);
+                with_rust.fetch_add(counts.1, Ordering::Relaxed);
+            }
+            Err(words) => {
+                // Those before it are being worked on; none after it is begun.
+                next.store(days.len(), Ordering::Relaxed);
+                let mut found = found.lock().unwrap_or_else(|lock| lock.into_inner());
+                found.push((index, words));
+            }
+        }
+    };
+    let workers = std::thread::available_parallelism().map_or(2, |count| count.get());
+    std::thread::scope(|scope| {
+        for _ in 0..workers {
+            scope.spawn(work);
+        }
+    });
+    let mut found = found.into_inner().unwrap_or_else(|lock| lock.into_inner());
+    found.sort();
+    if let Some((index, words)) = found.first() {
+        let (name, day) = &days[*index];
+        return Err(shrink::shown(name, words, day, |day| one_day(day).err()));
     }
     Ok(format!(
-        "{} recorded days; {states} states like the plain machine's, {with_rust} of them like the Rust's too: no difference",
-        files.len()
+        "{} states like the plain machine's, {} of them like the Rust's too: no difference",
+        states.into_inner(),
+        with_rust.into_inner()
     ))
 }
 
