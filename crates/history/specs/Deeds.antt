@@ -15,7 +15,7 @@ use Rattle.tags.specs.Tags.{Tag, zeroTag, sameTag, delayed}
 use Rattle.schedule.specs.Schedule.{startupsOf, resetsOf}
 use Rattle.machine.specs.Table.{scopes, setOf}
 use Rattle.machine.specs.State.{Event, State, root, rootEvent, stamped, atHead}
-use Rattle.machine.specs.Heads.{Head, empty, head, Taking, takeAt, takeScopes, taking, scopeHead, rootHead, isAt, peek}
+use Rattle.machine.specs.Heads.{Head, empty, head, Taking, takeAt, takeScopes, taking, scopeHead, rootHead, isAt}
 use Rattle.machine.specs.Transition.{tagOr, insideOf, prepared, plainEvent, firsts, startupRows, timerEvent, timerRows, resetRows, planOf}
 use Rattle.machine.specs.Machine.{Call, plain, network, control, action, transit, pop, peekTag, onlyControl, ordinaryWork, activeNow, everActive, pushValue, nextStep, takeValue, clearBefore, moveValue, clearAction, Reply, ok, refusal, nothing, ready, tag, flag, number, toRoot, localTag, actionEvent}
 

@@ -14,7 +14,7 @@ use Rattle.rows.specs.Lineage.{inSubtree}
 use Rattle.tags.specs.Tags.{Tag}
 use Rattle.machine.specs.State.{Event, State, ordinary, mostWaiting, fresh}
 use Rattle.machine.specs.Heads.{empty, head, peek, taking, readyOf}
-use Rattle.machine.specs.Machine.{Call, plain, network, control, action, transit, pop, peekTag, onlyControl, ordinaryWork, activeNow, everActive, pushValue, nextStep, takeValue, clearBefore, moveValue, clearAction, Reply, ok, nothing, ready, number, Outcome, step, run}
+use Rattle.machine.specs.Machine.{Call, transit, pop, peekTag, ordinaryWork, Reply, ok, nothing, ready, number, Outcome, step, run}
 use Rattle.history.specs.Deeds.{bare, Deed, deed, madeBy, drops, takesIn, isPop, ifOk, takesInTurn}
 
 -- ---- a run of calls: each is named by its place in the list

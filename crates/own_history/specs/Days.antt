@@ -2,21 +2,26 @@
 use Prim.Native.Nat.{ℕ, zero, suc, _+_, _-_, _<_, _≤_}
 use mathlib.Core.Bool.{Bool, true, false, cond}
 use mathlib.Core.Path.{_≡_, refl, ap, _∙_, sym, subst}
-use mathlib.Core.List.{List, [], _∷_, _++_, append-assoc, append-nil}
+use mathlib.Core.List.{List, [], _∷_, _++_, append-assoc}
 use native.Mathlib.Omega.{arith}
 use lib.Dec.{ltb}
-use lib.ListN.{length, take, drop, length-drop, length-append}
+use lib.ListN.{length, drop, length-drop}
 use lib.Seq.{drop-cons, drop-append-le}
 use borrow.Author.Tests.{ltb-true, ltb-false}
 use Rattle.rows.specs.Bytes.{Image, be}
 use Rattle.table.specs.Check.{isTable}
 use Rattle.table.specs.declared.Checked.the-variants.{Accepted}
 use Rattle.machine.specs.State.{State, fresh}
-use Rattle.machine.specs.Machine.{Call, peekTag, step, run}
+use Rattle.machine.specs.Machine.{Call, peekTag, rules, step, run}
+use Rattle.kept.specs.Kept.{run-keeps}
+use Rattle.unpacked.specs.Unpacked.{state-is}
 use Rattle.records.specs.Records.{Record, call, malformed, cut, over, mostBytes, recordsFrom}
 use Rattle.records.proofs.DayLaws.{records-behind}
 use Rattle.lines.specs.Lines.{lineOf, tableLine}
-use Rattle.gate_day.specs.Days.{Next, pending, broken, whole, nextAt, bytesLeft, bodyAt, malformedLine, longest, lineAt, stateAt, answersOf, together, linesOf, callsOf, Ran, stopped, ranIn, ranOn, ran, imageIn, opened, answersBy, dayAnswers, recordBytes}
+use Rattle.gate_day.specs.Days.{pending, broken, whole, nextAt, bytesLeft, bodyAt, malformedLine, longest, lineAt, stateAt, answersOf, together, linesOf, callsOf, Ran, stopped, ranIn, ranOn, ran, imageIn, opened, answersBy, dayAnswers, recordBytes}
+use Rattle.gate_day.specs.Views.{viewOf, Kept, Pieced}
+use Rattle.gate_day.specs.declared.Day.{Day}
+use Rattle.gate_day.specs.declared.Pieces.{Pieces}
 use Rattle.gate_day.specs.Calls.{before, callsIn, callsOn, callsTaken, ran-runs}
 use Rattle.gate_day.proofs.WholeLaws.{open-table, whole-goes, broken-stops, piece-lines}
 use Rattle.history.specs.History.{moment, outcome}
@@ -103,6 +108,16 @@ thenFed f g = record { state = g .state; calls = f .calls ++ g .calls; lines = f
 unfoldable pub fed : Image → State → List ℕ → List Piece → Fed
 fed img s left [] = record { state = s; calls = []; lines = []; left = left; ended = false }
 fed img s left (p ∷ ps) = let f = first img s left p in cond (f .ended) f (thenFed f (fed img (f .state) (f .left) ps))
+
+-- for the day that `gate_day::run_records` hands back holds the state that its run came to
+pub handed-on :
+    (img : Image) (d : Day) → Kept img d → (bytes : List ℕ) (p : Pieces) {old new : List ℕ} → Pieced (ran img bytes (viewOf img d) (length old)) p bytes old new →
+    viewOf img (p .day) ≡ ran img bytes (viewOf img d) (length old) .state
+handed-on img d k bytes p {old} w =
+    let s = viewOf img d in
+    let r = ran img bytes s (length old) in
+    let e : r .state ≡ run img s (callsTaken img bytes s (length old)) = ran-runs img bytes s (length old) in
+    state-is img (r .state) (ap (rules img) e ∙ run-keeps img s (callsTaken img bytes s (length old)) (k .keeps)) _ _ _ _ _ _ _ (w .unpacked)
 
 -- all that came in: the file
 unfoldable pub bytesOf : List Piece → List ℕ
