@@ -10,7 +10,7 @@ use Rattle.lists.specs.Every.{no-way}
 use Rattle.rows.specs.Bytes.{Image}
 use Rattle.tags.specs.Tags.{at}
 use Rattle.table.specs.Check.{isTable}
-use Rattle.machine.specs.State.{Event}
+use Rattle.machine.specs.State.{Event, rootEvent}
 use Rattle.machine.specs.Machine.{Call, plain, control, transit, pop}
 use Rattle.machine_days.specs.Computed.{dayOf}
 use Rattle.history.specs.Deeds.{startupEvents, timerEvents, resetEvents, transitionEvents, scopeTurns, turnsOf}
@@ -34,13 +34,16 @@ accepted-table = refl
 abbrev pub e : Event
 e = record { queue = 1; tag = at 5 0; reactions = 0 ∷ 0 ∷ []; terminal = false; control = false; network = false; action = 0; stored = at 0 0 }
 
+abbrev pub entry : Event → ℕ → Fate → Entry
+entry e n f = record { event = e; by = n; fate = f }
+
 -- ---- a reset twice: the second drops what the first one made, and makes its own
 
 abbrev pub cs : List Call
 cs = transit 0 0 true (at 0 0) ∷ transit 0 0 true (at 0 0) ∷ []
 
 abbrev pub right : History
-right = record { event = e; by = 0; fate = dropped 1 } ∷ record { event = e; by = 1; fate = waits } ∷ []
+right = entry e 0 (dropped 1) ∷ entry e 1 waits ∷ []
 
 pub is-right : historyOf img cs ≡ right
 unfolding dayOf entriesFrom fateFrom fateAt turnFrom newBy popTakes resetDrops transitionEvents startupEvents timerEvents resetEvents
@@ -48,7 +51,7 @@ is-right = refl
 
 -- it is not so that the second did nothing
 abbrev pub merged : History
-merged = record { event = e; by = 0; fate = waits } ∷ []
+merged = entry e 0 waits ∷ []
 
 pub not-merged : Told img cs merged → ⊥
 unfolding dayOf keep newBy transitionEvents startupEvents timerEvents resetEvents
@@ -56,11 +59,11 @@ not-merged t = let z : [] ≡ e ∷ [] = t .made 1 (omega arith) in let y : _≡
 
 -- nor that it made its own and left the first
 abbrev pub doubled : History
-doubled = record { event = e; by = 0; fate = waits } ∷ record { event = e; by = 1; fate = waits } ∷ []
+doubled = entry e 0 waits ∷ entry e 1 waits ∷ []
 
 pub not-doubled : Told img cs doubled → ⊥
 unfolding dayOf waitsAt resetDrops
-not-doubled t = let z : false ≡ true = t .fate 0 (record { event = e; by = 0; fate = waits }) (omega arith) .ended .byReset 1 (omega arith) in no-way z
+not-doubled t = let z : false ≡ true = t .fate 0 (entry e 0 waits) (omega arith) .ended .byReset 1 (omega arith) in no-way z
 
 -- ---- a reset, a plain event at the timer's time, and a pop: the root's event in turn 0, the scope's in turn 1; the second reset's waits
 
@@ -68,11 +71,11 @@ abbrev pub bs : List Call
 bs = transit 0 0 true (at 0 0) ∷ plain (at 5 0) true [] ∷ pop ∷ transit 0 0 true (at 5 0) ∷ []
 
 abbrev pub p : Event
-p = record { queue = 65535; tag = at 5 0; reactions = 0 ∷ 0 ∷ []; terminal = true; control = false; network = false; action = 65535; stored = at 0 0 }
+p = rootEvent (at 5 0) (0 ∷ 0 ∷ []) true false false
 
 pub is-both :
     historyOf img bs ≡
-    record { event = e; by = 0; fate = popped 2 1 } ∷ record { event = p; by = 1; fate = popped 2 0 } ∷ record { event = e; by = 3; fate = waits } ∷ []
+    entry e 0 (popped 2 1) ∷ entry p 1 (popped 2 0) ∷ entry e 3 waits ∷ []
 unfolding dayOf entriesFrom fateFrom fateAt turnFrom newBy popTakes resetDrops transitionEvents startupEvents timerEvents resetEvents scopeTurns turnsOf
 is-both = refl
 
@@ -82,13 +85,10 @@ abbrev pub ds : List Call
 ds = control (at 3 0) ∷ pop ∷ []
 
 abbrev pub c : Event
-c = record { queue = 65535; tag = at 3 0; reactions = 0 ∷ 0 ∷ []; terminal = false; control = true; network = false; action = 65535; stored = at 0 0 }
-
-abbrev pub later : Event
-later = record { queue = 65535; tag = at 6 0; reactions = 0 ∷ 0 ∷ []; terminal = false; control = true; network = false; action = 65535; stored = at 0 0 }
+c = rootEvent (at 3 0) (0 ∷ 0 ∷ []) false true false
 
 abbrev pub turned : ℕ → History
-turned r = record { event = c; by = 0; fate = popped 1 r } ∷ []
+turned r = entry c 0 (popped 1 r) ∷ []
 
 pub is-turned : historyOf img ds ≡ turned 0
 unfolding dayOf entriesFrom fateFrom fateAt turnFrom newBy popTakes resetDrops scopeTurns turnsOf
@@ -96,12 +96,9 @@ is-turned = refl
 
 pub not-turned : Told img ds (turned 200) → ⊥
 unfolding dayOf waitsIn popTakes scopeTurns turnsOf
-not-turned t = let z : true ≡ false = t .fate 0 (record { event = c; by = 0; fate = waits }) (omega arith) .ended .byPop 1 200 (omega arith) in no-way (sym z)
+not-turned t = let z : true ≡ false = t .fate 0 (entry c 0 waits) (omega arith) .ended .byPop 1 200 (omega arith) in no-way (sym z)
 
 -- ---- what wrong managers would have to tell
-
-abbrev entry : Event → ℕ → Fate → Entry
-entry e n f = record { event = e; by = n; fate = f }
 
 -- a push that is answered "ok" and ignored
 pub not-ignored : Told img (control (at 3 0) ∷ []) [] → ⊥
@@ -114,6 +111,9 @@ unfolding dayOf keep newBy
 not-twice t = let z : c ∷ c ∷ [] ≡ c ∷ [] = t .made 0 (omega arith) in let y : _≡_ {A = ℕ} 2 1 = ap length z in omega arith
 
 -- a pop that also swallows a later control event, which no answer shows
+abbrev pub later : Event
+later = rootEvent (at 6 0) (0 ∷ 0 ∷ []) false true false
+
 pub not-swallowed : Told img (plain (at 5 0) true [] ∷ control (at 6 0) ∷ pop ∷ []) (entry p 0 (popped 2 0) ∷ entry later 1 (popped 2 0) ∷ []) → ⊥
 unfolding dayOf waitsIn popTakes scopeTurns turnsOf
 not-swallowed t = let z : true ≡ false = t .fate 1 (entry later 1 waits) (omega arith) .ended .byPop 2 0 (omega arith) in no-way (sym z)
