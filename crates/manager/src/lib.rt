@@ -1,13 +1,11 @@
 // The event manager by value: document 01, "The plain machine", "State rules" and "Numbers of refusal".
 // Each call goes to rows, tests the state rules, works there, and comes back; the run of a day works on the rows themselves.
-// Every call of the plain machine (`machine`, Machine: `Call`) has its method:
-//   plain         push_event                 onlyControl    peek_is_control_only      nextStep       next_value_microstep
-//   network       push_network_event         ordinaryWork   nonterminal_work          takeValue      take_value
-//   control       push_control_event         (some work)    has_nonterminal_work      clearBefore    clear_values_older_than
-//   action        push_action_event          activeNow      scope_active              moveValue      move_value
-//   transit       apply_transition           everActive     scope_ever_active         clearAction    clear_values
-//   pop           pop_next_event             pushValue      push_value
-//   peekTag       peek_tag
+// Every call of the plain machine (crate machine, `Call`) has its method:
+//   plain -> push_event, network -> push_network_event, control -> push_control_event, action -> push_action_event,
+//   transit -> apply_transition, pop -> pop_next_event, peekTag -> peek_tag, onlyControl -> peek_is_control_only,
+//   ordinaryWork -> nonterminal_work and has_nonterminal_work, activeNow -> scope_active, everActive -> scope_ever_active,
+//   pushValue -> push_value, nextStep -> next_value_microstep, takeValue -> take_value,
+//   clearBefore -> clear_values_older_than, moveValue -> move_value, clearAction -> clear_values.
 ghost use mathlib.Core.Path.{_≡_};
 ghost use mathlib.Core.List.{map};
 ghost use Prim.Native.Nat.{_≤_, min};
@@ -435,6 +433,7 @@ fn only_asks(call: Call) -> bool
     }
 }
 
+// The value store's answer as the manager's.
 fn value_answer(said: value_store::Answer) -> Answer
     ensures { λ r. ⌜ replyOf r ≡ valueReply (answerOf said) ⌝ }
 {
@@ -472,7 +471,7 @@ fn finish_value(m: Manager, u: Unpacked, call: Call, said: value_store::Answer) 
     Answered { answer, manager }
 }
 
-// A call on the values.
+// A call on the values: to rows, 11, the call there, and back.
 fn value_call(m: Manager, image: &[u8], call: Call) -> Answered
     ensures { λ r. ⌜ answeredOf r ≡ stepOn (now (image .entry)) (arraysOf m) (valueCall (callOf call)) ⌝ }
 {
