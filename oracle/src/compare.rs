@@ -76,6 +76,13 @@ fn open_refusals(op: &Op) -> &'static [&'static str] {
 }
 
 pub fn compare(day: &[u8], answers: &[u8]) -> Result<Outcome, String> {
+    follow(day, answers, &mut |_, _, _, _| {})
+}
+
+/// Both sides' answers to the records, as far as they are compared: each record's number, itself, ours and the Rust's.
+type Seen<'s> = &'s mut dyn FnMut(usize, &Record<'_>, &str, &str);
+
+fn follow(day: &[u8], answers: &[u8], seen: Seen<'_>) -> Result<Outcome, String> {
     let answers = lines(answers)?;
     let (table, records) = match table_line(day, &answers) {
         Ok(opened) => opened,
@@ -87,6 +94,7 @@ pub fn compare(day: &[u8], answers: &[u8]) -> Result<Outcome, String> {
         let got = answers.get(at).copied().unwrap_or(NO_LINE);
         if let Some(number) = record.op.refused_by_bytes(&table) {
             let expected = format!("refused {number}");
+            seen(at, record, got, &expected);
             if got != expected {
                 return Ok(difference(at, record, &expected, got));
             }
@@ -94,6 +102,7 @@ pub fn compare(day: &[u8], answers: &[u8]) -> Result<Outcome, String> {
         }
         if record.op == Op::Pop {
             let expected = pop_line(rust.pop().as_ref());
+            seen(at, record, got, &expected);
             if !same_pop(&expected, got) {
                 return Ok(difference(at, record, &expected, got));
             }
@@ -102,9 +111,11 @@ pub fn compare(day: &[u8], answers: &[u8]) -> Result<Outcome, String> {
         if got != "ok" {
             let open = open_refusals(&record.op);
             if open.contains(&got) {
+                seen(at, record, got, "not asked: it has no such limit");
                 continue;
             }
             let expected = format!("ok or {}", open.join(" or "));
+            seen(at, record, got, &expected);
             return Ok(difference(at, record, &expected, got));
         }
         if let Some(why) = outside_domain(&record.op) {
@@ -116,10 +127,65 @@ pub fn compare(day: &[u8], answers: &[u8]) -> Result<Outcome, String> {
         if let Some(why) = rust.left_domain() {
             return Ok(Outcome::LeftDomain { record: at, why });
         }
+        seen(at, record, got, "ok");
     }
     Ok(
         extra_line(records.len(), &answers).unwrap_or(Outcome::Agree {
             records: records.len(),
         }),
     )
+}
+
+/// A record's number, its text, our answer and the Rust's.
+pub type Row = [String; 4];
+
+/// `oracle aside`: the rows of a comparison, and how it ended.
+pub fn aside(day: &[u8], answers: &[u8]) -> Result<(Vec<Row>, Outcome), String> {
+    let mut rows = Vec::new();
+    let outcome = follow(day, answers, &mut |at, record, ours, rust| {
+        rows.push([
+            at.to_string(),
+            record.to_string(),
+            ours.to_string(),
+            rust.to_string(),
+        ]);
+    })?;
+    Ok((rows, outcome))
+}
+
+/// How the comparison ended, then the rows side by side.
+pub fn table(rows: &[Row], outcome: &Outcome) -> String {
+    let first = match outcome {
+        Outcome::Differ(words) => format!("they differ first at {words}"),
+        Outcome::Agree { records: 0 } => "the same: the table's line is the only one".to_string(),
+        Outcome::Agree { records } => format!("the same, over {records} records"),
+        Outcome::LeftDomain { record, why } => format!(
+            "the same up to record {record}, where the Rust can no longer be compared: {why}"
+        ),
+    };
+    let head = ["", "record", "ours", "the Rust"].map(str::to_string);
+    let width = |column: usize| {
+        let lengths = rows.iter().chain([&head]).map(|row| row[column].len());
+        lengths.max().unwrap_or(0).min(72)
+    };
+    let widths = [width(0), width(1), width(2)];
+    let mut text = first + "\n";
+    for row in std::iter::once(&head).chain(rows) {
+        let mark = if row[0].is_empty() || alike(row) {
+            ' '
+        } else {
+            '!'
+        };
+        let [number, record, ours, rust] = row;
+        let [n, r, o] = widths;
+        text.push_str(&format!(
+            "{mark} {number:>n$}  {record:r$}  {ours:o$}  {rust}\n"
+        ));
+    }
+    text
+}
+
+/// Whether a row's answers are the same, or the Rust has none.
+fn alike([_, _, ours, rust]: &Row) -> bool {
+    same_pop(rust, ours) || rust.starts_with("not asked")
 }

@@ -1,6 +1,6 @@
 //! The oracle: the published Rust, unchanged over stand-ins, and a plain reading of 01, to hold gate days against.
 
-use std::io::{self, BufWriter, Write};
+use std::io::{self, BufWriter, Read, Write};
 use std::path::Path;
 use std::process::ExitCode;
 use std::time::Duration;
@@ -16,7 +16,9 @@ oracle answer DAY                   the lines that 01 demands
 oracle deep DAY [ANSWERS]           the Rust's state after every record
 oracle deep-plain DAY               the same from the plain machine
 oracle make SEED KIND               a made day
-oracle asm TEXT DAY                 a day from its text
+oracle asm TEXT DAY                 a day from its text; a file - is standard input or output, here and with text
+oracle text DAY TEXT                a day as its text, every byte of it
+oracle aside DAY ANSWERS            the answers beside the Rust's, record by record, the first difference first
 oracle picture TEXT SVG             a day from its text as a picture, clocks and events
 oracle antt FILE..                  days, or texts (.txt), as theorems for the checker to compute
 oracle map SEED COUNT SCRIPT ANSWERS            clock maps with the Rust's answers
@@ -59,7 +61,7 @@ fn main() -> ExitCode {
         .collect();
     let words: Vec<&str> = arguments.iter().map(String::as_str).collect();
     match run(&words) {
-        Ok(()) => ExitCode::SUCCESS,
+        Ok(code) => code,
         Err(Difference(words)) => {
             // Nothing is left to be done if standard output is closed.
             let _ = writeln!(io::stdout(), "{words}");
@@ -72,7 +74,7 @@ fn main() -> ExitCode {
     }
 }
 
-fn run(words: &[&str]) -> Result<(), Failure> {
+fn run(words: &[&str]) -> Result<ExitCode, Failure> {
     let mut out = BufWriter::new(io::stdout().lock());
     match *words {
         ["compare", day, answers] => {
@@ -96,8 +98,19 @@ fn run(words: &[&str]) -> Result<(), Failure> {
             let words = String::from_utf8(read(text)?).map_err(|error| Fault(error.to_string()))?;
             let bytes =
                 text::assemble(&words).map_err(|words| Fault(format!("{text}: {words}")))?;
-            std::fs::write(day, bytes)
-                .map_err(|error| Fault(format!("cannot write {day}: {error}")))?;
+            put(&mut out, day, &bytes)?;
+        }
+        ["text", day, text] => {
+            let lines = text::numbered_lines_of(&read(day)?);
+            put(&mut out, text, (lines.join("\n") + "\n").as_bytes())?;
+        }
+        ["aside", day, answers] => {
+            let (rows, outcome) = compare::aside(&read(day)?, &read(answers)?).map_err(Fault)?;
+            write!(out, "{}", compare::table(&rows, &outcome))?;
+            out.flush()?;
+            if let Outcome::Differ(_) = outcome {
+                return Ok(ExitCode::from(1));
+            }
         }
         ["picture", text, svg] => {
             let words = String::from_utf8(read(text)?).map_err(|error| Fault(error.to_string()))?;
@@ -202,11 +215,26 @@ fn run(words: &[&str]) -> Result<(), Failure> {
         _ => return Err(Fault(format!("what is asked for?\n{USAGE}"))),
     }
     out.flush()?;
-    Ok(())
+    Ok(ExitCode::SUCCESS)
 }
 
 fn read(path: &str) -> Result<Vec<u8>, Failure> {
-    std::fs::read(path).map_err(|error| Fault(format!("cannot read {path}: {error}")))
+    let bytes = if path == "-" {
+        let mut bytes = Vec::new();
+        io::stdin().lock().read_to_end(&mut bytes).map(|_| bytes)
+    } else {
+        std::fs::read(path)
+    };
+    bytes.map_err(|error| Fault(format!("cannot read {path}: {error}")))
+}
+
+/// Into a file, or to standard output.
+fn put(out: &mut impl Write, path: &str, bytes: &[u8]) -> Result<(), Failure> {
+    let done = match path {
+        "-" => out.write_all(bytes),
+        _ => std::fs::write(path, bytes),
+    };
+    done.map_err(|error| Fault(format!("cannot write {path}: {error}")))
 }
 
 fn number(word: &str) -> Result<u64, Failure> {

@@ -1,8 +1,9 @@
 //! Small days in the text form of text.rs, and what must come out of them.
 
-use crate::compare::{compare, Outcome};
+use crate::compare::{aside, compare, table, Outcome};
 use crate::judge::judge;
-use crate::text::assemble;
+use crate::make::{make, KINDS};
+use crate::text::{assemble, numbered_lines_of};
 use crate::{antt, deep, plain};
 
 /// The day of a text.
@@ -131,6 +132,53 @@ fn a_text_is_told_apart_from_words() {
     ] {
         assert_eq!(assemble(wrong), Err(format!("what is \"{wrong}\"?")));
     }
+}
+
+#[test]
+fn every_day_has_a_text_that_gives_its_bytes_again() {
+    let again = |day: &[u8], name: &str| {
+        let text = numbered_lines_of(day).join("\n");
+        assert!(assemble(&text).as_deref() == Ok(day), "{name}");
+    };
+    let mut recorded = 0;
+    for entry in std::fs::read_dir("../days").unwrap() {
+        let path = entry.unwrap().path();
+        if path.extension().is_some_and(|end| end == "day") {
+            again(&std::fs::read(&path).unwrap(), &path.display().to_string());
+            recorded += 1;
+        }
+    }
+    assert!(recorded > 40);
+    for seed in 0..1000 {
+        let kind = KINDS[seed as usize % KINDS.len()];
+        let day = make(seed, kind).unwrap();
+        again(&day, &format!("{seed} {kind}"));
+        // cut anywhere, and with a byte put over another
+        let at = seed as usize * 7919 % day.len().max(1);
+        again(&day[..at], &format!("{seed} {kind} cut at {at}"));
+        let mut hurt = day;
+        if let Some(byte) = hurt.get_mut(at) {
+            *byte = seed as u8;
+        }
+        again(&hurt, &format!("{seed} {kind} hurt at {at}"));
+    }
+    again(b"", "nothing");
+    again(b"no day at all", "words");
+}
+
+#[test]
+fn answers_stand_aside_with_the_first_difference_first() {
+    let day = day(&format!("{T2} plain 5 0 0 -; pop; pop"));
+    let answers = plain::answer(&day);
+    let (rows, outcome) = aside(&day, answers.as_bytes()).unwrap();
+    assert_eq!(outcome, Outcome::Agree { records: 3 });
+    assert!(table(&rows, &outcome).starts_with("the same, over 3 records\n"));
+    assert!(!table(&rows, &outcome).contains("\n!"));
+    let wrong = answers.replace("ready 5", "ready 6");
+    let (rows, outcome) = aside(&day, wrong.as_bytes()).unwrap();
+    let shown = table(&rows, &outcome);
+    assert!(shown.starts_with("they differ first at record 2 (pop)"));
+    assert_eq!(shown.matches("\n! 2  pop").count(), 1);
 }
 
 #[test]

@@ -58,6 +58,7 @@ pub fn assemble(text: &str) -> Result<Vec<u8>, String> {
                 rows[kind].extend(bytes);
             }),
             None if name == "image" => match rest {
+                [] => Some(whole = Some(Vec::new())),
                 [hex] => raw(hex).map(|bytes| whole = Some(bytes)),
                 _ => None,
             },
@@ -86,6 +87,27 @@ pub fn lines_of(day: &[u8]) -> Vec<String> {
         });
     }
     lines
+}
+
+/// The same, with each row's and record's number in a comment: rows by their kind from 0, records from 1.
+pub fn numbered_lines_of(day: &[u8]) -> Vec<String> {
+    let mut counts = [0; ROWS.len()];
+    let mut records = 0;
+    let number = |line: String| {
+        let name = line.split(' ').next().unwrap_or("");
+        match ROWS.iter().position(|row| row.0 == name) {
+            Some(kind) => {
+                counts[kind] += 1;
+                format!("{line}  # {name} {}", counts[kind] - 1)
+            }
+            None if name == "image" => line,
+            None => {
+                records += 1;
+                format!("{line}  # {records}")
+            }
+        }
+    };
+    lines_of(day).into_iter().map(number).collect()
 }
 
 /// The rows of an image of version 1 that they fill exactly, right or wrong.
