@@ -12,8 +12,8 @@ use crate::text;
 
 const MINUTE: f64 = 60e9;
 /// Width and height of the picture, and of its margins: left, top, right, bottom.
-const SIZE: (f64, f64) = (960.0, 640.0);
-const MARGINS: (f64, f64, f64, f64) = (64.0, 132.0, 24.0, 128.0);
+const SIZE: (f64, f64) = (960.0, 672.0);
+const MARGINS: (f64, f64, f64, f64) = (64.0, 164.0, 24.0, 128.0);
 /// One colour for each drawn scope, and that of what is held back or dropped.
 const COLOURS: [&str; 4] = ["#1a5fa8", "#b45a00", "#2e7d32", "#6a3d9a"];
 const ALARM: &str = "#c01818";
@@ -482,7 +482,7 @@ fn grid(out: &mut String, run: &Run) {
         );
         put!(
             out,
-            "<text transform=\"translate({:.1} {:.1}) rotate(-32)\" font-size=\"11\">{}</text>",
+            "<text transform=\"translate({:.1} {:.1}) rotate(-42)\" font-size=\"11\">{}</text>",
             x(run, turn.at),
             top - 10.0,
             turn.words
