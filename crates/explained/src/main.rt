@@ -2,7 +2,7 @@
 // the line that the bench answers, and what stands after, a fact a line, as numbers. Folder words makes words and pictures of them.
 ghost use mathlib.Core.Path.{_≡_};
 ghost use mathlib.Core.Bool.{true};
-ghost use Prim.Native.Nat.{_≤_};
+ghost use Prim.Native.Nat.{_<_, _≤_};
 ghost use lib.ListN.{length};
 ghost use Rattle.machine.specs.State.{mostWaiting};
 ghost use Rattle.records.specs.Records.{mostKeys};
@@ -31,27 +31,98 @@ const LENGTH: usize = gate_day::IMAGE_LENGTH_BYTES;
 
 // ---- lines
 
-fn say(name: &[u8], words: &[u64]) {
-    let mut line = io::buffer();
+// The lines on their way out: as many bytes as there is room for, then they go.
+const ROOM: usize = 8192;
+
+// A line of facts has fewer.
+const LINE: usize = 256;
+
+// The desk: how many bytes are on their way, then the offsets whose times this record has told, each in the cell that its remainder gives.
+const CELLS: usize = 64;
+
+const TIMES: u64 = 61;
+
+type Out = [u8; ROOM];
+
+type Desk = [u64; CELLS];
+
+fn filled(desk: &Desk) -> usize
+    ensures { λ r. ⌜ r ≤ 8192 ⌝ }
+{
+    let n = desk[0] as usize;
+    if n < ROOM {
+        return n;
+    }
+    ROOM
+}
+
+// All that is on its way goes out.
+fn flush(out: &Out, desk: &mut Desk) {
+    let n = filled(desk);
+    let mut chunk = [0u8; ROOM];
+    let mut i: usize = 0;
+    while i < n {
+        chunk[i] = out[i];
+        i += 1;
+    }
+    io::write_all(STDOUT_FILENO, &chunk[..n]);
+    desk[0] = 0;
+}
+
+// Bytes behind those that are on their way.
+fn put(out: &mut Out, desk: &mut Desk, bytes: &[u8]) {
+    let start = filled(desk);
+    if ROOM - start < bytes.len() {
+        flush(out, desk);
+    }
+    let mut at = filled(desk);
+    let mut i: usize = 0;
+    while i < bytes.len() {
+        if ROOM <= at {
+            break;
+        }
+        out[at] = bytes[i];
+        at += 1;
+        i += 1;
+    }
+    desk[0] = at as u64;
+}
+
+fn say(out: &mut Out, desk: &mut Desk, name: &[u8], words: &[u64]) {
+    let mut line = [0u8; LINE];
     let n = facts::write_fact(&mut line, name, words);
-    io::write_all(STDOUT_FILENO, &line[..n]);
+    put(out, desk, &line[..n]);
 }
 
-fn say_two(name: &[u8], first: u64, second: u64) {
+fn say_two(out: &mut Out, desk: &mut Desk, name: &[u8], first: u64, second: u64) {
     let words = [first, second];
-    say(name, &words);
+    say(out, desk, name, &words);
 }
 
-// An offset's hours, minutes, seconds and nanoseconds.
-fn say_time(offset: u64) {
+// An offset's hours, minutes, seconds and nanoseconds, once a record; that of zero need not be told.
+fn say_time(out: &mut Out, desk: &mut Desk, offset: u64) {
+    let cell = (offset % TIMES) as usize + 1;
+    if desk[cell] == offset {
+        return;
+    }
+    desk[cell] = offset;
     let words = facts::time_words(offset);
-    say(b"time", &words);
+    say(out, desk, b"time", &words);
+}
+
+// No time is told yet.
+fn forget_times(desk: &mut Desk) {
+    let mut i: usize = 1;
+    while i < CELLS {
+        desk[i] = 0;
+        i += 1;
+    }
 }
 
 // The bench's line, behind a word.
-fn say_answer(line: &[u8]) {
-    io::write_all(STDOUT_FILENO, b"answer ");
-    io::write_all(STDOUT_FILENO, line);
+fn say_answer(out: &mut Out, desk: &mut Desk, line: &[u8]) {
+    put(out, desk, b"answer ");
+    put(out, desk, line);
 }
 
 fn wide(key: u16) -> u64 {
@@ -60,35 +131,56 @@ fn wide(key: u16) -> u64 {
 
 // ---- the table
 
-// Row i of the kind k; of a timer its time too.
-fn say_row(image: &[u8], k: u8, i: u16) {
+// Four bytes read the other way round.
+fn half_turned(n: u64) -> u64
+    ensures { λ r. ⌜ r < 4294967296 ⌝ }
+{
+    let lowest = n % 256;
+    let second = n / 256 % 256;
+    let third = n / 65536 % 256;
+    let highest = n / 16777216 % 256;
+    ((lowest * 256 + second) * 256 + third) * 256 + highest
+}
+
+// The eight bytes of an offset read the other way round.
+fn turned(offset: u64) -> u64 {
+    let high = half_turned(offset);
+    let low = half_turned(offset / 4294967296);
+    high * 4294967296 + low
+}
+
+// Row i of the kind k; of a timer its time too, also as it were with its lowest byte first.
+fn say_row(out: &mut Out, desk: &mut Desk, image: &[u8], k: u8, i: u16) {
     let words = faults::row_words(image, k, i);
-    say(b"row", &words);
+    say(out, desk, b"row", &words);
     if k == rows::TIMER {
         let offset = rows::timer_offset(image, i);
-        say_time(offset);
+        say_time(out, desk, offset);
+        let other = turned(offset);
+        say_two(out, desk, b"turned", i as u64, other);
+        say_time(out, desk, other);
     }
 }
 
-fn say_rows_of(image: &[u8], k: u8) {
+fn say_rows_of(out: &mut Out, desk: &mut Desk, image: &[u8], k: u8) {
     let total = rows::count(image, k);
     let mut i: u16 = 0;
     while i < total {
-        say_row(image, k, i);
+        say_row(out, desk, image, k, i);
         i += 1;
     }
 }
 
-fn say_rows(image: &[u8]) {
+fn say_rows(out: &mut Out, desk: &mut Desk, image: &[u8]) {
     let mut k: u8 = 0;
     while k < rows::KINDS {
-        say_rows_of(image, k);
+        say_rows_of(out, desk, image, k);
         k += 1;
     }
 }
 
 // A kind's count, its least and most, and where it stands.
-fn say_count(image: &[u8], k: u8) {
+fn say_count(out: &mut Out, desk: &mut Desk, image: &[u8], k: u8) {
     let total = rows::count(image, k);
     let kind = rows::kind_at(k);
     let at = rows::count_place(k);
@@ -99,96 +191,100 @@ fn say_count(image: &[u8], k: u8) {
         kind.most as u64,
         at as u64,
     ];
-    say(b"count", &words);
+    say(out, desk, b"count", &words);
 }
 
-fn say_counts(image: &[u8]) {
+fn say_counts(out: &mut Out, desk: &mut Desk, image: &[u8]) {
     let mut k: u8 = 0;
     while k < rows::KINDS {
-        say_count(image, k);
+        say_count(out, desk, image, k);
         k += 1;
     }
 }
 
 // The bytes of row i of the kind k, with their places.
-fn say_bytes(image: &[u8], k: u8, i: u16) {
+fn say_bytes(out: &mut Out, desk: &mut Desk, image: &[u8], k: u8, i: u16) {
     let start = rows::row_place(image, k, i);
     let kind = rows::kind_at(k);
     let end = start + kind.width;
     let mut at = start;
     while at < end {
         let byte = rows::one_byte(image, at);
-        say_two(b"byte", at as u64, byte as u64);
+        say_two(out, desk, b"byte", at as u64, byte as u64);
         at += 1;
     }
 }
 
 // The first row that breaks a rule, and which.
-fn say_fault(image: &[u8]) {
+fn say_fault(out: &mut Out, desk: &mut Desk, image: &[u8]) {
     let k = faults::bad_kind(image);
     let i = table::bad_row(image, k);
     let words = faults::fault_words(image, k, i);
-    say(b"fault", &words);
-    say_row(image, k, i);
-    say_bytes(image, k, i);
+    say(out, desk, b"fault", &words);
+    say_row(out, desk, image, k, i);
+    say_bytes(out, desk, image, k, i);
 }
 
 // Why the image is refused: which of the check's steps, and what it looked at.
-fn say_refusal(image: &[u8], refusal: ImageRefusal) {
-    let said = rows::four_bytes(image, 0);
-    say_two(b"image", said as u64, image.len() as u64);
+fn say_refusal(out: &mut Out, desk: &mut Desk, image: &[u8], refusal: ImageRefusal) {
     match refusal {
-        ImageRefusal::Length => say_two(b"refusal", 1, 0),
+        ImageRefusal::Length => say_two(out, desk, b"refusal", 1, 0),
         ImageRefusal::Version => {
             let version = rows::one_byte(image, LENGTH);
-            say_two(b"refusal", 2, version as u64);
+            say_two(out, desk, b"refusal", 2, version as u64);
         }
-        ImageRefusal::Short => say_two(b"refusal", 3, 0),
+        ImageRefusal::Short => say_two(out, desk, b"refusal", 3, 0),
         ImageRefusal::Count(at) => {
-            say_counts(image);
-            say_two(b"refusal", 4, at as u64);
+            say_counts(out, desk, image);
+            say_two(out, desk, b"refusal", 4, at as u64);
         }
         ImageRefusal::Unfilled => {
-            say_counts(image);
+            say_counts(out, desk, image);
             let end = rows::place(image, rows::KINDS);
-            say_two(b"refusal", 5, end as u64);
+            say_two(out, desk, b"refusal", 5, end as u64);
         }
         ImageRefusal::Row(at) => {
-            say_counts(image);
-            say_fault(image);
-            say_two(b"refusal", 6, at as u64);
+            say_counts(out, desk, image);
+            say_fault(out, desk, image);
+            say_two(out, desk, b"refusal", 6, at as u64);
         }
     }
 }
 
+// The same, and no more follows.
+fn say_refused(out: &mut Out, desk: &mut Desk, image: &[u8], refusal: ImageRefusal) {
+    say_refusal(out, desk, image, refusal);
+    flush(out, desk);
+}
+
 // The line of the table's check.
-fn say_table(checked: Checked) {
+fn say_table(out: &mut Out, desk: &mut Desk, checked: Checked) {
     let mut line = io::buffer();
     let n = lines::write_table(&mut line, 0, checked);
-    say_answer(&line[..n]);
+    say_answer(out, desk, &line[..n]);
 }
 
 // ---- the state
 
-fn say_scope(scopes: &[u64; scopes::ROOM], i: u16) {
+fn say_scope(out: &mut Out, desk: &mut Desk, scopes: &[u64; scopes::ROOM], i: u16) {
     let words = facts::scope_words(scopes, i);
-    say(b"scope", &words);
-    say_time(words[4]);
-    say_time(words[6]);
-    say_time(words[8]);
+    say(out, desk, b"scope", &words);
+    say_time(out, desk, words[4]);
+    say_time(out, desk, words[6]);
+    say_time(out, desk, words[8]);
 }
 
-fn say_scopes(image: &[u8], scopes: &[u64; scopes::ROOM]) {
+fn say_scopes(out: &mut Out, desk: &mut Desk, image: &[u8], scopes: &[u64; scopes::ROOM]) {
     let total = rows::count(image, rows::SCOPE);
     let mut i: u16 = 0;
     while i < total {
-        say_scope(scopes, i);
+        say_scope(out, desk, scopes, i);
         i += 1;
     }
 }
 
 // Each reactor's current mode.
-fn say_modes(image: &[u8], modes: &[u16; plan::MOST_REACTORS]) {
+fn say_modes(out: &mut Out, desk: &mut Desk, image: &[u8], modes: &[u16; plan::MOST_REACTORS]) {
     let total = rows::count(image, rows::REACTOR) as usize;
     let mut i: usize = 0;
     while i < plan::MOST_REACTORS {
@@ -196,29 +292,46 @@ fn say_modes(image: &[u8], modes: &[u16; plan::MOST_REACTORS]) {
         let reactor = i;
         i += 1;
         if reactor < total {
-            say_two(b"mode", reactor as u64, mode);
+            say_two(out, desk, b"mode", reactor as u64, mode);
         }
     }
 }
 
 // A tag of a queue, its image, and whether it is held back.
-fn say_place(name: &[u8], scopes: &[u64; scopes::ROOM], queue: u16, offset: u64, microstep: u32) {
+fn say_place(
+    out: &mut Out,
+    desk: &mut Desk,
+    name: &[u8],
+    scopes: &[u64; scopes::ROOM],
+    queue: u16,
+    offset: u64,
+    microstep: u32,
+) {
     let words = facts::place_words(scopes, queue, offset, microstep);
-    say(name, &words);
-    say_time(words[1]);
-    say_time(words[5]);
+    say(out, desk, name, &words);
+    say_time(out, desk, words[1]);
+    say_time(out, desk, words[5]);
 }
 
 // The least tag of a queue, which has the entry k.
-fn say_queue(scopes: &[u64; scopes::ROOM], heads: &[u64; queue::HEADS], queue: u16, k: usize) {
+fn say_queue(
+    out: &mut Out,
+    desk: &mut Desk,
+    scopes: &[u64; scopes::ROOM],
+    heads: &[u64; queue::HEADS],
+    queue: u16,
+    k: usize,
+) {
     match queue::least_at(heads, k) {
         Earliest::Nothing => {}
-        Earliest::At(t) => say_place(b"queue", scopes, queue, t.0, t.1),
+        Earliest::At(t) => say_place(out, desk, b"queue", scopes, queue, t.0, t.1),
     }
 }
 
 // The least tag of every queue that has one.
 fn say_queues(
+    out: &mut Out,
+    desk: &mut Desk,
     image: &[u8],
     scopes: &[u64; scopes::ROOM],
     events: &[u64; slots::ROOM],
@@ -227,11 +340,11 @@ fn say_queues(
     requires { ⌜ waiting ≤ mostWaiting ⌝ }
 {
     let heads = queue::heads(events, waiting);
-    say_queue(scopes, &heads, slots::NONE, scopes::MOST_SCOPES);
+    say_queue(out, desk, scopes, &heads, slots::NONE, scopes::MOST_SCOPES);
     let total = rows::count(image, rows::SCOPE);
     let mut i: u16 = 0;
     while i < total {
-        say_queue(scopes, &heads, i, i as usize);
+        say_queue(out, desk, scopes, &heads, i, i as usize);
         i += 1;
     }
 }
@@ -274,6 +387,8 @@ fn scope_head(
 
 // The events at a head are told and taken out; how many are left.
 fn take(
+    out: &mut Out,
+    desk: &mut Desk,
     scopes: &[u64; scopes::ROOM],
     events: &mut [u64; slots::ROOM],
     waiting: usize,
@@ -284,7 +399,7 @@ fn take(
     ensures { λ r. ⌜ Whole (now (events .exit)) × (r ≤ mostWaiting) ⌝ }
 {
     let stamp = h.stamp;
-    say_place(b"take", scopes, h.queue, stamp.0, stamp.1);
+    say_place(out, desk, b"take", scopes, h.queue, stamp.0, stamp.1);
     let none = KeySet::empty();
     let which = Which {
         by_tag: true,
@@ -298,6 +413,8 @@ fn take(
 
 // The root's events at t if its head is t.
 fn take_root(
+    out: &mut Out,
+    desk: &mut Desk,
     scopes: &[u64; scopes::ROOM],
     events: &mut [u64; slots::ROOM],
     waiting: usize,
@@ -312,7 +429,7 @@ fn take_root(
         Head::At(h) => {
             let g = h.tag;
             if g.same(t) {
-                take(scopes, events, waiting, h)
+                take(out, desk, scopes, events, waiting, h)
             } else {
                 waiting
             }
@@ -322,6 +439,8 @@ fn take_root(
 
 // While the least scope head is t, all events at that head.
 fn take_scopes(
+    out: &mut Out,
+    desk: &mut Desk,
     image: &[u8],
     scopes: &[u64; scopes::ROOM],
     events: &mut [u64; slots::ROOM],
@@ -342,7 +461,7 @@ fn take_scopes(
             Head::At(h) => {
                 let g = h.tag;
                 if g.same(t) {
-                    left = take(scopes, events, left, h);
+                    left = take(out, desk, scopes, events, left, h);
                 } else {
                     return;
                 }
@@ -352,31 +471,31 @@ fn take_scopes(
 }
 
 // What a pop takes, in its own order.
-fn say_sources(image: &[u8], day: Day, t: GlobalTag)
+fn say_sources(out: &mut Out, desk: &mut Desk, image: &[u8], day: Day, t: GlobalTag)
     requires { ⌜ Kept (now image) day ⌝ }
 {
     let scopes = day.scopes;
     let mut events = day.events;
     let counts = day.counts;
     let waiting = counts.waiting;
-    let left = take_root(&scopes, &mut events, waiting, t);
-    take_scopes(image, &scopes, &mut events, left, t);
+    let left = take_root(out, desk, &scopes, &mut events, waiting, t);
+    take_scopes(out, desk, image, &scopes, &mut events, left, t);
 }
 
 // What a pop finds.
-fn say_pop(image: &[u8], day: Day)
+fn say_pop(out: &mut Out, desk: &mut Desk, image: &[u8], day: Day)
     requires { ⌜ Kept (now image) day ⌝ }
 {
     let scopes = day.scopes;
     let events = day.events;
     let counts = day.counts;
     let waiting = counts.waiting;
-    say_queues(image, &scopes, &events, waiting);
+    say_queues(out, desk, image, &scopes, &events, waiting);
     match peek(image, &scopes, &events, waiting) {
         Head::Empty => {}
         Head::At(h) => {
             let t = h.tag;
-            say_sources(image, day, t);
+            say_sources(out, desk, image, day, t);
         }
     }
 }
@@ -406,57 +525,65 @@ fn keys_end(parsed: Parsed) -> usize
     records::MOST_KEYS
 }
 
-fn say_call(parsed: Parsed) {
+fn say_call(out: &mut Out, desk: &mut Desk, parsed: Parsed) {
     let words = facts::call_words(parsed);
-    say(b"call", &words);
-    say_time(words[4]);
+    say(out, desk, b"call", &words);
+    say_time(out, desk, words[4]);
 }
 
 // The reactions named.
-fn say_keys(keys: &[u16]) {
+fn say_keys(out: &mut Out, desk: &mut Desk, keys: &[u16]) {
     let mut i: usize = 0;
     while i < keys.len() {
         let key = wide(keys[i]);
-        say_two(b"key", i as u64, key);
+        say_two(out, desk, b"key", i as u64, key);
         i += 1;
     }
 }
 
 // The first key that the table lacks.
-fn say_lack(image: &[u8], parsed: Parsed, keys: &[u16]) {
+fn say_lack(out: &mut Out, desk: &mut Desk, image: &[u8], parsed: Parsed, keys: &[u16]) {
     let words = facts::lacking(image, parsed, keys);
-    say(b"lacks", &words);
+    if words[0] == 1 {
+        say(out, desk, b"lacks", &words);
+    }
 }
 
 // What a record asks.
-fn say_asked(image: &[u8], body: &[u8]) -> Parsed {
+fn say_asked(out: &mut Out, desk: &mut Desk, image: &[u8], body: &[u8]) -> Parsed {
     let mut keys = [0u16; records::MOST_KEYS];
     let parsed = records::parse(body, &mut keys);
     let n = keys_end(parsed);
-    say_call(parsed);
-    say_keys(&keys[..n]);
-    say_lack(image, parsed, &keys[..n]);
+    say_call(out, desk, parsed);
+    say_keys(out, desk, &keys[..n]);
+    say_lack(out, desk, image, parsed, &keys[..n]);
     parsed
 }
 
 // A global tag on a scope's scale.
-fn say_local(scopes: &[u64; scopes::ROOM], i: u16, t: GlobalTag) {
+fn say_local(out: &mut Out, desk: &mut Desk, scopes: &[u64; scopes::ROOM], i: u16, t: GlobalTag) {
     let words = facts::local_words(scopes, i, t);
-    say(b"local", &words);
-    say_time(words[2]);
+    say(out, desk, b"local", &words);
+    say_time(out, desk, words[2]);
 }
 
-fn say_locals(image: &[u8], scopes: &[u64; scopes::ROOM], t: GlobalTag) {
+fn say_locals(
+    out: &mut Out,
+    desk: &mut Desk,
+    image: &[u8],
+    scopes: &[u64; scopes::ROOM],
+    t: GlobalTag,
+) {
     let total = rows::count(image, rows::SCOPE);
     let mut i: u16 = 0;
     while i < total {
-        say_local(scopes, i, t);
+        say_local(out, desk, scopes, i, t);
         i += 1;
     }
 }
 
 // What stands before a record that depends on it.
-fn say_before(image: &[u8], day: Day, parsed: Parsed)
+fn say_before(out: &mut Out, desk: &mut Desk, image: &[u8], day: Day, parsed: Parsed)
     requires { ⌜ Kept (now image) day ⌝ }
 {
     let scopes = day.scopes;
@@ -466,28 +593,28 @@ fn say_before(image: &[u8], day: Day, parsed: Parsed)
         Parsed::Control(_) => {}
         Parsed::Action(action, t, _, _) => {
             let i = rows::action_scope(image, action);
-            say_local(&scopes, i, t);
+            say_local(out, desk, &scopes, i, t);
         }
-        Parsed::Transition(_, _, _, t) => say_locals(image, &scopes, t),
-        Parsed::Pop => say_pop(image, day),
+        Parsed::Transition(_, _, _, t) => say_locals(out, desk, image, &scopes, t),
+        Parsed::Pop => say_pop(out, desk, image, day),
         Parsed::Malformed => {}
     }
 }
 
 // The event that was accepted last.
-fn say_last(day: Day) {
+fn say_last(out: &mut Out, desk: &mut Desk, day: Day) {
     let scopes = day.scopes;
     let events = day.events;
     let counts = day.counts;
     let waiting = counts.waiting;
     if 0 < waiting {
         let s = slots::slot_at(&events, waiting - 1);
-        say_place(b"into", &scopes, s.queue, s.offset, s.microstep);
+        say_place(out, desk, b"into", &scopes, s.queue, s.offset, s.microstep);
     }
 }
 
 // Modes, scopes and the least tag of every queue.
-fn say_turned(image: &[u8], day: Day)
+fn say_turned(out: &mut Out, desk: &mut Desk, image: &[u8], day: Day)
     requires { ⌜ Kept (now image) day ⌝ }
 {
     let modes = day.modes;
@@ -495,13 +622,13 @@ fn say_turned(image: &[u8], day: Day)
     let events = day.events;
     let counts = day.counts;
     let waiting = counts.waiting;
-    say_modes(image, &modes);
-    say_scopes(image, &scopes);
-    say_queues(image, &scopes, &events, waiting);
+    say_modes(out, desk, image, &modes);
+    say_scopes(out, desk, image, &scopes);
+    say_queues(out, desk, image, &scopes, &events, waiting);
 }
 
 // How many events wait, how many of them are ordinary, how many values and buckets are held.
-fn say_held(day: Day) {
+fn say_held(out: &mut Out, desk: &mut Desk, day: Day) {
     let counts = day.counts;
     let held = day.held;
     let words = [
@@ -510,61 +637,107 @@ fn say_held(day: Day) {
         held.values as u64,
         held.buckets as u64,
     ];
-    say(b"held", &words);
+    say(out, desk, b"held", &words);
 }
 
 // What stands after a record that changes it.
-fn say_after(image: &[u8], day: Day, parsed: Parsed)
+fn say_after(out: &mut Out, desk: &mut Desk, image: &[u8], day: Day, parsed: Parsed)
     requires { ⌜ Kept (now image) day ⌝ }
 {
-    say_held(day);
+    say_held(out, desk, day);
     match parsed {
-        Parsed::Plain(_, _, _) => say_last(day),
-        Parsed::Network(_, _) => say_last(day),
-        Parsed::Control(_) => say_last(day),
-        Parsed::Action(_, _, _, _) => say_last(day),
-        Parsed::Transition(_, _, _, _) => say_turned(image, day),
+        Parsed::Plain(_, _, _) => say_last(out, desk, day),
+        Parsed::Network(_, _) => say_last(out, desk, day),
+        Parsed::Control(_) => say_last(out, desk, day),
+        Parsed::Action(_, _, _, _) => say_last(out, desk, day),
+        Parsed::Transition(_, _, _, _) => say_turned(out, desk, image, day),
         Parsed::Pop => {}
         Parsed::Malformed => {}
     }
 }
 
 // How many bytes a record has, its length included, its version and its op, whatever they are.
-fn say_record(bytes: &[u8]) {
+fn say_record(out: &mut Out, desk: &mut Desk, bytes: &[u8]) {
     let version = rows::one_byte(bytes, LENGTH);
     let op = rows::one_byte(bytes, LENGTH + 1);
     let words = [bytes.len() as u64, version as u64, op as u64];
-    say(b"record", &words);
+    say(out, desk, b"record", &words);
+}
+
+fn begin_record(out: &mut Out, desk: &mut Desk, bytes: &[u8]) {
+    forget_times(desk);
+    say_record(out, desk, bytes);
+}
+
+// The end of a record's facts; they go out before the next record is waited for.
+fn say_end(out: &mut Out, desk: &mut Desk) {
+    put(out, desk, b"end\n");
+    flush(out, desk);
 }
 
 // One record, its length included: what it asks, its line, and the day after it.
-fn tell(image: &[u8], day: Day, bytes: &[u8]) -> Day
+fn tell(out: &mut Out, desk: &mut Desk, image: &[u8], day: Day, bytes: &[u8]) -> Day
     requires { ⌜ Kept (now image) day ⌝ }
     requires { ⌜ 4 ≤ length (now bytes) ⌝ }
     ensures { λ r. ⌜ Kept (now (image .entry)) r ⌝ }
 {
-    say_record(bytes);
-    let parsed = say_asked(image, &bytes[LENGTH..]);
-    say_before(image, day, parsed);
+    begin_record(out, desk, bytes);
+    let parsed = say_asked(out, desk, image, &bytes[LENGTH..]);
+    say_before(out, desk, image, day, parsed);
     let mut output = io::buffer();
     let piece = gate_day::run_records(image, day, bytes, &mut output);
     let after = piece.day;
     let written = piece.written;
-    say_answer(&output[..written]);
-    say_after(image, after, parsed);
+    say_answer(out, desk, &output[..written]);
+    say_after(out, desk, image, after, parsed);
+    say_end(out, desk);
     after
 }
 
+// How many bytes of standard input are left.
+fn rest() -> u64 {
+    let mut total: u64 = 0;
+    let mut turns: u64 = 1000000000000;
+    while 0 < turns {
+        turns -= 1;
+        let mut space = io::large_buffer();
+        let got = io::read_full(STDIN_FILENO, &mut space);
+        if got == 0 {
+            return total;
+        }
+        total += bounded(got);
+    }
+    total
+}
+
+// No more than a buffer has.
+fn bounded(n: usize) -> u64
+    ensures { λ r. ⌜ r ≤ 65536 ⌝ }
+{
+    if n < 65536 {
+        return n as u64;
+    }
+    65536
+}
+
+// How many bytes are not read, and the end.
+fn end_run(out: &mut Out, desk: &mut Desk) {
+    let left = rest();
+    say_two(out, desk, b"unread", left, 0);
+    say_end(out, desk);
+}
+
 // A record that ends the run: how many bytes its length says, and how many there are.
-fn say_cut(said: u64, there: u64) {
-    say_two(b"cut", said, there);
+fn say_cut(out: &mut Out, desk: &mut Desk, said: u64, there: u64) {
+    say_two(out, desk, b"cut", said, there);
     let mut line = io::buffer();
     let n = lines::write_refused(&mut line, 0, 1);
-    say_answer(&line[..n]);
+    say_answer(out, desk, &line[..n]);
+    end_run(out, desk);
 }
 
 // The next record over the front of the space; how many bytes it has, or 0 where the run ends.
-fn read_record(space: &mut [u8]) -> usize
+fn read_record(out: &mut Out, desk: &mut Desk, space: &mut [u8]) -> usize
     requires { ⌜ 4096 ≤ length (now space) ⌝ }
     ensures { λ r. ⌜ (r ≤ length (now (space .exit))) × (length (now (space .exit)) ≡ length (now (space .entry))) ⌝ }
 {
@@ -573,92 +746,111 @@ fn read_record(space: &mut [u8]) -> usize
         return 0;
     }
     if got < LENGTH {
-        say_cut(0, got as u64);
+        say_cut(out, desk, 0, got as u64);
         return 0;
     }
     let n = rows::four_bytes(space, 0) as usize;
     if records::MOST_BYTES < n {
-        say_cut(n as u64, 0);
+        say_cut(out, desk, n as u64, 0);
         return 0;
     }
     let end = LENGTH + n;
     let more = io::read_full(STDIN_FILENO, &mut space[LENGTH..end]);
     if more < n {
-        say_cut(n as u64, more as u64);
+        say_cut(out, desk, n as u64, more as u64);
         return 0;
     }
     end
 }
 
+// What stands before the first record.
+fn say_start(out: &mut Out, desk: &mut Desk, image: &[u8], day: Day)
+    requires { ⌜ Kept (now image) day ⌝ }
+{
+    say_turned(out, desk, image, day);
+    put(out, desk, b"records\n");
+    flush(out, desk);
+}
+
 // The records, one after another.
-fn run(image: &[u8])
+fn run(out: &mut Out, desk: &mut Desk, image: &[u8])
     requires { ⌜ isTable (now image) ≡ true ⌝ }
 {
     let mut day = gate_day::start(image);
-    say_turned(image, day);
+    say_start(out, desk, image, day);
     let mut input = io::buffer();
     let mut turns: u64 = 1000000000000000;
     while 0 < turns {
         turns -= 1;
-        let end = read_record(&mut input);
+        let end = read_record(out, desk, &mut input);
         if end < LENGTH {
             return;
         }
-        day = tell(image, day, &input[..end]);
+        day = tell(out, desk, image, day, &input[..end]);
     }
 }
 
+// The line of the check, and how many bytes the image says and has.
+fn say_checked(out: &mut Out, desk: &mut Desk, image: &[u8], checked: Checked) {
+    say_table(out, desk, checked);
+    let said = rows::four_bytes(image, 0);
+    say_two(out, desk, b"image", said as u64, image.len() as u64);
+}
+
 // The image, checked, and its rows; or why it is refused.
-fn answer(image: &[u8]) {
+fn answer(out: &mut Out, desk: &mut Desk, image: &[u8]) {
     let checked = table::check(image);
-    say_table(checked);
+    say_checked(out, desk, image, checked);
     match checked {
         Checked::Accepted => {
-            say_counts(image);
-            say_rows(image);
+            say_counts(out, desk, image);
+            say_rows(out, desk, image);
         }
-        Checked::Refused(refusal) => say_refusal(image, refusal),
+        Checked::Refused(refusal) => say_refused(out, desk, image, refusal),
     }
     if table::accepted(image) {
-        run(image);
+        run(out, desk, image);
     }
 }
 
 // An image that is cut short or longer than the largest: how many bytes its length says, and how many there are.
-fn say_no_image(said: u64, there: u64) {
-    say_table(Checked::Refused(ImageRefusal::Length));
-    say_two(b"image", said, there);
-    say_two(b"refusal", 1, 0);
+fn say_no_image(out: &mut Out, desk: &mut Desk, said: u64, there: u64) {
+    say_table(out, desk, Checked::Refused(ImageRefusal::Length));
+    say_two(out, desk, b"image", said, there);
+    say_two(out, desk, b"refusal", 1, 0);
+    flush(out, desk);
 }
 
 // The image by its length, over the front of the space; how many bytes it has, or 0 where it is cut short or longer than the largest.
-fn read_image(space: &mut [u8]) -> usize
+fn read_image(out: &mut Out, desk: &mut Desk, space: &mut [u8]) -> usize
     requires { ⌜ largest ≤ length (now space) ⌝ }
     ensures { λ r. ⌜ r ≤ length (now (space .exit)) ⌝ }
 {
     let got = io::read_full(STDIN_FILENO, &mut space[..LENGTH]);
     if got < LENGTH {
-        say_no_image(0, got as u64);
+        say_no_image(out, desk, 0, got as u64);
         return 0;
     }
     let n = rows::four_bytes(space, 0) as usize;
     if LARGEST - LENGTH < n {
-        say_no_image(n as u64, 0);
+        say_no_image(out, desk, n as u64, 0);
         return 0;
     }
     let end = LENGTH + n;
     let more = io::read_full(STDIN_FILENO, &mut space[LENGTH..end]);
     if more < n {
-        say_no_image(n as u64, more as u64);
+        say_no_image(out, desk, n as u64, more as u64);
         return 0;
     }
     end
 }
 
 fn main() {
+    let mut out = [0u8; ROOM];
+    let mut desk = [0u64; CELLS];
     let mut space = io::buffer();
-    let end = read_image(&mut space);
+    let end = read_image(&mut out, &mut desk, &mut space);
     if 0 < end {
-        answer(&space[..end]);
+        answer(&mut out, &mut desk, &space[..end]);
     }
 }

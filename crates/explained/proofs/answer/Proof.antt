@@ -7,8 +7,8 @@ use Rattle.explained.proofs.answer.Tie as tie
 check-requires : tie.Need-check-requires
 check-requires c κs = search needs
 
-say-table-requires : tie.Need-say-table-requires
-say-table-requires c κs = search needs
+say-checked-requires : tie.Need-say-checked-requires
+say-checked-requires c κs = search needs
 
 enum-told : tie.Need-enum-told
 enum-told c = search needs
@@ -22,14 +22,14 @@ say-rows-requires c κs = search needs
 enum-known-checked : tie.Need-enum-known-checked
 enum-known-checked c = search needs
 
-say-refusal-requires : tie.Need-say-refusal-requires
-say-refusal-requires c κs = search needs
+say-refused-requires : tie.Need-say-refused-requires
+say-refused-requires c κs = search needs
 
 accepted-requires : tie.Need-accepted-requires
 accepted-requires c κs = search needs
 
 run-requires : tie.Need-run-requires
-run-requires c κs = sym (c .before .accepted .ensures) ∙ c .if1 .taken
+run-requires c κs = sym (c .before .before .before .accepted .ensures) ∙ c .before .before .if1 .taken
 
 returns : tie.Need-returns
 returns c = search needs
@@ -42,12 +42,12 @@ answer-spec =
     tie.close
     (tie.spec
     check-requires
-    say-table-requires
+    say-checked-requires
     enum-told
     say-counts-requires
     say-rows-requires
     enum-known-checked
-    say-refusal-requires
+    say-refused-requires
     accepted-requires
     run-requires
     returns

@@ -25,10 +25,13 @@ array-share-prefix-line : tie.Need-array-share-prefix-line
 array-share-prefix-line c = search needs
 
 slice-aggregate-say-answer : tie.Need-slice-aggregate-say-answer
-slice-aggregate-say-answer c = sym (length-take-le _ _ (written-room (c .before .before .write-refused .ensures)))
+slice-aggregate-say-answer c = sym (length-take-le _ _ (written-room (c .before .before .before .before .write-refused .ensures)))
 
 say-answer-requires : tie.Need-say-answer-requires
 say-answer-requires c κs = search needs
+
+end-run-requires : tie.Need-end-run-requires
+end-run-requires c κs = search needs
 
 returns : tie.Need-returns
 returns c = search needs
@@ -45,4 +48,5 @@ say-cut-spec =
     array-share-prefix-line
     slice-aggregate-say-answer
     say-answer-requires
+    end-run-requires
     returns)

@@ -6,8 +6,8 @@ use borrow.Author.Needs.{needs}
 use Rattle.explained.proofs.tell.Statement.{statement}
 use Rattle.explained.proofs.tell.Tie as tie
 
-say-record-requires : tie.Need-say-record-requires
-say-record-requires c κs = search needs
+begin-record-requires : tie.Need-begin-record-requires
+begin-record-requires c κs = search needs
 
 sub-say-asked : tie.Need-sub-say-asked
 sub-say-asked c = search needs
@@ -37,13 +37,16 @@ array-share-prefix-output : tie.Need-array-share-prefix-output
 array-share-prefix-output c = search needs
 
 slice-aggregate-say-answer : tie.Need-slice-aggregate-say-answer
-slice-aggregate-say-answer c = sym (length-take-le _ _ (written-room (c .before .before .before .run-records .ensures .1 .lines)))
+slice-aggregate-say-answer c = sym (length-take-le _ _ (written-room (c .before .before .before .before .before .run-records .ensures .1 .lines)))
 
 say-answer-requires : tie.Need-say-answer-requires
 say-answer-requires c κs = search needs
 
 say-after-requires : tie.Need-say-after-requires
 say-after-requires c κs = search needs
+
+say-end-requires : tie.Need-say-end-requires
+say-end-requires c κs = search needs
 
 returns : tie.Need-returns
 returns c = search needs
@@ -52,7 +55,7 @@ pub tell-spec : {M : Type 1} → statement M
 tell-spec =
     tie.close
     (tie.spec
-    say-record-requires
+    begin-record-requires
     sub-say-asked
     part-say-asked-start
     part-say-asked-end
@@ -65,4 +68,5 @@ tell-spec =
     slice-aggregate-say-answer
     say-answer-requires
     say-after-requires
+    say-end-requires
     returns)

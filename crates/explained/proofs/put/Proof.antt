@@ -1,0 +1,71 @@
+-- `explained::put` is safe and ends. Assumes nothing.
+use borrow.Author.Needs.{needs}
+use Prim.Native.Nat.{_-_, _≤_}
+use lib.ListN.{length}
+use Rattle.explained.proofs.put.Statement.{statement}
+use Rattle.explained.proofs.put.Tie as tie
+
+abbrev Inv-loop : tie.InvT-loop
+Inv-loop out₀ desk bytes start at₀ i₀ out at i = i ≤ length bytes
+
+abbrev μ-loop : tie.MeasureT-loop
+μ-loop out₀ desk bytes start at₀ i₀ out at i = length bytes - i
+
+filled-requires : tie.Need-filled-requires Inv-loop μ-loop
+filled-requires c κs = search needs
+
+sub-if1 : tie.Need-sub-if1 Inv-loop μ-loop
+sub-if1 c = search needs
+
+flush-requires : tie.Need-flush-requires Inv-loop μ-loop
+flush-requires c κs = search needs
+
+filled-requires-2 : tie.Need-filled-requires-2 Inv-loop μ-loop
+filled-requires-2 c κs = search needs
+
+loop-holds : tie.Need-loop-holds Inv-loop μ-loop
+loop-holds c = search needs
+
+shared-slice-read-out : tie.Need-shared-slice-read-out Inv-loop μ-loop
+shared-slice-read-out c = search needs
+
+element-write-out : tie.Need-element-write-out Inv-loop μ-loop
+element-write-out c = search needs
+
+add-at : tie.Need-add-at Inv-loop μ-loop
+add-at c = search needs
+
+add-i : tie.Need-add-i Inv-loop μ-loop
+add-i c = search needs
+
+loop-less : tie.Need-loop-less Inv-loop μ-loop
+loop-less c = search needs
+
+loop-again : tie.Need-loop-again Inv-loop μ-loop
+loop-again c = search needs
+
+element-write-desk : tie.Need-element-write-desk Inv-loop μ-loop
+element-write-desk c = search needs
+
+returns : tie.Need-returns Inv-loop μ-loop
+returns c = search needs
+
+pub put-spec : {M : Type 1} → statement M
+put-spec =
+    tie.close
+    (tie.spec
+    Inv-loop
+    μ-loop
+    filled-requires
+    sub-if1
+    flush-requires
+    filled-requires-2
+    loop-holds
+    shared-slice-read-out
+    element-write-out
+    add-at
+    add-i
+    loop-less
+    loop-again
+    element-write-desk
+    returns)
