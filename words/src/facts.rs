@@ -1,6 +1,6 @@
-//! The fact lines of the proved program `explained`, read into a table and its records. Nothing is computed here.
+//! The fact lines of the proved program `explained`, read as they come: the table, then one record after another. Nothing is computed here but the
+//! place of a record in the file, by adding up the bytes before it.
 
-use std::collections::HashMap;
 use std::io::BufRead;
 
 /// No scope, mode, action or parent; also the root's queue.
@@ -14,6 +14,16 @@ pub struct Time {
     pub minutes: u64,
     pub seconds: u64,
     pub nanoseconds: u64,
+}
+
+impl Time {
+    /// How many of its small units are nothing: 3 for whole hours, 0 where there are nanoseconds.
+    pub fn roundness(&self) -> usize {
+        [self.nanoseconds, self.seconds, self.minutes]
+            .iter()
+            .take_while(|part| **part == 0)
+            .count()
+    }
 }
 
 #[derive(Clone, Copy, PartialEq, Eq, PartialOrd, Ord, Default)]
@@ -57,6 +67,31 @@ pub struct Count {
     pub place: u64,
 }
 
+/// The times that a part of the facts has told.
+#[derive(Default, Clone)]
+pub struct Times(Vec<(u64, Time)>);
+
+impl Times {
+    pub fn get(&self, offset: u64) -> Option<Time> {
+        if offset == 0 {
+            return Some(Time::default());
+        }
+        let found = self.0.iter().rev().find(|told| told.0 == offset);
+        found.map(|told| told.1)
+    }
+
+    /// Those of some offsets alone.
+    fn keep(&mut self, offsets: impl Iterator<Item = u64>, told: &Times) {
+        let kept: Vec<(u64, Time)> = offsets
+            .filter_map(|offset| {
+                let time = told.get(offset).or_else(|| self.get(offset))?;
+                Some((offset, time))
+            })
+            .collect();
+        self.0 = kept;
+    }
+}
+
 /// The image: its rows, or why it is refused.
 #[derive(Default)]
 pub struct Table {
@@ -71,8 +106,11 @@ pub struct Table {
     /// Kind, row, rule, and of a missing key its place in the row and the kind it names.
     pub fault: [u64; 5],
     pub bytes: Vec<u64>,
+    /// Each timer's offset as it were with its lowest byte first.
+    pub turned: Vec<u64>,
     pub modes: Vec<u64>,
     pub scopes: Vec<Scope>,
+    pub times: Times,
 }
 
 impl Table {
@@ -86,24 +124,50 @@ impl Table {
     pub fn total(&self, kind: usize) -> u64 {
         self.counts.get(kind).map_or(0, |count| count.total)
     }
+
+    /// Whether a scope is another or lies under it.
+    pub fn inside(&self, mut scope: u64, outer: u64) -> bool {
+        // a parent is lower than its scope
+        while scope != outer {
+            let parent = self.row(0, scope)[0];
+            if parent >= scope {
+                return false;
+            }
+            scope = parent;
+        }
+        true
+    }
+
+    /// The timers that a transition by reset to a mode starts: their numbers and fields.
+    pub fn started(&self, mode: u64) -> impl Iterator<Item = (u64, [u64; 3])> + '_ {
+        let outer = self.row(2, mode)[0];
+        let timers = self.rows.iter().filter(|row| row.0 == 8);
+        timers
+            .filter(move |row| self.inside(self.row(4, row.2[0])[0], outer))
+            .map(|row| (row.1, row.2))
+    }
 }
 
 /// One record: what it asks, what stood before it, its answer, and what stands after it.
 #[derive(Default)]
 pub struct Record {
+    /// The place of its first byte in the file.
+    pub place: u64,
     pub bytes: u64,
     pub version: u64,
     pub op: u64,
     /// Op or 0, action or reactor, mode, terminal or reset, offset, microstep.
     pub call: [u64; 6],
     pub keys: Vec<u64>,
-    /// Whether a key is lacking, its kind and the key.
-    pub lacks: [u64; 3],
+    /// The kind and the key that is lacking.
+    pub lacks: [u64; 2],
     pub locals: Vec<Local>,
     pub queues: Vec<Place>,
     pub takes: Vec<Place>,
     /// What the length says and how many bytes there are, where the run ends here.
     pub cut: Option<(u64, u64)>,
+    /// How many bytes of the file are not read, from this record on.
+    pub unread: u64,
     pub answer: String,
     /// Events, ordinary ones, values, buckets.
     pub held: [u64; 4],
@@ -111,6 +175,7 @@ pub struct Record {
     pub modes: Vec<u64>,
     pub scopes: Vec<Scope>,
     pub queues_after: Vec<Place>,
+    pub times: Times,
 }
 
 impl Record {
@@ -120,13 +185,49 @@ impl Record {
             microstep: self.call[5],
         }
     }
+
+    pub fn accepted(&self) -> bool {
+        self.answer == "ok"
+    }
+
+    /// An accepted transition: what stands now is other than before.
+    pub fn turns(&self) -> bool {
+        self.call[0] == 5 && self.accepted()
+    }
 }
 
-#[derive(Default)]
-pub struct Day {
-    pub table: Table,
-    pub records: Vec<Record>,
-    pub times: HashMap<u64, Time>,
+/// What stands: modes, scopes, the times of their clocks, and how much is held.
+#[derive(Clone)]
+pub struct State {
+    pub modes: Vec<u64>,
+    pub scopes: Vec<Scope>,
+    pub held: [u64; 4],
+    pub times: Times,
+}
+
+impl State {
+    pub fn of(table: &Table) -> Self {
+        State {
+            modes: table.modes.clone(),
+            scopes: table.scopes.clone(),
+            held: [0; 4],
+            times: table.times.clone(),
+        }
+    }
+
+    /// The state after a record.
+    pub fn follow(&mut self, record: &Record) {
+        self.held = record.held;
+        if record.turns() {
+            self.modes.clone_from(&record.modes);
+            self.scopes.clone_from(&record.scopes);
+            let clocks = record.scopes.iter();
+            let offsets = clocks.flat_map(|scope| {
+                [scope.activation, scope.activation_local, scope.suspended].map(|tag| tag.offset)
+            });
+            self.times.keep(offsets, &record.times);
+        }
+    }
 }
 
 /// The words of a line as numbers; what is missing is 0.
@@ -136,6 +237,18 @@ fn numbers<const N: usize>(words: &[u64]) -> [u64; N] {
 
 fn tag(offset: u64, microstep: u64) -> Tag {
     Tag { offset, microstep }
+}
+
+fn time(words: &[u64]) -> (u64, Time) {
+    let [offset, days, hours, minutes, seconds, nanoseconds] = numbers(words);
+    let time = Time {
+        days,
+        hours,
+        minutes,
+        seconds,
+        nanoseconds,
+    };
+    (offset, time)
 }
 
 fn place(words: &[u64]) -> Place {
@@ -160,98 +273,169 @@ fn scope(words: &[u64]) -> Scope {
     }
 }
 
-/// All fact lines, to their end.
-pub fn read(input: impl BufRead) -> std::io::Result<Day> {
-    let mut day = Day::default();
-    for line in input.lines() {
-        let line = line?;
-        let (name, rest) = line.split_once(' ').unwrap_or((&line, ""));
-        let words: Vec<u64> = rest
-            .split(' ')
-            .filter_map(|word| word.parse().ok())
-            .collect();
-        take(&mut day, name, rest, &words);
-    }
-    Ok(day)
+/// The facts, a part at a time.
+pub struct Facts<R> {
+    input: R,
+    line: Vec<u8>,
+    words: Vec<u64>,
+    /// Where the next record stands in the file.
+    place: u64,
 }
 
-fn take(day: &mut Day, name: &str, rest: &str, words: &[u64]) {
-    match name {
-        "time" => {
-            let [offset, days, hours, minutes, seconds, nanoseconds] = numbers(words);
-            day.times.insert(
-                offset,
-                Time {
-                    days,
-                    hours,
-                    minutes,
-                    seconds,
-                    nanoseconds,
-                },
-            );
+impl<R: BufRead> Facts<R> {
+    pub fn new(input: R) -> Self {
+        Facts {
+            input,
+            line: Vec::new(),
+            words: Vec::new(),
+            place: 0,
         }
-        "record" => {
-            let [bytes, version, op] = numbers(words);
-            day.records.push(Record {
-                bytes,
-                version,
-                op,
-                ..Record::default()
-            });
+    }
+
+    /// The next line into the hand, its numbers taken out; whether there is one.
+    fn next(&mut self) -> std::io::Result<bool> {
+        self.line.clear();
+        if self.input.read_until(b'\n', &mut self.line)? == 0 {
+            return Ok(false);
         }
-        "cut" => {
-            let [said, there] = numbers(words);
-            day.records.push(Record {
-                cut: Some((said, there)),
-                ..Record::default()
-            });
+        if self.line.last() == Some(&b'\n') {
+            self.line.pop();
         }
-        _ => match day.records.last_mut() {
-            Some(record) => take_record(record, name, rest, words),
-            None => take_table(&mut day.table, name, rest, words),
-        },
+        self.words.clear();
+        if !self.line.starts_with(b"answer") {
+            for word in self.line.split(|byte| *byte == b' ').skip(1) {
+                let number = word
+                    .iter()
+                    .fold(0u64, |number, digit| number * 10 + u64::from(digit - b'0'));
+                self.words.push(number);
+            }
+        }
+        Ok(true)
+    }
+
+    fn name(&self) -> &[u8] {
+        let end = self.line.iter().position(|byte| *byte == b' ');
+        &self.line[..end.unwrap_or(self.line.len())]
+    }
+
+    /// What stands behind the name.
+    fn rest(&self) -> String {
+        let start = (self.name().len() + 1).min(self.line.len());
+        String::from_utf8_lossy(&self.line[start..]).into_owned()
+    }
+
+    /// The facts broke off.
+    fn broken() -> std::io::Error {
+        std::io::Error::new(std::io::ErrorKind::UnexpectedEof, "they break off")
+    }
+
+    pub fn table(&mut self) -> std::io::Result<Table> {
+        let mut table = Table::default();
+        while self.next()? {
+            let [first, second, third, fourth, fifth] = numbers(&self.words);
+            match self.name() {
+                b"answer" => table.answer = self.rest(),
+                b"count" => table.counts.push(Count {
+                    total: second,
+                    least: third,
+                    most: fourth,
+                    place: fifth,
+                }),
+                b"row" => table.rows.push((first, second, [third, fourth, fifth])),
+                b"turned" => table.turned.push(second),
+                b"image" => table.image = (first, second),
+                b"refusal" => table.refusal = (first, second),
+                b"fault" => table.fault = numbers(&self.words),
+                b"byte" => table.bytes.push(second),
+                b"mode" => table.modes.push(second),
+                b"scope" => table.scopes.push(scope(&self.words)),
+                b"time" => table.times.0.push(time(&self.words)),
+                b"records" => {
+                    self.place = table.image.1;
+                    return Ok(table);
+                }
+                _ => {}
+            }
+        }
+        // a refused table has no records
+        if table.answer.starts_with("table refused") {
+            return Ok(table);
+        }
+        Err(Self::broken())
+    }
+
+    /// The next record, if there is one.
+    pub fn record(&mut self) -> std::io::Result<Option<Record>> {
+        if !self.next()? {
+            return Ok(None);
+        }
+        let mut record = Record::default();
+        self.begin(&mut record);
+        while self.next()? {
+            if self.name() == b"end" {
+                return Ok(Some(record));
+            }
+            self.take(&mut record);
+        }
+        Err(Self::broken())
+    }
+
+    fn begin(&mut self, record: &mut Record) {
+        record.place = self.place;
+        if self.name() == b"cut" {
+            let [said, there] = numbers(&self.words);
+            record.cut = Some((said, there));
+            return;
+        }
+        [record.bytes, record.version, record.op] = numbers(&self.words);
+        self.place += record.bytes;
+    }
+
+    fn take(&mut self, record: &mut Record) {
+        let words = &self.words;
+        let [first, second, third, fourth] = numbers(words);
+        match self.name() {
+            b"answer" => record.answer = self.rest(),
+            b"time" => record.times.0.push(time(words)),
+            b"call" => record.call = numbers(words),
+            b"key" => record.keys.push(second),
+            b"lacks" => record.lacks = [second, third],
+            b"local" => record.locals.push(Local {
+                scope: first,
+                tag: (second == 1).then(|| tag(third, fourth)),
+            }),
+            b"queue" if record.answer.is_empty() => record.queues.push(place(words)),
+            b"queue" => record.queues_after.push(place(words)),
+            b"take" => record.takes.push(place(words)),
+            b"held" => record.held = numbers(words),
+            b"into" => record.into = Some(place(words)),
+            b"mode" => record.modes.push(second),
+            b"scope" => record.scopes.push(scope(words)),
+            // the bytes that were looked at are not read either: its length's four, where they are there, and its own
+            b"unread" => {
+                let (said, there) = record.cut.unwrap_or_default();
+                record.unread = first + there + if said > 0 { 4 } else { 0 };
+            }
+            _ => {}
+        }
+    }
+
+    /// Whether more facts are at hand without waiting for them.
+    pub fn at_hand(&self) -> bool
+    where
+        R: Buffered,
+    {
+        self.input.holds()
     }
 }
 
-fn take_table(table: &mut Table, name: &str, rest: &str, words: &[u64]) {
-    let [first, second, third, fourth, fifth] = numbers(words);
-    match name {
-        "answer" => table.answer = rest.to_string(),
-        "count" => table.counts.push(Count {
-            total: second,
-            least: third,
-            most: fourth,
-            place: fifth,
-        }),
-        "row" => table.rows.push((first, second, [third, fourth, fifth])),
-        "image" => table.image = (first, second),
-        "refusal" => table.refusal = (first, second),
-        "fault" => table.fault = numbers(words),
-        "byte" => table.bytes.push(second),
-        "mode" => table.modes.push(second),
-        "scope" => table.scopes.push(scope(words)),
-        _ => {}
-    }
+/// A reader that can say whether it holds bytes already.
+pub trait Buffered {
+    fn holds(&self) -> bool;
 }
 
-fn take_record(record: &mut Record, name: &str, rest: &str, words: &[u64]) {
-    let [first, second, third, fourth] = numbers(words);
-    match name {
-        "answer" => record.answer = rest.to_string(),
-        "call" => record.call = numbers(words),
-        "key" => record.keys.push(second),
-        "lacks" => record.lacks = numbers(words),
-        "local" => record.locals.push(Local {
-            scope: first,
-            tag: (second == 1).then(|| tag(third, fourth)),
-        }),
-        "queue" if record.answer.is_empty() => record.queues.push(place(words)),
-        "queue" => record.queues_after.push(place(words)),
-        "take" => record.takes.push(place(words)),
-        "held" => record.held = numbers(words),
-        "into" => record.into = Some(place(words)),
-        "mode" => record.modes.push(second),
-        "scope" => record.scopes.push(scope(words)),
-        _ => {}
+impl<T: std::io::Read> Buffered for std::io::BufReader<T> {
+    fn holds(&self) -> bool {
+        !self.buffer().is_empty()
     }
 }

@@ -1,48 +1,189 @@
-//! words tell: the facts on standard input as words. words draw OUT: the same as a picture.
-//! The facts come from the proved program `explained`; nothing but words and pixels is made here.
+//! words tell [CHOICE..]: the facts on standard input as words, line by line as they come. words draw OUT [CHOICE..]: the same as a picture.
+//! A choice is --from N, --to N (records), --action N or --scope N. The facts come from the proved program `explained`; nothing but words and pixels
+//! is made here. Exit status: 0 told to the end; 1 the table is refused or the day stops early; 2 something cannot be read or written.
 
+mod chosen;
 mod facts;
 mod picture;
 mod words;
 
-use std::io::Write;
+use chosen::Chosen;
+use facts::{Facts, Record, State, Table};
+use std::io::{BufReader, BufWriter, ErrorKind, StdinLock, Write};
 use std::process::ExitCode;
 
-fn told(day: &facts::Day) -> Vec<String> {
-    let mut teller = words::Teller::new(day);
-    let mut lines = teller.table_words();
-    for (n, record) in day.records.iter().enumerate() {
-        lines.push(teller.record_words(n + 1, record));
-    }
-    lines
+type Input = Facts<BufReader<StdinLock<'static>>>;
+
+fn unread(error: std::io::Error) -> String {
+    format!("the facts cannot be read: {error}")
 }
 
-fn run(args: &[String]) -> Result<(), String> {
-    let read = || {
-        facts::read(std::io::stdin().lock())
-            .map_err(|error| format!("the facts cannot be read: {error}"))
+/// What is done with each record that was chosen, and with its words.
+trait Reader {
+    /// What stands before the next line's record.
+    fn before(&mut self, _: &State) {}
+    fn line(&mut self, record: Record, words: String) -> std::io::Result<()>;
+    /// More facts must be waited for.
+    fn pause(&mut self) -> std::io::Result<()>;
+}
+
+/// How the day went: how many records it has, how many were told, and whether it stopped early.
+struct Ran {
+    records: usize,
+    told: usize,
+    stopped: bool,
+}
+
+/// Goes through the records; `None` where the reader has gone away.
+fn run(
+    facts: &mut Input,
+    table: &Table,
+    chosen: &Chosen,
+    reader: &mut impl Reader,
+) -> Result<Option<Ran>, String> {
+    let mut teller = words::Teller::new(table);
+    let mut ran = Ran {
+        records: 0,
+        told: 0,
+        stopped: false,
     };
-    match args {
-        [what] if what == "tell" => {
-            let mut text = told(&read()?).join("\n");
-            text.push('\n');
-            // a reader that has gone away is no fault
-            let _ = std::io::stdout().lock().write_all(text.as_bytes());
-            Ok(())
+    let gone = |error: std::io::Error| match error.kind() {
+        ErrorKind::BrokenPipe => Ok(None),
+        _ => Err(format!("the words cannot be written: {error}")),
+    };
+    loop {
+        if !facts.at_hand() {
+            if let Err(error) = reader.pause() {
+                return gone(error);
+            }
         }
-        [what, out] if what == "draw" => {
-            let day = read()?;
-            std::fs::write(out, picture::drawn(&day, &told(&day)))
-                .map_err(|error| format!("{out} cannot be written: {error}"))
+        let Some(record) = facts.record().map_err(unread)? else {
+            return Ok(Some(ran));
+        };
+        ran.records += 1;
+        ran.stopped = record.cut.is_some();
+        if chosen.has(ran.records, &record, table, &teller.state) {
+            ran.told += 1;
+            let words = teller.record_words(ran.records, &record);
+            reader.before(&teller.state);
+            teller.state.follow(&record);
+            if let Err(error) = reader.line(record, words) {
+                return gone(error);
+            }
+        } else {
+            teller.state.follow(&record);
         }
-        _ => Err("give tell, or draw OUT".to_string()),
     }
+}
+
+/// Standard output, by lines.
+struct Told<W: Write>(W);
+
+impl<W: Write> Reader for Told<W> {
+    fn line(&mut self, _: Record, words: String) -> std::io::Result<()> {
+        self.0.write_all(words.as_bytes())?;
+        self.0.write_all(b"\n")
+    }
+
+    fn pause(&mut self) -> std::io::Result<()> {
+        self.0.flush()
+    }
+}
+
+fn tell(facts: &mut Input, chosen: &Chosen) -> Result<u8, String> {
+    let table = facts.table().map_err(unread)?;
+    let mut out = Told(BufWriter::with_capacity(1 << 16, std::io::stdout().lock()));
+    let written = |result: std::io::Result<()>| match result {
+        Err(error) if error.kind() == ErrorKind::BrokenPipe => Ok(()),
+        other => other.map_err(|error| format!("the words cannot be written: {error}")),
+    };
+    for line in words::Teller::new(&table).table_words() {
+        written(out.line(Record::default(), line))?;
+    }
+    if table.answer != "table ok" {
+        written(out.pause())?;
+        return Ok(1);
+    }
+    // a reader that has gone away is no fault
+    let Some(ran) = run(facts, &table, chosen, &mut out)? else {
+        return Ok(0);
+    };
+    if let Some(words) = chosen.left_out(ran.told, ran.records) {
+        written(out.line(Record::default(), format!("  {words}")))?;
+    }
+    written(out.pause())?;
+    Ok(u8::from(ran.stopped))
+}
+
+/// The records for a picture, as many as one shows, and what stood before them.
+#[derive(Default)]
+struct Drawn {
+    before: Option<State>,
+    records: Vec<(Record, String)>,
+}
+
+impl Reader for Drawn {
+    fn before(&mut self, state: &State) {
+        self.before.get_or_insert_with(|| state.clone());
+    }
+
+    fn line(&mut self, record: Record, words: String) -> std::io::Result<()> {
+        if self.records.len() < picture::MOST {
+            self.records.push((record, words));
+        }
+        Ok(())
+    }
+
+    fn pause(&mut self) -> std::io::Result<()> {
+        Ok(())
+    }
+}
+
+fn draw(facts: &mut Input, chosen: &Chosen, out: &str) -> Result<u8, String> {
+    chosen.in_a_row()?;
+    let table = facts.table().map_err(unread)?;
+    let mut drawn = Drawn::default();
+    let head = words::Teller::new(&table).table_words();
+    let mut status = 1;
+    let mut left_out = None;
+    if table.answer == "table ok" {
+        let ran = run(facts, &table, chosen, &mut drawn)?;
+        let (records, stopped) = ran.map_or((0, false), |ran| (ran.records, ran.stopped));
+        left_out = chosen.left_out(drawn.records.len(), records);
+        status = u8::from(stopped);
+    }
+    let shown = picture::Shown {
+        table: &table,
+        before: &drawn.before.unwrap_or_else(|| State::of(&table)),
+        records: &drawn.records,
+    };
+    let picture = picture::drawn(&shown, &head, left_out);
+    // beside it first: no half of a picture stands in its place
+    let beside = format!("{out}.{}.part", std::process::id());
+    std::fs::write(&beside, picture)
+        .and_then(|()| std::fs::rename(&beside, out))
+        .map_err(|error| {
+            let _ = std::fs::remove_file(&beside);
+            format!("{out} cannot be written: {error}")
+        })?;
+    Ok(status)
 }
 
 fn main() -> ExitCode {
     let args: Vec<String> = std::env::args().skip(1).collect();
-    match run(&args) {
-        Ok(()) => ExitCode::SUCCESS,
+    let words: Vec<&str> = args.iter().map(String::as_str).collect();
+    let mut facts = Facts::new(BufReader::with_capacity(1 << 16, std::io::stdin().lock()));
+    let told = match words[..] {
+        ["tell", ref choices @ ..] => {
+            Chosen::read(choices).and_then(|chosen| tell(&mut facts, &chosen))
+        }
+        ["draw", out, ref choices @ ..] => {
+            Chosen::read(choices).and_then(|chosen| draw(&mut facts, &chosen, out))
+        }
+        _ => Err("give tell, or draw OUT".to_string()),
+    };
+    match told {
+        Ok(status) => ExitCode::from(status),
         Err(why) => {
             eprintln!("explain: {why}");
             ExitCode::from(2)

@@ -1,13 +1,16 @@
-//! The facts of a day as a picture: a band for each reactor's mode, one for each scope while it is active, and in the rows of the queues the
-//! pushes where they are due and the events where they became ready. Every moment named has a column of its own; the axis is not to scale.
+//! The facts of a day as a picture: a band for each part's mode, one for each scope while it is active, and in the rows of the queues the
+//! timers where they start, the pushes where they are due and the events where they became ready. Every moment named has a column of its own; the
+//! axis is not to scale, and the picture says so.
 
-use crate::facts::{Day, Record, Scope, Tag, NONE};
+use crate::facts::{Record, Scope, State, Table, Tag, NONE};
 use crate::words::Teller;
-use std::collections::BTreeSet;
+use std::collections::BTreeMap;
 use std::fmt::Write;
 
+/// A picture shows at most so many records.
+pub const MOST: usize = 400;
 const LEFT: f64 = 96.0;
-const TOP: f64 = 64.0;
+const TOP: f64 = 92.0;
 const ROW: f64 = 22.0;
 const BOTTOM: f64 = 220.0;
 /// The bands of modes, and of active scopes; what is pushed, ready, held back or refused.
@@ -17,8 +20,11 @@ const MODES: [&str; 6] = [
 const ACTIVE: &str = "#dbe7f3";
 const INK: &str = "#222222";
 const ALARM: &str = "#c01818";
+const TIMER: &str = "#2e7d32";
 /// At most so many moments have their time written below.
 const LABELS: usize = 40;
+/// A line of words has so many letters.
+const LETTERS: usize = 130;
 
 fn escaped(words: &str) -> String {
     words
@@ -58,10 +64,17 @@ fn moment(record: &Record) -> Option<Tag> {
     }
 }
 
+/// The records that are drawn, each with its words, and what stood before the first.
+pub struct Shown<'a> {
+    pub table: &'a Table,
+    pub before: &'a State,
+    pub records: &'a [(Record, String)],
+}
+
 /// What a row is for.
 #[derive(Clone, Copy, PartialEq)]
 enum Row {
-    Reactor(usize),
+    Part(usize),
     Root,
     Scope(usize),
 }
@@ -74,42 +87,50 @@ fn queue_row(queue: u64) -> Row {
     }
 }
 
-/// The rows that have something to show: reactors that are ever in a mode, the root, and scopes that are ever active or have an event.
-fn rows(day: &Day) -> Vec<Row> {
-    let turns = || day.records.iter().filter(|record| record.answer == "ok");
-    let moded = |reactor: usize| {
+/// The rows that have something to show: parts that are ever in a mode, the root, and scopes that are ever active or have an event.
+fn rows(shown: &Shown) -> Vec<Row> {
+    let records = || shown.records.iter().map(|(record, _)| record);
+    let turns = || records().filter(|record| record.turns());
+    let moded = |part: usize| {
         let mut states =
-            std::iter::once(&day.table.modes).chain(turns().map(|record| &record.modes));
-        states.any(|modes| modes.get(reactor).is_some_and(|mode| *mode != NONE))
+            std::iter::once(&shown.before.modes).chain(turns().map(|record| &record.modes));
+        states.any(|modes| modes.get(part).is_some_and(|mode| *mode != NONE))
     };
     let woken = |i: usize| {
         let mut states =
-            std::iter::once(&day.table.scopes).chain(turns().map(|record| &record.scopes));
+            std::iter::once(&shown.before.scopes).chain(turns().map(|record| &record.scopes));
         states.any(|scopes| scopes.get(i).is_some_and(|scope| scope.active))
     };
     let used = |i: usize| {
-        day.records.iter().any(|record| {
-            record
-                .into
-                .iter()
-                .chain(&record.takes)
-                .any(|place| place.queue == i as u64)
+        records().any(|record| {
+            let mut places = record.into.iter().chain(&record.takes);
+            places.any(|place| place.queue == i as u64)
+                || started(shown.table, record).any(|(_, scope)| scope == i)
         })
     };
-    let reactors = (0..day.table.modes.len())
-        .filter(|reactor| moded(*reactor))
-        .map(Row::Reactor);
-    let scopes = (0..day.table.scopes.len())
+    let parts = (0..shown.before.modes.len())
+        .filter(|part| moded(*part))
+        .map(Row::Part);
+    let scopes = (0..shown.before.scopes.len())
         .filter(|i| woken(*i) || used(*i))
         .map(Row::Scope);
-    reactors
+    parts
         .chain(std::iter::once(Row::Root))
         .chain(scopes)
         .collect()
 }
 
+/// The timers that a record starts, each with its scope.
+fn started<'a>(table: &'a Table, record: &Record) -> impl Iterator<Item = (u64, usize)> + 'a {
+    let resets = record.turns() && record.call[3] == 1;
+    table
+        .started(record.call[2])
+        .filter(move |_| resets)
+        .map(|(i, fields)| (i, table.row(4, fields[0])[0] as usize))
+}
+
 struct Picture<'a> {
-    day: &'a Day,
+    shown: &'a Shown<'a>,
     columns: Vec<Tag>,
     step: f64,
     rows: Vec<Row>,
@@ -174,7 +195,7 @@ impl Picture<'_> {
         let end = self.end();
         for (at, row) in self.rows.clone().into_iter().enumerate() {
             let name = match row {
-                Row::Reactor(reactor) => format!("reactor {reactor}"),
+                Row::Part(part) => format!("part {part}"),
                 Row::Root => "root queue".to_string(),
                 Row::Scope(i) => format!("scope {i}"),
             };
@@ -184,17 +205,17 @@ impl Picture<'_> {
         }
     }
 
-    /// What holds from one moment to another: each reactor's mode, and the active scopes.
+    /// What holds from one moment to another: each part's mode, and the active scopes.
     fn state(&mut self, modes: &[u64], scopes: &[Scope], from: f64, to: f64) {
-        for (reactor, mode) in modes.iter().enumerate() {
-            if let (false, Some(top)) = (*mode == NONE, self.y(Row::Reactor(reactor))) {
+        for (part, mode) in modes.iter().enumerate() {
+            if let (false, Some(top)) = (*mode == NONE, self.y(Row::Part(part))) {
                 let colour = MODES[*mode as usize % MODES.len()];
                 self.band(
-                    Row::Reactor(reactor),
+                    Row::Part(part),
                     from,
                     to,
                     colour,
-                    &format!("reactor {reactor} is in mode {mode}"),
+                    &format!("part {part} is in mode {mode}"),
                 );
                 let y = top + ROW / 2.0 + 4.0;
                 if to - from > 50.0 {
@@ -219,14 +240,11 @@ impl Picture<'_> {
 
     /// The bands, from one accepted transition to the next that is later.
     fn bands(&mut self) {
-        let day = self.day;
-        let (mut modes, mut scopes) = (&day.table.modes, &day.table.scopes);
+        let shown = self.shown;
+        let (mut modes, mut scopes) = (&shown.before.modes, &shown.before.scopes);
         let mut from = LEFT;
-        for record in day
-            .records
-            .iter()
-            .filter(|record| record.call[0] == 5 && record.answer == "ok")
-        {
+        let records = shown.records.iter().map(|(record, _)| record);
+        for record in records.filter(|record| record.turns()) {
             let to = self.x(record.tag()).max(from);
             self.state(modes, scopes, from, to);
             (modes, scopes, from) = (&record.modes, &record.scopes, to);
@@ -235,10 +253,22 @@ impl Picture<'_> {
         self.state(modes, scopes, from, end);
     }
 
-    fn marks(&mut self, lines: &[String]) {
-        let day = self.day;
-        let skipped = lines.len().saturating_sub(day.records.len());
-        for (record, words) in day.records.iter().zip(&lines[skipped..]) {
+    /// A timer's start: a triangle that points to later.
+    fn start(&mut self, row: Row, x: f64, title: &str) {
+        let Some(y) = self.y(row).map(|y| y + ROW / 2.0) else {
+            return;
+        };
+        let (tip, top, low) = (x + 8.0, y - 5.0, y + 5.0);
+        let _ = writeln!(
+            self.out,
+            "<path d=\"M{x:.1} {top:.1} L{tip:.1} {y:.1} L{x:.1} {low:.1} Z\" fill=\"{TIMER}\"><title>{}</title></path>",
+            escaped(title)
+        );
+    }
+
+    fn marks(&mut self) {
+        let shown = self.shown;
+        for (record, words) in shown.records {
             let Some(tag) = moment(record) else { continue };
             let x = self.x(tag);
             if record.answer.starts_with("refused") {
@@ -255,6 +285,10 @@ impl Picture<'_> {
                     "<line x1=\"{x:.1}\" y1=\"{top:.1}\" x2=\"{x:.1}\" y2=\"{low:.1}\" stroke=\"{INK}\" stroke-dasharray=\"3 3\"><title>{}</title></line>",
                     escaped(words)
                 );
+                for (timer, scope) in started(shown.table, record) {
+                    let title = format!("timer {timer} starts: {words}");
+                    self.start(Row::Scope(scope), x, &title);
+                }
             } else if record.call[0] == 6 {
                 for place in &record.takes {
                     let edge = if place.held { ALARM } else { INK };
@@ -283,28 +317,54 @@ impl Picture<'_> {
     }
 
     /// The times below, as many as there is room for.
-    fn labels(&mut self) {
-        let teller = Teller::new(self.day);
+    fn labels(&mut self, times: &BTreeMap<Tag, String>) {
         let every = self.columns.len() / LABELS + 1;
         let low = self.low();
         for tag in self.columns.clone().into_iter().step_by(every) {
             let (x, y) = (self.x(tag), low + 8.0);
             let turned = format!("transform=\"rotate(60 {x:.1} {y:.1})\" font-size=\"9\"");
-            self.text(x, y, &turned, &teller.time(tag));
+            self.text(x, y, &turned, times.get(&tag).map_or("", String::as_str));
         }
     }
 }
 
-/// The picture of a day; the lines are its words, and stand behind the marks.
-pub fn drawn(day: &Day, lines: &[String]) -> String {
-    let columns: BTreeSet<Tag> = day.records.iter().filter_map(moment).collect();
-    let columns: Vec<Tag> = columns.into_iter().collect();
+/// Words in lines that fit.
+fn wrapped(words: &str) -> Vec<String> {
+    let mut lines = vec![String::new()];
+    for word in words.split(' ') {
+        let last = lines.len() - 1;
+        if !lines[last].is_empty() && lines[last].len() + word.len() >= LETTERS {
+            lines.push(word.to_string());
+        } else {
+            if !lines[last].is_empty() {
+                lines[last].push(' ');
+            }
+            lines[last].push_str(word);
+        }
+    }
+    lines
+}
+
+const LEGEND: &str = "Coloured: the mode that is current. Shaded: the scope is active. Triangle: a timer starts. Ring: pushed, due there (dashed: asleep). Dot: ready. Red: held back; x refused.";
+const NO_SCALE: &str =
+    "NO SCALE OF TIME: every moment has a column of its own, however far the next; the times stand below.";
+
+/// The picture of a day under its head; what it leaves out is said.
+pub fn drawn(shown: &Shown, head: &[String], left_out: Option<String>) -> String {
+    let teller = Teller::new(shown.table);
+    let mut times = BTreeMap::new();
+    for (record, _) in shown.records {
+        if let Some(tag) = moment(record) {
+            times.insert(tag, teller.time(&record.times, tag));
+        }
+    }
+    let columns: Vec<Tag> = times.keys().copied().collect();
     let step = (1100.0 / columns.len().max(1) as f64).clamp(5.0, 48.0);
     let mut picture = Picture {
-        day,
+        shown,
         step,
         columns,
-        rows: rows(day),
+        rows: rows(shown),
         out: String::new(),
     };
     let width = (picture.end() + 120.0).max(980.0);
@@ -317,23 +377,24 @@ pub fn drawn(day: &Day, lines: &[String]) -> String {
         picture.out,
         "<rect width=\"100%\" height=\"100%\" fill=\"#ffffff\"/>"
     );
-    picture.text(
-        8.0,
-        18.0,
-        "font-size=\"13\"",
-        lines.first().map_or("", String::as_str),
-    );
-    picture.text(
-        8.0,
-        36.0,
-        "",
-        "Coloured: the mode that is current. Shaded: the scope is active. Ring: pushed, due there (dashed: asleep). Dot: ready. Red: held back; x refused. Not to scale.",
-    );
-    if day.table.answer == "table ok" {
+    let first = head.first().map_or("", String::as_str);
+    if shown.table.answer != "table ok" {
+        for (i, line) in wrapped(first).iter().enumerate() {
+            let y = 24.0 + 20.0 * i as f64;
+            picture.text(8.0, y, &format!("font-size=\"13\" fill=\"{ALARM}\""), line);
+        }
+    } else {
+        let title = match &left_out {
+            Some(words) => format!("{first} ({words})"),
+            None => first.to_string(),
+        };
+        picture.text(8.0, 18.0, "font-size=\"13\"", &title);
+        picture.text(8.0, 36.0, "", LEGEND);
+        picture.text(8.0, 54.0, "font-weight=\"bold\"", NO_SCALE);
         picture.frame();
         picture.bands();
-        picture.marks(lines);
-        picture.labels();
+        picture.marks();
+        picture.labels(&times);
     }
     picture.out.push_str("</svg>\n");
     picture.out

@@ -1,6 +1,6 @@
-//! The facts of a day in words: the table, then one line a record.
+//! The facts of a day in words: the table, then one line a record. A part is document 01's reactor, a step its microstep; all other words are 01's.
 
-use crate::facts::{Day, Place, Record, Scope, Table, Tag, NONE};
+use crate::facts::{Place, Record, Scope, State, Table, Tag, Time, Times, NONE};
 use std::fmt::Write;
 
 /// The largest offset, 2^62 - 1 nanoseconds.
@@ -8,7 +8,7 @@ const LAST: u64 = 4_611_686_018_427_387_903;
 /// How many queues are named where there are many.
 const NAMED: usize = 3;
 const KINDS: [&str; 9] = [
-    "scope", "reactor", "mode", "reaction", "action", "trigger", "startup", "reset", "timer",
+    "scope", "part", "mode", "reaction", "action", "trigger", "startup", "reset", "timer",
 ];
 
 impl Table {
@@ -43,39 +43,105 @@ fn key(k: u64) -> String {
     }
 }
 
-/// What a day's words are made with: its times, and what stands now.
-pub struct Teller<'a> {
-    day: &'a Day,
-    modes: Vec<u64>,
-    scopes: Vec<Scope>,
+/// The head of every telling.
+const HEAD: &str = "  a part is document 01's reactor, a step (behind a plus) its microstep";
+
+/// What a line's words are made with: the table, what stands before the record, and the times that it or what stands has.
+struct Telling<'a> {
+    table: &'a Table,
+    modes: &'a [u64],
+    scopes: &'a [Scope],
     held: [u64; 4],
+    told: &'a Times,
+    kept: &'a Times,
+}
+
+/// A day's words: its table, and what stands now.
+pub struct Teller<'a> {
+    table: &'a Table,
+    pub state: State,
+}
+
+/// "1h 00m", "0h 30m 05s", "7ns": as short as it can be without loss; long ones in days too.
+fn duration(t: Time) -> String {
+    let mut words = String::new();
+    let small = t.hours == 0 && t.minutes == 0 && (t.seconds != 0 || t.nanoseconds != 0);
+    if !small {
+        let _ = write!(words, "{}h {:02}m", t.hours, t.minutes);
+    }
+    if t.seconds != 0 {
+        let _ = if small {
+            write!(words, "{}s", t.seconds)
+        } else {
+            write!(words, " {:02}s", t.seconds)
+        };
+    }
+    if t.nanoseconds != 0 {
+        let gap = if words.is_empty() { "" } else { " " };
+        let _ = write!(words, "{gap}{}ns", t.nanoseconds);
+    }
+    if t.days > 1 {
+        let _ = write!(words, " ({} days)", t.days);
+    }
+    words
 }
 
 impl<'a> Teller<'a> {
-    pub fn new(day: &'a Day) -> Self {
+    pub fn new(table: &'a Table) -> Self {
         Teller {
-            day,
-            modes: day.table.modes.clone(),
-            scopes: day.table.scopes.clone(),
-            held: [0; 4],
+            table,
+            state: State::of(table),
         }
     }
 
-    fn table(&self) -> &Table {
-        &self.day.table
+    fn telling<'b>(&'b self, told: &'b Times) -> Telling<'b> {
+        Telling {
+            table: self.table,
+            modes: &self.state.modes,
+            scopes: &self.state.scopes,
+            held: self.state.held,
+            told,
+            kept: &self.state.times,
+        }
     }
 
-    /// "1h 00m 00s 000000000ns +0"; long ones in days too.
-    pub fn time(&self, tag: Tag) -> String {
-        let Some(t) = self.day.times.get(&tag.offset) else {
-            return format!("{}ns +{}", tag.offset, tag.microstep);
+    /// The table's line, the head of the telling, and what a reader of the records wants to know of the table.
+    pub fn table_words(&self) -> Vec<String> {
+        self.telling(&self.table.times).table_words()
+    }
+
+    /// One line for the n-th record.
+    pub fn record_words(&self, n: usize, record: &Record) -> String {
+        let telling = self.telling(&record.times);
+        let words = match record.cut {
+            Some((said, there)) => cut_words(record, said, there),
+            None => format!(
+                "{}: {}",
+                telling.call_words(record),
+                telling.answer_words(record)
+            ),
         };
-        let mut words = format!(
-            "{}h {:02}m {:02}s {:09}ns +{}",
-            t.hours, t.minutes, t.seconds, t.nanoseconds, tag.microstep
-        );
-        if t.days > 1 {
-            let _ = write!(words, " ({} days)", t.days);
+        format!("{n}. {words}")
+    }
+
+    pub fn time(&self, told: &Times, tag: Tag) -> String {
+        self.telling(told).time(tag)
+    }
+}
+
+impl Telling<'_> {
+    fn split(&self, offset: u64) -> Option<Time> {
+        self.told.get(offset).or_else(|| self.kept.get(offset))
+    }
+
+    /// A moment, and behind a plus its step if it has one.
+    fn time(&self, tag: Tag) -> String {
+        let mut words = match self.split(tag.offset) {
+            Some(time) => duration(time),
+            None => format!("{}ns", tag.offset),
+        };
+        if tag.microstep != 0 {
+            let _ = write!(words, " +{}", tag.microstep);
         }
         words
     }
@@ -100,11 +166,13 @@ impl<'a> Teller<'a> {
 
     // ---- the table
 
-    /// The table's line, and what a reader of the records wants to know of it.
-    pub fn table_words(&self) -> Vec<String> {
-        let table = self.table();
+    fn table_words(&self) -> Vec<String> {
+        let table = self.table;
         if table.answer != "table ok" {
-            return vec![self.refused_table()];
+            // the first steps of the check name no rows
+            let named = table.refusal.0 > 3;
+            let head = named.then(|| HEAD.to_string());
+            return std::iter::once(self.refused_table()).chain(head).collect();
         }
         let counts: Vec<String> = table
             .counts
@@ -112,49 +180,68 @@ impl<'a> Teller<'a> {
             .enumerate()
             .map(|(k, count)| plural(count.total, kind(k as u64)))
             .collect();
-        let mut lines = vec![format!("table ok: {}", counts.join(", "))];
-        for reactor in 0..table.total(1) {
-            let modes: Vec<String> = table
-                .rows
-                .iter()
-                .filter(|(k, _, fields)| *k == 2 && fields[1] == reactor)
-                .map(|(_, i, fields)| format!("mode {i} (scope {})", fields[0]))
-                .collect();
-            let begins = match table.row(1, reactor)[1] {
-                NONE => "begins in no mode".to_string(),
-                mode => format!("begins in mode {mode}"),
-            };
-            let has = if modes.is_empty() {
-                "has no modes".to_string()
-            } else {
-                format!("has {}", modes.join(", "))
-            };
-            lines.push(format!("  reactor {reactor} {has}; {begins}"));
-        }
+        let mut lines = vec![format!("table ok: {}", counts.join(", ")), HEAD.to_string()];
+        lines.extend((0..table.total(1)).map(|part| self.part_words(part)));
         for (k, i, fields) in &table.rows {
             if *k == 8 {
-                let scope = table.row(4, fields[0])[0];
-                let tag = Tag {
-                    offset: fields[1],
-                    microstep: fields[2],
-                };
-                lines.push(format!(
-                    "  timer {i} pushes action {} of scope {scope} {} after a reset",
-                    fields[0],
-                    self.time(tag)
-                ));
+                lines.push(self.timer_words(*i, *fields));
+                lines.extend(self.warning(*i, fields[1]));
             }
         }
         lines
     }
 
+    fn part_words(&self, part: u64) -> String {
+        let modes: Vec<String> = self
+            .table
+            .rows
+            .iter()
+            .filter(|(k, _, fields)| *k == 2 && fields[1] == part)
+            .map(|(_, i, fields)| format!("mode {i} (scope {})", fields[0]))
+            .collect();
+        let begins = match self.table.row(1, part)[1] {
+            NONE => "begins in no mode".to_string(),
+            mode => format!("begins in mode {mode}"),
+        };
+        let has = if modes.is_empty() {
+            "has no modes".to_string()
+        } else {
+            format!("has {}", modes.join(", "))
+        };
+        format!("  part {part} {has}; {begins}")
+    }
+
+    fn timer_words(&self, i: u64, [action, offset, microstep]: [u64; 3]) -> String {
+        let scope = self.table.row(4, action)[0];
+        let time = self.time(Tag { offset, microstep });
+        format!("  timer {i} pushes action {action} of scope {scope} {time} after a reset")
+    }
+
+    /// The one rule for a timer that looks wrong: it is longer than a day. Where its eight bytes read the other way round are a rounder time, that is said too.
+    fn warning(&self, i: u64, offset: u64) -> Option<String> {
+        let time = self.split(offset)?;
+        if time.hours < 24 {
+            return None;
+        }
+        let turned = self.table.turned.get(i as usize).copied().unwrap_or(0);
+        let rounder = match self.split(turned) {
+            Some(other)
+                if turned != 0 && turned <= LAST && other.roundness() > time.roundness() =>
+            {
+                format!("; read lowest byte first it would be {}", duration(other))
+            }
+            _ => String::new(),
+        };
+        Some(format!("  look: timer {i} is longer than a day{rounder}"))
+    }
+
     fn refused_table(&self) -> String {
-        let table = self.table();
+        let table = self.table;
         let (said, there) = table.image;
         let why = match table.refusal {
             (1, _) if there == 0 && said == 0 => "the file is empty".to_string(),
             (1, _) if there < 4 && said == 0 => format!("the file has {}, and a table begins with a length of 4", plural(there, "byte")),
-            (1, _) if said > 3283 => format!("the table's length says that {said} bytes follow; the largest table has 3283 behind its length"),
+            (1, _) if said > 3283 => format!("this does not look like a gate day: by its first four bytes {said} bytes of table follow, and the largest table has 3283 behind its length"),
             (1, _) if said == 0 => "the table's length says that nothing follows it".to_string(),
             (1, _) => format!("the table is cut short: its length says that {said} bytes follow, and {there} are there"),
             (2, version) => format!("the table is of version {version}; this program knows version 1"),
@@ -175,7 +262,7 @@ impl<'a> Teller<'a> {
     }
 
     fn refused_count(&self, place: u64) -> String {
-        let counts = &self.table().counts;
+        let counts = &self.table.counts;
         let Some((k, count)) = counts
             .iter()
             .enumerate()
@@ -195,7 +282,7 @@ impl<'a> Teller<'a> {
     }
 
     fn refused_row(&self) -> String {
-        let table = self.table();
+        let table = self.table;
         let [k, i, rule, offset, names] = table.fault;
         let fields = table.row(k, i);
         let (first, second, third) = (fields[0], fields[1], fields[2]);
@@ -212,10 +299,10 @@ impl<'a> Teller<'a> {
             3 => format!("every key must exist: it names mode {third}, and the table has {}", table.keys(2)),
             4 => format!("a scope with a mode has a parent: scope {i} names mode {third} and no parent"),
             5 => format!("a mode and its scope agree on each other: scope {i} names mode {third}, and that mode's row names another scope"),
-            6 => format!("a mode and its scope agree on the reactor: scope {i} is of reactor {second}, and mode {third}, which it names, is of another"),
-            7 => format!("a scope with a mode lies strictly under the reactor's root scope: scope {i} does not lie under that of reactor {second}"),
+            6 => format!("a mode and its scope agree on the part: scope {i} is of part {second}, and mode {third}, which it names, is of another"),
+            7 => format!("a scope with a mode lies strictly under the part's root scope: scope {i} does not lie under that of part {second}"),
             8 => format!("every key must exist: the initial mode is {second}, and the table has {}", table.keys(2)),
-            9 => format!("an initial mode is of that reactor: mode {second} is of another than reactor {i}"),
+            9 => format!("an initial mode is of that part: mode {second} is of another than part {i}"),
             10 => format!("a mode and its scope agree on each other: mode {i} names scope {first}, and that scope's row does not name it back"),
             11 => format!("a level is at most 15: this is {first}"),
             12 => format!("logical is 0 or 1: this is {second}"),
@@ -236,20 +323,6 @@ impl<'a> Teller<'a> {
 
     // ---- the records
 
-    /// One line for the n-th record.
-    pub fn record_words(&mut self, n: usize, record: &Record) -> String {
-        let words = match record.cut {
-            Some((said, there)) => cut_words(said, there),
-            None => format!("{}: {}", self.call_words(record), self.answer_words(record)),
-        };
-        self.held = record.held;
-        if record.answer == "ok" && !record.scopes.is_empty() {
-            self.modes = record.modes.clone();
-            self.scopes = record.scopes.clone();
-        }
-        format!("{n}. {words}")
-    }
-
     fn call_words(&self, record: &Record) -> String {
         let [op, first, second, flag, ..] = record.call;
         let at = self.given(record.tag());
@@ -263,11 +336,11 @@ impl<'a> Teller<'a> {
                 reactions(&record.keys)
             ),
             5 => format!(
-                "reactor {first} to mode {second} by {} at {at}",
+                "part {first} to mode {second} by {} at {at}",
                 if flag == 1 { "reset" } else { "history" }
             ),
             6 => "pop".to_string(),
-            _ => "a record that is not well formed".to_string(),
+            _ => format!("a record that is not well formed, at byte {}", record.place),
         }
     }
 
@@ -300,7 +373,7 @@ impl<'a> Teller<'a> {
         let Some(place) = record.into else {
             return self.waiting(record);
         };
-        let table = self.table();
+        let table = self.table;
         let [scope, logical, _] = table.row(4, record.call[1]);
         let waiting = self.waiting(record);
         if place.queue == NONE {
@@ -350,12 +423,10 @@ impl<'a> Teller<'a> {
             .modes
             .iter()
             .enumerate()
-            .filter(|(reactor, mode)| {
-                **mode != NONE || self.table().row(1, *reactor as u64)[1] != NONE
-            })
-            .map(|(reactor, mode)| match *mode {
-                NONE => format!("reactor {reactor} is in no mode"),
-                mode => format!("reactor {reactor} is in mode {mode}"),
+            .filter(|(part, mode)| **mode != NONE || self.table.row(1, *part as u64)[1] != NONE)
+            .map(|(part, mode)| match *mode {
+                NONE => format!("part {part} is in no mode"),
+                mode => format!("part {part} is in mode {mode}"),
             })
             .collect();
         if modes.is_empty() {
@@ -478,14 +549,17 @@ impl<'a> Teller<'a> {
     /// What a transition changed.
     fn turn_words(&self, record: &Record) -> String {
         let mut words = Vec::new();
-        for (reactor, (old, new)) in self.modes.iter().zip(&record.modes).enumerate() {
+        for (part, (old, new)) in self.modes.iter().zip(&record.modes).enumerate() {
             if old != new {
                 words.push(format!(
-                    "reactor {reactor} leaves mode {} for mode {}",
+                    "part {part} leaves mode {} for mode {}",
                     key(*old),
                     key(*new)
                 ));
             }
+        }
+        if record.call[3] == 1 {
+            words.push(self.reset_words(record.call[2]));
         }
         for (i, (old, new)) in self.scopes.iter().zip(&record.scopes).enumerate() {
             if let Some(change) = self.scope_words(old, new) {
@@ -510,11 +584,10 @@ impl<'a> Teller<'a> {
                 active.join(", ")
             }
         ));
-        let later = Teller {
-            day: self.day,
-            modes: record.modes.clone(),
-            scopes: record.scopes.clone(),
-            held: record.held,
+        let later = Telling {
+            modes: &record.modes,
+            scopes: &record.scopes,
+            ..*self
         };
         let next: Vec<String> = record
             .queues_after
@@ -526,6 +599,16 @@ impl<'a> Teller<'a> {
         }
         words.push(format!("{}, {} before", self.waiting(record), self.held[0]));
         words.join("; ")
+    }
+
+    /// What a reset drops and starts.
+    fn reset_words(&self, mode: u64) -> String {
+        let scope = self.table.row(2, mode)[0];
+        let mut words = format!("what waited in scope {scope} or inside it is dropped");
+        for (i, _) in self.table.started(mode) {
+            let _ = write!(words, ", timer {i} starts");
+        }
+        words
     }
 
     fn scope_words(&self, old: &Scope, new: &Scope) -> Option<String> {
@@ -546,7 +629,7 @@ impl<'a> Teller<'a> {
     // ---- refusals
 
     fn why(&self, number: &str, record: &Record) -> String {
-        let table = self.table();
+        let table = self.table;
         let [op, first, second, ..] = record.call;
         // a scope that sleeps is not stopped, and need not map
         let stops = |scope: u64| {
@@ -565,17 +648,17 @@ impl<'a> Teller<'a> {
         match number {
             "1" => malformed(record),
             "5" => {
-                let [_, k, i] = record.lacks;
+                let [k, i] = record.lacks;
                 format!("the table lacks {} {i}; it has {}", kind(k), table.keys(k))
             }
             "6" => format!("the tag given lies beyond the limits: {} ns, and the last is {LAST} ns", record.call[4]),
             "7" if op == 4 && !unmapped.is_empty() => format!("on the clock of {} that moment lies before zero or beyond the limits", unmapped.join(", ")),
             "7" if op == 4 => "the event's moment on the global scale lies beyond the limits".to_string(),
             "7" if !unmapped.is_empty() => format!("on the clock of {} that moment lies before zero or beyond the limits", few(&unmapped)),
-            "7" => "a moment in the transition lies beyond the limits: that of a waiting event or a timer, or one microstep behind the last".to_string(),
+            "7" => "a moment in the transition lies beyond the limits: that of a waiting event or a timer, or one step behind the last".to_string(),
             "8" => format!("{} events wait, as many as may, and one more is needed", record.held[0]),
             "9" => format!("{} values and {} buckets are held, 256 of each may be, and one more is needed", record.held[2], record.held[3]),
-            "10" => format!("mode {second} is of reactor {}, not of reactor {first}", key(table.row(2, second)[1])),
+            "10" => format!("mode {second} is of part {}, not of part {first}", key(table.row(2, second)[1])),
             "11" => "the state breaks a state rule".to_string(),
             _ => "for no reason that is known here".to_string(),
         }
@@ -626,7 +709,7 @@ fn malformed(record: &Record) -> String {
     }
 }
 
-fn cut_words(said: u64, there: u64) -> String {
+fn cut_words(record: &Record, said: u64, there: u64) -> String {
     let why = match (said, there) {
         (0, there) => format!("{} where a length of 4 is due", plural(there, "byte")),
         (said, 0) if said > 512 => format!("a length of {said}, and no record is longer than 512"),
@@ -634,5 +717,9 @@ fn cut_words(said: u64, there: u64) -> String {
             format!("the length says {said} bytes, and the file ends after {there} of them")
         }
     };
-    format!("a record that cannot be read: refused 1: {why}; the run stops here")
+    format!(
+        "a record that cannot be read, at byte {}: refused 1: {why}; the run stops here, {} unread",
+        record.place,
+        plural(record.unread, "byte")
+    )
 }
