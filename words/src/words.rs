@@ -169,10 +169,7 @@ impl Telling<'_> {
     fn table_words(&self) -> Vec<String> {
         let table = self.table;
         if table.answer != "table ok" {
-            // the first steps of the check name no rows
-            let named = table.refusal.0 > 3;
-            let head = named.then(|| HEAD.to_string());
-            return std::iter::once(self.refused_table()).chain(head).collect();
+            return vec![self.refused_table(), HEAD.to_string()];
         }
         let counts: Vec<String> = table
             .counts
