@@ -1,6 +1,7 @@
-// The image reader: it carries the lent image and its place. Document 01, "The image reader carries the lent image and its place".
-// Few thin calls: each takes the reader apart for a covered reader of one field in crate rows.
+// The image reader: it carries the lent image and its place, and moves on. Document 01, "The image reader carries the lent image and its place".
+// Few thin calls: each takes the reader apart for a covered function of crate rows.
 ghost use mathlib.Core.Path.{_≡_};
+ghost use Prim.Native.Nat.{_+_, _%_, _^_};
 ghost use Rattle.rows.specs.Bytes.{be};
 
 pub struct Reader<'a> {
@@ -21,9 +22,13 @@ pub fn word<'a>(reader: Reader<'a>) -> u16
     rows::two_bytes(reader.image, reader.place)
 }
 
-// The same with plain parameters: whoever calls it needs no walk.
-pub fn word_at(image: &[u8], place: usize) -> u16
-    ensures { λ n. ⌜ n ≡ be 2 (now (image .entry)) place ⌝ }
+// The reader so many bytes on.
+pub fn moved<'a>(reader: Reader<'a>, by: usize) -> Reader<'a>
+    ensures { λ r. ⌜ (r .image ≡ reader .entry .image) × (r .place ≡ (reader .entry .place + by) % 2 ^ 64) ⌝ }
 {
-    word(new(image, place))
+    let place = std::num::wrapping_add_usize(reader.place, by);
+    Reader {
+        image: reader.image,
+        place,
+    }
 }

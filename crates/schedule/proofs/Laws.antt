@@ -1,25 +1,25 @@
 -- A law for each case of the questions, in the form that the code meets it. Assumes nothing.
-use Prim.Native.Nat.{ℕ, _+_, _-_, _≤_, _<_}
+use Prim.Native.Nat.{ℕ, _+_, _-_, _*_, _%_, _^_, _≤_, _<_}
 use mathlib.Core.Path.{_≡_, sym, ap, _∙_}
 use mathlib.Core.Bool.{Bool, true, false, cond}
 use mathlib.Core.List.{List, map}
-use native.Mathlib.Nat.{add-zero, zero-mul, suc-mul, add-assoc}
+use native.Mathlib.Nat.{add-zero, zero-mul, suc-mul, add-assoc, sub-zero, mod-eq-of-lt}
+use native.Mathlib.Omega.{arith}
 use native.Mathlib.Numerals.{add-one}
 use lib.Dec.{eqb}
 use lib.ListN.{getD}
 use borrow.Author.Tests.{ne-eqb}
 use Rattle.lists.specs.Tests.{flag-no, flag-yes}
 use Rattle.lists.specs.Lists.{keep, every, from, foldl}
-use Rattle.key_set.specs.Sets.{insertKey}
+use Rattle.key_set.specs.Sets.{insertKey, noKeys, wordCount}
 use Rattle.tags.specs.Tags.{at}
 use Rattle.table.specs.Rules.{timerTag}
 use Rattle.lists.specs.Steps.{and-pass, and-stop, fold-next}
 use Rattle.rows.specs.Bytes.{Image, be}
-use Rattle.rows.specs.Kinds.{kindOf, place}
+use Rattle.rows.specs.Kinds.{kindOf, count, place}
 use Rattle.rows.specs.Rows.{none, rowPlace, field, parent, scopeReactor, scopeMode, timerOffset, timerMicrostep}
 use Rattle.rows.specs.Lineage.{ancestors, lineage-step, ancestors-on, ancestors-end}
-use Rattle.rows.specs.declared.Kind.{Kind}
-use Rattle.schedule.specs.Schedule.{isCurrent, isActive}
+use Rattle.schedule.specs.Schedule.{isCurrent, isActive, reactionsOf}
 
 pub timer-fields : (s : Image) (j : ℕ) {o m : ℕ} → o ≡ timerOffset s j → m ≡ timerMicrostep s j → at o m ≡ timerTag s j
 timer-fields s j e f = rw (e, f)
@@ -49,19 +49,32 @@ pub ruleset actives = (active-not, active-on, active-end, flag-no, flag-yes)
 
 -- ---- sets of reactions, row by row
 
+-- a reader's two moves over a row of up to six bytes
+pub two-moves :
+    (j gap : ℕ) {p a b : ℕ} → p ≤ 2 ^ 28 + j * 6 → j < 2 ^ 16 → gap ≤ 4 → a ≡ (p + gap) % 2 ^ 64 → b ≡ (a + 2) % 2 ^ 64 →
+    (a ≡ p + gap) × ((b ≡ p + (gap + 2)) × (b ≤ 2 ^ 28 + (j + 1) * 6))
+two-moves j gap {p} {a} {b} h l g e f =
+    let x : a ≡ p + gap = e ∙ mod-eq-of-lt (omega arith) in
+    let y : b ≡ a + 2 = f ∙ mod-eq-of-lt (omega (arith, x)) in
+    (x, (omega (arith, x, y), omega (arith, x, y)))
+
 module _ (s : Image) (k : ℕ) where
   pub row-first : (at : ℕ) → at ≡ place s k → at ≡ rowPlace s k 0
   unfolding rowPlace
   row-first at e = simp (zero-mul, add-zero) e
 
-  pub row-next : (at j : ℕ) (q : Kind) → at ≡ rowPlace s k j → q ≡ kindOf k → at + q .width ≡ rowPlace s k (j + 1)
+  pub row-next : (at j w : ℕ) → at ≡ rowPlace s k j → kindOf k .width ≡ w → at + w ≡ rowPlace s k (j + 1)
   unfolding rowPlace
-  row-next at j q e f = rw (e, f, add-one, suc-mul, add-assoc)
+  row-next at j w e f = rw (e, ← f, add-one, suc-mul, add-assoc)
 
   module _ (test : ℕ → Bool) (gap n : ℕ) where
     -- the reactions of the rows from j on
     abbrev pub left : ℕ → List ℕ
     left j = map (λ j. field 2 s k j gap) (keep (λ j. test (field 2 s k j 0)) (from j (n - j)))
+
+    pub gather-first : {ws : List ℕ} → n ≡ count s k → ws ≡ noKeys wordCount → foldl insertKey ws (left 0) ≡ reactionsOf s k test gap
+    unfolding reactionsOf
+    gather-first e f = rw (sub-zero, e, f)
 
     pub gather-next :
         (j : ℕ) (ws : List ℕ) {at x y : ℕ} {t : Bool} {next : List ℕ} → j < n → at ≡ rowPlace s k j → x ≡ be 2 s at → y ≡ be 2 s (at + gap) → t ≡ test x →

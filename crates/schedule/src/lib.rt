@@ -2,10 +2,10 @@
 // Single fields and subtrees are crate rows. Every question is total.
 ghost use mathlib.Core.Path.{_≡_};
 ghost use mathlib.Core.Bool.{cond};
-ghost use Prim.Native.Nat.{_+_};
+ghost use Prim.Native.Nat.{ℕ, _+_, _^_, _<_, _≤_};
 ghost use lib.ListN.{getD};
 ghost use Rattle.key_set.specs.Sets.{insertKey};
-ghost use Rattle.rows.specs.Bytes.{be};
+ghost use Rattle.rows.specs.Kinds.{kindOf, place as placeOf, count as countOf};
 ghost use Rattle.rows.specs.Rows.{none};
 ghost use Rattle.tags.specs.Views.{ofLocal};
 ghost use Rattle.table.specs.Rules.{timerTag};
@@ -86,17 +86,6 @@ pub fn is_active(image: &[u8], modes: &[u16], i: u16) -> bool
 
 // ---- sets of reactions
 
-// Two fields of a row, read by the image reader.
-struct Pair(u16, u16);
-
-fn two_fields(image: &[u8], at: u32, gap: u8) -> Pair
-    ensures { λ r. ⌜ (r .0 ≡ be 2 (now (image .entry)) at) × (r .1 ≡ be 2 (now (image .entry)) (at + gap)) ⌝ }
-{
-    let first = at as usize;
-    let second = first + (gap as usize);
-    Pair(image::word_at(image, first), image::word_at(image, second))
-}
-
 fn belongs(image: &[u8], key: u16, subtree: bool, x: u16) -> bool
     ensures { λ r. ⌜ r ≡ belongsTo (now (image .entry)) key subtree x ⌝ }
 {
@@ -115,23 +104,40 @@ fn insert_if(set: KeySet, test: bool, key: u16) -> KeySet
     set
 }
 
-// The reactions at the byte `gap` of the rows of the kind k whose first field is the key, or a scope in its subtree.
-fn reactions_of(image: &[u8], k: u8, key: u16, subtree: bool, gap: u8) -> KeySet
-    ensures { λ r. ⌜ r .words ≡ reactionsOf (now (image .entry)) k (belongsTo (now (image .entry)) key subtree) gap ⌝ }
+// The set with the reaction of a row whose first field is x, if that is the key, or a scope in its subtree.
+fn with_row(image: &[u8], key: u16, subtree: bool, x: u16, reaction: u16, set: KeySet) -> KeySet
+    ensures { λ r. ⌜ r .words ≡ cond (belongsTo (now (image .entry)) key subtree x) (insertKey (set .words) reaction) (set .words) ⌝ }
 {
-    let kind = rows::kind_at(k);
-    let total = rows::count(image, k);
-    let mut at = rows::place(image, k);
+    let test = belongs(image, key, subtree, x);
+    insert_if(set, test, reaction)
+}
+
+// The reactions of so many rows that begin at the place and have their reaction at the byte `gap`, where they end. One reader goes from row to row.
+fn gather(image: &[u8], at: usize, mut left: u16, key: u16, subtree: bool, gap: usize) -> KeySet
+    requires { ⌜ (at < 2 ^ 28) × (gap ≤ 4) ⌝ }
+    ensures { λ r. ⌜ ((k : ℕ) → at ≡ placeOf (now (image .entry)) k → left ≡ countOf (now (image .entry)) k → kindOf k .width ≡ gap + 2 → r .words ≡ reactionsOf (now (image .entry)) k (belongsTo (now (image .entry)) key subtree) gap) ⌝ }
+{
+    let mut reader = image::new(image, at);
     let mut set = KeySet::empty();
-    let mut j: u16 = 0;
-    while j < total {
-        let fields = two_fields(image, at as u32, gap);
-        let test = belongs(image, key, subtree, fields.0);
-        set = insert_if(set, test, fields.1);
-        at += kind.width;
-        j += 1;
+    while left > 0 {
+        let x = image::word(reader);
+        reader = image::moved(reader, gap);
+        let reaction = image::word(reader);
+        reader = image::moved(reader, 2);
+        set = with_row(image, key, subtree, x, reaction, set);
+        left -= 1;
     }
     set
+}
+
+// The reactions at the byte `gap` of the rows of the kind k whose first field is the key, or a scope in its subtree.
+fn reactions_of(image: &[u8], k: u8, key: u16, subtree: bool, gap: usize) -> KeySet
+    requires { ⌜ (kindOf k .width ≡ gap + 2) × (gap ≤ 4) ⌝ }
+    ensures { λ r. ⌜ r .words ≡ reactionsOf (now (image .entry)) k (belongsTo (now (image .entry)) key subtree) gap ⌝ }
+{
+    let at = rows::place(image, k);
+    let total = rows::count(image, k);
+    gather(image, at, total, key, subtree, gap)
 }
 
 // The reactions that the action triggers.

@@ -1,10 +1,12 @@
 -- `schedule::startups` meets its contract. Assumes nothing.
 use Rattle.schedule.specs.Schedule.{startupsOf}
 use borrow.Author.Needs.{needs}
+use Rattle.rows.specs.Kinds as K
 use Rattle.schedule.proofs.startups.Statement.{statement}
 use Rattle.schedule.proofs.startups.Tie as tie
 
 reactions-of-requires : tie.Need-reactions-of-requires
+unfolding K.kindOf K.kinds
 reactions-of-requires c κs = search needs
 
 returns : tie.Need-returns
