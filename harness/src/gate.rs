@@ -200,7 +200,7 @@ fn listed<T>(list: &str, item: impl Fn(&str) -> Option<T>) -> Option<Vec<T>> {
 #[cfg(test)]
 mod tests {
     use super::*;
-    use crate::{run_day, Table, NONE};
+    use crate::{run_day, ImageRefused, Table, NONE};
 
     /// A root with two modes, a reaction, and an action in the second mode.
     fn gate() -> Gate {
@@ -286,5 +286,7 @@ mod tests {
         let refused = Gate::new(&image).map(|_| ()).unwrap_err();
         assert_eq!((refused.number, refused.place), (2, 4));
         assert_eq!(run_day(&image), b"table refused 2 4\n");
+        assert_eq!(state_after(&image), Err(ImageRefused(2)));
+        assert_eq!(state_after(&image[..30]), Err(ImageRefused(1)));
     }
 }
