@@ -29,8 +29,7 @@ mul-n c =
 add-n : tie.Need-add-n Inv-loop μ-loop
 add-n c =
     record {
-      fits =
-          omega (arith, be-fits _ _ _ _ (c .before .before .loop .inv .2) (c .byte .ensures .1) (c .before .loop-test .taken) (c .before .before .before .before .pre));
+      fits = be-fits _ _ _ _ (c .before .before .loop .inv .2) (c .byte .ensures .1) (c .before .loop-test .taken) (c .before .before .before .before .pre);
     }
 
 add-k : tie.Need-add-k Inv-loop μ-loop
