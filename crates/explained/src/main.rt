@@ -22,6 +22,7 @@ use records::Parsed;
 use table::Checked;
 use table::ImageRefusal;
 use tags::GlobalTag;
+use tags::QueueTag;
 
 // No image is longer.
 const LARGEST: usize = gate_day::LARGEST;
@@ -304,10 +305,9 @@ fn say_place(
     name: &[u8],
     scopes: &[u64; scopes::ROOM],
     queue: u16,
-    offset: u64,
-    microstep: u32,
+    tag: QueueTag,
 ) {
-    let words = facts::place_words(scopes, queue, offset, microstep);
+    let words = facts::place_words(scopes, queue, tag);
     say(out, desk, name, &words);
     say_time(out, desk, words[1]);
     say_time(out, desk, words[5]);
@@ -324,7 +324,7 @@ fn say_queue(
 ) {
     match queue::least_at(heads, k) {
         Earliest::Nothing => {}
-        Earliest::At(t) => say_place(out, desk, b"queue", scopes, queue, t.0, t.1),
+        Earliest::At(t) => say_place(out, desk, b"queue", scopes, queue, t),
     }
 }
 
@@ -609,7 +609,7 @@ fn say_last(out: &mut Out, desk: &mut Desk, day: Day) {
     let waiting = counts.waiting;
     if 0 < waiting {
         let s = slots::slot_at(&events, waiting - 1);
-        say_place(out, desk, b"into", &scopes, s.queue, s.offset, s.microstep);
+        say_place(out, desk, b"into", &scopes, s.queue, s.tag);
     }
 }
 

@@ -4,8 +4,7 @@ ghost use mathlib.Core.Path.{_≡_};
 ghost use Prim.Native.Nat.{_≤_};
 ghost use lib.ListN.{length, getD};
 ghost use Rattle.rows.specs.Kinds.{count, reaction};
-ghost use Rattle.tags.specs.Tags.{at, toGlobal};
-ghost use Rattle.tags.specs.Views.{ofGlobal, ofClock, mappedGlobal, mappedLocal};
+ghost use Rattle.tags.specs.Views.{ofGlobal, ofLocal, ofQueue, ofClock, mappedGlobal, mappedLocal};
 ghost use Rattle.scopes.specs.Scopes.{scopesOf, scopeOf, blank};
 ghost use Rattle.lines.specs.Written.{Written};
 ghost use Rattle.facts.specs.Facts.{yes, timeWords, found, offsetIn, microstepIn, scopePlace, placeWords, scopeWords, localWords, callWords, lackingReaction, lackingOf, wordsText, factText};
@@ -15,6 +14,7 @@ use tags::GlobalTag;
 use tags::LocalTag;
 use tags::MappedGlobal;
 use tags::MappedLocal;
+use tags::QueueTag;
 
 // Nanoseconds.
 const SECOND: u64 = 1000000000;
@@ -98,18 +98,18 @@ fn of_local(m: MappedLocal) -> Mapped
 }
 
 // A scope's local tag: the queue, the tag, whether the scope is active, the tag's image, and whether it is held back.
-fn scope_place(s: Scope, queue: u16, offset: u64, microstep: u32) -> [u64; 8]
-    ensures { λ r. ⌜ r ≡ scopePlace (scopeOf s) queue (at offset microstep) ⌝ }
+fn scope_place(s: Scope, queue: u16, x: LocalTag) -> [u64; 8]
+    ensures { λ r. ⌜ r ≡ scopePlace (scopeOf s) queue (ofLocal x) ⌝ }
 {
     let clock = s.clock;
-    let image = clock.to_global(LocalTag(offset, microstep));
+    let image = clock.to_global(x);
     let m = of_global(image);
     let active = bit(s.active);
-    let held = bit(clock.holds_back(LocalTag(offset, microstep)));
+    let held = bit(clock.holds_back(x));
     [
         queue as u64,
-        offset,
-        microstep as u64,
+        x.0,
+        x.1 as u64,
         active,
         m.found,
         m.offset,
@@ -119,20 +119,17 @@ fn scope_place(s: Scope, queue: u16, offset: u64, microstep: u32) -> [u64; 8]
 }
 
 // The same of any queue: the root's tags are global already.
-pub fn place_words(
-    scopes: &[u64; scopes::ROOM],
-    queue: u16,
-    offset: u64,
-    microstep: u32,
-) -> [u64; 8]
-    ensures { λ r. ⌜ r ≡ placeWords (scopesOf (now (scopes .entry))) queue (at offset microstep) ⌝ }
+pub fn place_words(scopes: &[u64; scopes::ROOM], queue: u16, tag: QueueTag) -> [u64; 8]
+    ensures { λ r. ⌜ r ≡ placeWords (scopesOf (now (scopes .entry))) queue (ofQueue tag) ⌝ }
 {
     if queue == slots::NONE {
-        let step = microstep as u64;
-        return [queue as u64, offset, step, 1, 1, offset, step, 0];
+        let g = tag.as_global();
+        let step = g.1 as u64;
+        return [queue as u64, g.0, step, 1, 1, g.0, step, 0];
     }
     let s = scopes::scope_at(scopes, queue as usize);
-    scope_place(s, queue, offset, microstep)
+    let local = tag.as_local();
+    scope_place(s, queue, local)
 }
 
 // A scope: active, ever active, allowed, and its clock's G, L and S.

@@ -135,7 +135,7 @@ module _ (img : Image) (s : State) (k : rules img s ≡ true) (modes ss events v
 
   -- ---- pop
 
-  module _ (p : Popped) (events-end keys : List ℕ) (w : Pops (popOf (scopesOf ss) (scopes img) es (c .work)) p events-end keys) where
+  module _ (p : Popped) {was : List ℕ} (events-end keys : List ℕ) (w : Pops (popOf (scopesOf ss) (scopes img) es (c .work)) p was events-end keys) where
     abbrev popped : perform img before M.pop ≡ answer (popReply (popOf (scopesOf ss) (scopes img) es (c .work))) (stateIn img modes (scopesOf ss) (popOf (scopesOf ss) (scopes img) es (c .work) .took .waiting) (popOf (scopesOf ss) (scopes img) es (c .work) .took .work) (storeOf values buckets h))
     popped = pop.pop-performs img modes (scopesOf ss) (storeOf values buckets h) (most-scopes img (rules-table img s k)) es (c .work)
 

@@ -136,11 +136,11 @@ module _ {img : Image} {bytes : List ℕ} {first : State} {old : List ℕ} {mode
         let z = push-lands img s (g .keeps) modes ss events values buckets c h u r events-end parsed after (sym b ∙ a) w in
         on modes ss events-end values buckets (r .counts) h written-end out-end (z .1) (written-as y (z .0))
 
-    pub popped-on : {o : Op} → o ≡ A.Pop → o ≡ opOf parsed → {r : Popped} {events-end keys : List ℕ} →
-        Pops (popOf (scopesOf ss) (scopes img) (take (c .waiting) (eventsOf events)) (c .work)) r events-end keys →
+    pub popped-on : {o : Op} → o ≡ A.Pop → o ≡ opOf parsed → {r : Popped} {was events-end keys : List ℕ} →
+        Pops (popOf (scopesOf ss) (scopes img) (take (c .waiting) (eventsOf events)) (c .work)) r was events-end keys →
         {written-end : ℕ} {out-end : List ℕ} → Written out written (lineOf img (popReplyOf r keys)) out-end written-end →
         Running img bytes first old modes ss events-end values buckets (r .counts) h (turns - 1) next written-end out-end
-    popped-on a b {r} {events-end} {keys} w {written-end} {out-end} y =
+    popped-on a b {r} {was} {events-end} {keys} w {written-end} {out-end} y =
         let k = pop-record parsed after (sym b ∙ a) in
         on modes ss events-end values buckets (r .counts) h written-end out-end (rw k (pop-unpacked img s (g .keeps) modes ss events values buckets c h u r events-end keys w))
         (rw k (written-as y (pop-line img s (g .keeps) modes ss events values buckets c h u r events-end keys w)))

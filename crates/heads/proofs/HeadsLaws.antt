@@ -11,15 +11,15 @@ use Rattle.lists.specs.Walk.{Result, done, refused}
 use Rattle.lists.specs.Lists.{foldl, from}
 use Rattle.refusals.specs.declared.Refusal.{Refusal}
 use Rattle.tags.specs.Tags.{Tag, Clock, at, earlier, toGlobal}
-use Rattle.tags.specs.Views.{ofGlobal, mappedGlobal}
+use Rattle.tags.specs.Views.{ofGlobal, ofQueue, mappedGlobal}
 use Rattle.tags.specs.declared.GlobalTag.{GlobalTag}
+use Rattle.tags.specs.declared.QueueTag.{QueueTag}
 use Rattle.tags.specs.declared.MappedGlobal.{MappedGlobal}
 use Rattle.tags.specs.declared.MappedGlobal.the-variants as MG
 use Rattle.machine.specs.Heads as H
 use Rattle.machine.specs.Heads.{Least, noTag, least, sooner, rootOf, mapped}
 use Rattle.scopes.specs.Scopes.{Scope, blank}
-use Rattle.queue.specs.Queue.{ofStamp, ofEarliest}
-use Rattle.queue.specs.declared.Stamp.{Stamp}
+use Rattle.queue.specs.Queue.{ofEarliest}
 use Rattle.queue.specs.declared.Earliest.{Earliest}
 use Rattle.queue.specs.declared.Earliest.the-variants as E
 use Rattle.heads.specs.Found.{headOf, headHere, bestOf, mappedHead, scopeHeadOf, headIn, leastHead}
@@ -27,12 +27,13 @@ use Rattle.heads.specs.declared.HeadAt.{HeadAt}
 use Rattle.heads.specs.declared.Head.{Head}
 use Rattle.heads.specs.declared.Head.the-variants as C
 
-module _ (k : Clock) (i : ℕ) (t : Tag) {m : MappedGlobal} where
-  pub mapped-tag : {g : GlobalTag} → m ≡ MG.Tag g → mappedGlobal m ≡ toGlobal k t → H.head i t (ofGlobal g) ≡ mappedHead k i (least t)
-  mapped-tag e h = ap (mapped i t) (sym (ap mappedGlobal e) ∙ h)
+-- the scope's least tag t as a local one, x, and what it maps to
+module _ (k : Clock) (i : ℕ) (t : Tag) {x : Tag} {m : MappedGlobal} where
+  pub mapped-tag : {g : GlobalTag} → x ≡ t → m ≡ MG.Tag g → mappedGlobal m ≡ toGlobal k x → H.head i t (ofGlobal g) ≡ mappedHead k i (least t)
+  mapped-tag d e h = ap (mapped i t) (sym (ap mappedGlobal e) ∙ (h ∙ ap (toGlobal k) d))
 
-  pub mapped-none : {n : Refusal} → m ≡ MG.Refused n → mappedGlobal m ≡ toGlobal k t → H.empty ≡ mappedHead k i (least t)
-  mapped-none e h = ap (mapped i t) (sym (ap mappedGlobal e) ∙ h)
+  pub mapped-none : {n : Refusal} → x ≡ t → m ≡ MG.Refused n → mappedGlobal m ≡ toGlobal k x → H.empty ≡ mappedHead k i (least t)
+  mapped-none d e h = ap (mapped i t) (sym (ap mappedGlobal e) ∙ (h ∙ ap (toGlobal k) d))
 
 pub ruleset maps = (mapped-tag, mapped-none)
 
@@ -57,7 +58,7 @@ module _ (ss : List Scope) (ls : List Least) (i : ℕ) (e : Earliest) (h : ofEar
       off true = refl
       off false = refl
 
-  pub in-at : {t : Stamp} {r : H.Head} → e ≡ E.At t → r ≡ scopeHeadOf (getD ss i blank) i (least (ofStamp t)) → r ≡ headIn ss ls i
+  pub in-at : {t : QueueTag} {r : H.Head} → e ≡ E.At t → r ≡ scopeHeadOf (getD ss i blank) i (least (ofQueue t)) → r ≡ headIn ss ls i
   unfolding headIn
   in-at p q = q ∙ ap (scopeHeadOf (getD ss i blank) i) (sym (ap ofEarliest p) ∙ h)
 
@@ -91,7 +92,7 @@ module _ (l : Least) (e : Earliest) (h : ofEarliest e ≡ l) where
   pub root-nothing : e ≡ E.Nothing → H.empty ≡ rootOf l
   root-nothing p = ap rootOf (sym (ap ofEarliest p) ∙ h)
 
-  pub root-at : {t : Stamp} → e ≡ E.At t → {r : H.Head} → r ≡ rootOf (least (ofStamp t)) → r ≡ rootOf l
+  pub root-at : {t : QueueTag} → e ≡ E.At t → {r : H.Head} → r ≡ rootOf (least (ofQueue t)) → r ≡ rootOf l
   root-at p q = q ∙ ap rootOf (sym (ap ofEarliest p) ∙ h)
 
 -- ---- the loop: what is left to look at

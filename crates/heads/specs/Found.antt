@@ -5,17 +5,16 @@ use Prim.Native.Nat.{ℕ}
 use lib.ListN.{getD}
 use Rattle.lists.specs.Lists.{foldl, from}
 use Rattle.tags.specs.Tags.{Clock, toGlobal}
-use Rattle.tags.specs.Views.{ofGlobal}
+use Rattle.tags.specs.Views.{ofGlobal, ofQueue}
 use Rattle.machine.specs.Heads as H
 use Rattle.machine.specs.Heads.{Least, noTag, least, sooner, mapped}
 use Rattle.scopes.specs.Scopes.{Scope, blank}
-use Rattle.queue.specs.Queue.{ofStamp}
 use Rattle.heads.specs.declared.HeadAt.{HeadAt}
 use Rattle.heads.specs.declared.Head.{Head}
 use Rattle.heads.specs.declared.Head.the-variants as C
 
 abbrev pub headHere : HeadAt → H.Head
-headHere h = H.head (h .queue) (ofStamp (h .stamp)) (ofGlobal (h .tag))
+headHere h = H.head (h .queue) (ofQueue (h .stamp)) (ofGlobal (h .tag))
 
 abbrev pub headOf : Head → H.Head
 headOf C.Empty = H.empty

@@ -2,21 +2,21 @@
 ghost use mathlib.Core.Path.{_≡_};
 ghost use mathlib.Core.Bool.{cond};
 ghost use lib.ListN.{getD};
+ghost use Rattle.tags.specs.Views.{ofQueue};
 ghost use Rattle.machine.specs.Heads.{noTag, least, rootOf, sooner as soonerOf};
 ghost use Rattle.scopes.specs.Scopes.{mostScopes, scopesOf, scopeOf};
-ghost use Rattle.queue.specs.Queue.{ofStamp, ofEarliest, leastsOf};
+ghost use Rattle.queue.specs.Queue.{ofEarliest, leastsOf};
 ghost use Rattle.heads.specs.Found.{headOf, headHere, bestOf, mappedHead, scopeHeadOf, headIn, leastHead};
 use queue::Earliest;
-use queue::Stamp;
 use scopes::Scope;
 use tags::GlobalTag;
-use tags::LocalTag;
 use tags::MappedGlobal;
+use tags::QueueTag;
 
 // A queue, its least tag on its own scale, and what that is on the global scale.
 pub struct HeadAt {
     pub queue: u16,
-    pub stamp: Stamp,
+    pub stamp: QueueTag,
     pub tag: GlobalTag,
 }
 
@@ -26,11 +26,12 @@ pub enum Head {
 }
 
 // A scope's least tag, mapped; empty where the image overruns.
-fn mapped_head(s: Scope, i: u16, t: Stamp) -> Head
-    ensures { λ r. ⌜ headOf r ≡ mappedHead (scopeOf s .clock) i (least (ofStamp t)) ⌝ }
+fn mapped_head(s: Scope, i: u16, t: QueueTag) -> Head
+    ensures { λ r. ⌜ headOf r ≡ mappedHead (scopeOf s .clock) i (least (ofQueue t)) ⌝ }
 {
     let clock = s.clock;
-    match clock.to_global(LocalTag(t.0, t.1)) {
+    let local = t.as_local();
+    match clock.to_global(local) {
         MappedGlobal::Tag(g) => Head::At(HeadAt {
             queue: i,
             stamp: t,
@@ -41,8 +42,8 @@ fn mapped_head(s: Scope, i: u16, t: Stamp) -> Head
 }
 
 // The head of a scope by its least tag; one that is not active has none.
-fn scope_head_of(s: Scope, i: u16, t: Stamp) -> Head
-    ensures { λ r. ⌜ headOf r ≡ scopeHeadOf (scopeOf s) i (least (ofStamp t)) ⌝ }
+fn scope_head_of(s: Scope, i: u16, t: QueueTag) -> Head
+    ensures { λ r. ⌜ headOf r ≡ scopeHeadOf (scopeOf s) i (least (ofQueue t)) ⌝ }
 {
     if s.active {
         return mapped_head(s, i, t);
@@ -94,8 +95,8 @@ pub fn scope_head(heads: &[u64; queue::HEADS], scopes: &[u64; scopes::ROOM], n: 
     let mut found = false;
     let mut best = HeadAt {
         queue: 0,
-        stamp: Stamp(0, 0),
-        tag: GlobalTag(0, 0),
+        stamp: QueueTag::ZERO,
+        tag: GlobalTag::ZERO,
     };
     let mut i: u16 = 0;
     while i < n {
@@ -124,11 +125,14 @@ pub fn root_head(heads: &[u64; queue::HEADS]) -> Head
     let found = queue::least_at(heads, scopes::MOST_SCOPES);
     match found {
         Earliest::Nothing => Head::Empty,
-        Earliest::At(t) => Head::At(HeadAt {
-            queue: slots::NONE,
-            stamp: t,
-            tag: GlobalTag(t.0, t.1),
-        }),
+        Earliest::At(t) => {
+            let tag = t.as_global();
+            Head::At(HeadAt {
+                queue: slots::NONE,
+                stamp: t,
+                tag,
+            })
+        }
     }
 }
 

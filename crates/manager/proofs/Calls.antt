@@ -217,7 +217,7 @@ module _ (img : Image) (a : Arrays) {b : Bool} (eb : b ≡ isSound img a) where
 
       -- ---- pop
 
-      pub call-pop : {r : Popped} (p : rows.Popped) (ws keys : List ℕ) → Pops (popOf ss (scopes img) es (u .counts .work)) p ws keys → r ≡ poppedIn u ws keys p → r ≡ popped (stepOn img a M.pop)
+      pub call-pop : {r : Popped} (p : rows.Popped) {was : List ℕ} (ws keys : List ℕ) → Pops (popOf ss (scopes img) es (u .counts .work)) p was ws keys → r ≡ poppedIn u ws keys p → r ≡ popped (stepOn img a M.pop)
       call-pop p ws keys d q =
           q ∙
           ap popped

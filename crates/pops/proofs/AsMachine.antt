@@ -126,7 +126,7 @@ unfolding foldl readyOf
 ready-is t es = ap (readyAt t) (rw (← ready-nothing t) (gathered t [] es))
 
 pub reply-is :
-    (p : Pop) (r : Popped) (ws keys : List ℕ) → Pops p r ws keys →
+    (p : Pop) (r : Popped) {was : List ℕ} (ws keys : List ℕ) → Pops p r was ws keys →
     cond (r .found) (ready (readyAt (ofGlobal (r .tag)) (gatheringOf (r .gathered) keys))) nothing ≡ popReply p
 reply-is p r ws keys w =
     let e = ap (readyAt (ofGlobal (r .tag))) (w .takes .gathered) ∙ (ap (λ t. readyAt t (foldl addedTo nothingYet (p .took .events))) (w .tag) ∙ ready-is (p .tag) (p .took .events)) in

@@ -1,6 +1,6 @@
 -- A law for each case of a peek and a pop, and the loop over the scopes' turns. Assumes nothing.
 use mathlib.Core.Bool.{Bool, true, false, cond, not, _&&_}
-use mathlib.Core.Path.{_≡_, refl, sym, ap, _∙_}
+use mathlib.Core.Path.{_≡_, refl, sym, ap, subst, _∙_}
 use mathlib.Core.List.{List, [], _∷_, _++_, map, append-nil, append-assoc}
 use Prim.Native.Nat.{ℕ, zero, suc, _+_, _-_, _<_, _≤_}
 use native.Mathlib.Omega.{arith}
@@ -13,7 +13,7 @@ use Rattle.lists.specs.Rows.{tab-at}
 use Rattle.lists.specs.Every.{count-split}
 use Rattle.lists.specs.Steps.{every-pass, every-fail, every-end}
 use Rattle.tags.specs.Tags.{Tag, zeroTag, sameTag, earlier}
-use Rattle.tags.specs.Views.{ofGlobal}
+use Rattle.tags.specs.Views.{ofGlobal, ofQueue}
 use Rattle.machine.specs.State.{Event, root, mostWaiting, ordinary, atHead}
 use Rattle.machine.specs.Heads.{Head, Least, noTag, least, empty, head, leastOf, rootOf, sooner, isAt}
 use Rattle.machine.specs.Machine.{Reply, nothing, tag, peekAt}
@@ -21,16 +21,16 @@ use Rattle.slots.specs.Slots as slot
 use Rattle.slots.specs.Slots.{eventsOf}
 use Rattle.scopes.specs.Scopes.{Scope, mostScopes}
 use Rattle.queue.specs.Queue as queue
-use Rattle.queue.specs.Queue.{ofStamp, queues, queueOf, entryOf, lowestOf, leastsOf, headsOf}
-use Rattle.queue.specs.declared.Stamp.{Stamp}
+use Rattle.queue.specs.Queue.{queues, queueOf, entryOf, ofEarliest, leastsOf, headsOf}
+use Rattle.queue.specs.declared.Earliest.{Earliest}
 use Rattle.queue.proofs.LowLaws.{least-lose, other-queue, heads-taken}
 use Rattle.heads.specs.Found.{headOf, headIn, leastHead}
 use Rattle.heads.specs.declared.HeadAt.{HeadAt}
 use Rattle.heads.specs.declared.Head as code
 use Rattle.heads.specs.declared.Head.the-variants as C
-use Rattle.ready.specs.Gathering.{Gathering, nothingYet, addedTo, gatheringOf}
+use Rattle.ready.specs.Gathering.{noneYet, addedTo, gatheringOf, Grown}
 use Rattle.ready.specs.declared.Gathered.{Gathered}
-use Rattle.ready.proofs.GatherLaws.{foldl-append}
+use Rattle.ready.proofs.GatherLaws.{foldl-append, grown-none, grown-then}
 use Rattle.lens.specs.declared.Counts.{Counts}
 use Rattle.lens.specs.Lens.{Queued, Waits, queued-is, queued-waits, queued-laid, waits-queued}
 use Rattle.pops.specs.Pops.{Took, untaken, taken, tookAt, tookScopes, tookAll, rootIn, localIn, peekHead, controlled, controlAt, controlIn, popAt, popOf, replyOf, Takes, Pops}
@@ -204,9 +204,9 @@ module _ (ws : List ℕ) (c : Counts) (w : Waits ws c) where
   pub waits-long : length (take (c .waiting) (eventsOf ws)) ≡ c .waiting
   waits-long = sym (waits-queued ws c w .waiting)
 
-  pub takes-none : (g : Gathered) (keys : List ℕ) → length keys ≡ mostWaiting → g .actions + c .waiting ≤ mostWaiting → Takes (here ws c) (gatheringOf g keys) ws keys g c
+  pub takes-none : (g : Gathered) (keys : List ℕ) → g .actions + c .waiting ≤ mostWaiting → Takes (here ws c) g keys ws keys g c
   unfolding foldl
-  takes-none g keys l r = record { queued = waits-queued ws c w; waits = w; gathered = refl; long = l; room = r }
+  takes-none g keys r = record { queued = waits-queued ws c w; waits = w; gathered = refl; grown = grown-none (g .actions) keys; room = r }
 
   module _ (q : ℕ) (x : Tag) (m o : ℕ) (p : m ≡ length (lose (atHead q x) (take (c .waiting) (eventsOf ws)))) (d : o ≡ count ordinary (keep (atHead q x) (take (c .waiting) (eventsOf ws)))) where
     pub went-few : o ≤ c .work
@@ -215,11 +215,11 @@ module _ (ws : List ℕ) (c : Counts) (w : Waits ws c) where
     pub takes-some :
         (g h : Gathered) (keys next out : List ℕ) → slot.Held out (lay slot.blank (eventsOf ws) (lose (atHead q x) (take (c .waiting) (eventsOf ws))) (c .waiting)) →
         gatheringOf h next ≡ foldl addedTo (gatheringOf g keys) (keep (atHead q x) (take (c .waiting) (eventsOf ws))) →
-        h .actions ≤ g .actions + length (keep (atHead q x) (take (c .waiting) (eventsOf ws))) → length next ≡ length keys → length keys ≡ mostWaiting →
+        h .actions ≤ g .actions + length (keep (atHead q x) (take (c .waiting) (eventsOf ws))) → Grown (g .actions) (h .actions) keys next →
         g .actions + c .waiting ≤ mostWaiting →
-        Takes (taken q x (here ws c)) (gatheringOf g keys) out next h (record { waiting = m; work = c .work - o })
+        Takes (taken q x (here ws c)) g keys out next h (record { waiting = m; work = c .work - o })
     unfolding taken
-    takes-some g h keys next out k s a b l r =
+    takes-some g h keys next out k s a b r =
         let es = take (c .waiting) (eventsOf ws) in
         let old = waits-queued ws c w in
         let few : length es ≤ mostWaiting = rw waits-long (w .few) in
@@ -231,7 +231,7 @@ module _ (ws : List ℕ) (c : Counts) (w : Waits ws c) where
           queued = new;
           waits = queued-waits _ _ out _ new left (omega (arith, w .counted, count-split ordinary (atHead q x) es));
           gathered = s;
-          long = b ∙ l;
+          grown = b;
           room = omega (arith, waits-long);
         }
 
@@ -244,33 +244,33 @@ module _ (t : Tag) (k : Took) (h : code.Head) where
     pub at-other : sameTag (ofGlobal (x .tag)) t ≡ false → tookAt t k (headOf h) ≡ k
     at-other d = rw e (simp d)
 
-    pub at-there : sameTag (ofGlobal (x .tag)) t ≡ true → tookAt t k (headOf h) ≡ taken (x .queue) (ofStamp (x .stamp)) k
+    pub at-there : sameTag (ofGlobal (x .tag)) t ≡ true → tookAt t k (headOf h) ≡ taken (x .queue) (ofQueue (x .stamp)) k
     at-there d = rw e (simp d)
 
 -- ---- one after the other
 
-module _ (k : Took) (before : Gathering) (ws keys : List ℕ) (g : Gathered) (c : Counts) (w : Takes k before ws keys g c) where
+module _ (k : Took) (b : Gathered) (was ws keys : List ℕ) (g : Gathered) (c : Counts) (w : Takes k b was ws keys g c) where
   takes-waiting : take (c .waiting) (eventsOf ws) ≡ k .waiting
   takes-waiting = queued-is (k .waiting) (k .work) ws c (w .queued) (rw (← w .queued .waiting) (w .waits .few))
 
   -- every queue's least tag, where events of one queue went
   pub heads-left :
-      (q : ℕ) (x : Tag) (es : List Event) (f : Bool) (t : Stamp) {hs out : List ℕ} → k .waiting ≡ lose (atHead q x) es → queue.Held hs (headsOf es) →
-      lowestOf f t ≡ leastOf q (lose (atHead q x) es) → queue.Held out (set (leastsOf hs) (entryOf q) (lowestOf f t)) →
+      (q : ℕ) (x : Tag) (es : List Event) (t : Earliest) {hs out : List ℕ} → k .waiting ≡ lose (atHead q x) es → queue.Held hs (headsOf es) →
+      ofEarliest t ≡ leastOf q (lose (atHead q x) es) → queue.Held out (set (leastsOf hs) (entryOf q) (ofEarliest t)) →
       queue.Held out (headsOf (take (c .waiting) (eventsOf ws)))
-  heads-left q x es f t e h l o = rw (takes-waiting, e, ← heads-taken q x es, ← h .things, ← l) o
+  heads-left q x es t e h l o = rw (takes-waiting, e, ← heads-taken q x es, ← h .things, ← l) o
 
   pub takes-here : k ≡ after (k .events) (here ws c)
   takes-here = rw (takes-waiting, w .queued .work, append-nil (k .events))
 
   pub takes-then :
-      (j : Took) (out next : List ℕ) (h : Gathered) (d : Counts) → Takes j (gatheringOf g keys) out next h d → Takes (after (k .events) j) before out next h d
+      (j : Took) (out next : List ℕ) (h : Gathered) (d : Counts) → Takes j g keys out next h d → Takes (after (k .events) j) b was out next h d
   takes-then j out next h d v =
       record {
         queued = v .queued;
         waits = v .waits;
-        gathered = v .gathered ∙ rw (foldl-append addedTo before (k .events) (j .events), w .gathered);
-        long = v .long;
+        gathered = v .gathered ∙ rw (foldl-append addedTo (gatheringOf b was) (k .events) (j .events), w .gathered);
+        grown = grown-then (w .grown) (v .grown);
         room = v .room;
       }
 
@@ -313,89 +313,89 @@ module _ (ss : List Scope) (n : ℕ) (t : Tag) where
 -- ---- the loop's state: what is left to take leads to the same end
 
 module _ (ss : List Scope) (n : ℕ) (t : Tag) where
-  pub record Going (end : Took) (before : Gathering) (turns : ℕ) (ws keys : List ℕ) (g : Gathered) (c : Counts) (h : Head) : Type 0 where
+  pub record Going (end : Took) (b : Gathered) (was : List ℕ) (turns : ℕ) (ws keys : List ℕ) (g : Gathered) (c : Counts) (h : Head) : Type 0 where
     pub waiting : end .waiting ≡ tookScopes turns ss n t (here ws c) .waiting
     pub work : end .work ≡ tookScopes turns ss n t (here ws c) .work
-    pub gathered : foldl addedTo before (end .events) ≡ foldl addedTo (gatheringOf g keys) (tookScopes turns ss n t (here ws c) .events)
+    pub gathered : foldl addedTo (gatheringOf b was) (end .events) ≡ foldl addedTo (gatheringOf g keys) (tookScopes turns ss n t (here ws c) .events)
+    pub grown : Grown (b .actions) (g .actions) was keys
     pub local : h ≡ localIn ss n (take (c .waiting) (eventsOf ws))
-    pub takes : Takes (here ws c) (gatheringOf g keys) ws keys g c
+    pub takes : Takes (here ws c) g keys ws keys g c
 
   pub going-start :
-      (turns : ℕ) (ws keys : List ℕ) (g : Gathered) (c : Counts) (h : Head) → Waits ws c → length keys ≡ mostWaiting → g .actions + c .waiting ≤ mostWaiting →
-      h ≡ localIn ss n (take (c .waiting) (eventsOf ws)) → Going (tookScopes turns ss n t (here ws c)) (gatheringOf g keys) turns ws keys g c h
-  going-start turns ws keys g c h w l r e = record { waiting = refl; work = refl; gathered = refl; local = e; takes = takes-none ws c w g keys l r }
+      (turns : ℕ) (ws keys : List ℕ) (g : Gathered) (c : Counts) (h : Head) → Waits ws c → g .actions + c .waiting ≤ mostWaiting →
+      h ≡ localIn ss n (take (c .waiting) (eventsOf ws)) → Going (tookScopes turns ss n t (here ws c)) g keys turns ws keys g c h
+  going-start turns ws keys g c h w r e =
+      record { waiting = refl; work = refl; gathered = refl; grown = grown-none (g .actions) keys; local = e; takes = takes-none ws c w g keys r }
 
-  module _ (end : Took) (before : Gathering) (turns : ℕ) (ws keys : List ℕ) (g : Gathered) (c : Counts) (h : Head) (w : Going end before turns ws keys g c h) where
+  module _ (end : Took) (b : Gathered) (was : List ℕ) (turns : ℕ) (ws keys : List ℕ) (g : Gathered) (c : Counts) (h : Head) (w : Going end b was turns ws keys g c h) where
     pub going-next :
-        (out next : List ℕ) (i : Gathered) (d : Counts) (j : Head) → 0 < turns → isAt t h ≡ true → Takes (tookAt t (here ws c) h) (gatheringOf g keys) out next i d →
-        j ≡ localIn ss n (take (d .waiting) (eventsOf out)) → Going end before (turns - 1) out next i d j
+        (out next : List ℕ) (i : Gathered) (d : Counts) (j : Head) → 0 < turns → isAt t h ≡ true → Takes (tookAt t (here ws c) h) g keys out next i d →
+        j ≡ localIn ss n (take (d .waiting) (eventsOf out)) → Going end b was (turns - 1) out next i d j
     going-next out next i d j z y v e =
         let k = tookAt t (here ws c) h in
         let s : turns ≡ suc (turns - 1) = omega arith in
         let q : tookScopes turns ss n t (here ws c) ≡ after (k .events) (tookScopes (turns - 1) ss n t (here out d)) =
-        ap (λ m. tookScopes m ss n t (here ws c)) s ∙ (one (turns - 1) ∙ (ap (tookScopes (turns - 1) ss n t) (takes-here k (gatheringOf g keys) out next i d v) ∙ scopes-after ss n t (k .events) (turns - 1) (here out d))) in
+        ap (λ m. tookScopes m ss n t (here ws c)) s ∙ (one (turns - 1) ∙ (ap (tookScopes (turns - 1) ss n t) (takes-here k g keys out next i d v) ∙ scopes-after ss n t (k .events) (turns - 1) (here out d))) in
         record {
           waiting = w .waiting ∙ ap (λ x. x .waiting) q;
           work = w .work ∙ ap (λ x. x .work) q;
           gathered = w .gathered ∙ (ap (λ x. foldl addedTo (gatheringOf g keys) (x .events)) q ∙ rw (foldl-append addedTo (gatheringOf g keys) (k .events) (tookScopes (turns - 1) ss n t (here out d) .events), v .gathered));
+          grown = grown-then (w .grown) (v .grown);
           local = e;
-          takes = takes-none out d (v .waits) i next (v .long) (v .room);
+          takes = takes-none out d (v .waits) i next (v .room);
         }
       where
         one : (m : ℕ) → tookScopes (suc m) ss n t (here ws c) ≡ tookScopes m ss n t (tookAt t (here ws c) h)
         one m = took-more ss n t m (here ws c) h (w .local) y
 
     -- the end, where no turn is left or the least head is another
-    over : tookScopes turns ss n t (here ws c) ≡ here ws c → Takes end before ws keys g c
+    over : tookScopes turns ss n t (here ws c) ≡ here ws c → Takes end b was ws keys g c
     unfolding foldl
     over q =
         record {
           queued = rw (w .waiting ∙ ap (λ x. x .waiting) q, w .work ∙ ap (λ x. x .work) q) (w .takes .queued);
           waits = w .takes .waits;
           gathered = sym (w .gathered ∙ ap (λ x. foldl addedTo (gatheringOf g keys) (x .events)) q);
-          long = w .takes .long;
+          grown = w .grown;
           room = w .takes .room;
         }
 
-    pub going-end : turns ≤ 0 → Takes end before ws keys g c
+    pub going-end : turns ≤ 0 → Takes end b was ws keys g c
     going-end z = let e : turns ≡ 0 = omega arith in over (rw e (took-last ss n t (here ws c)))
 
-    pub going-stop : isAt t h ≡ false → Takes end before ws keys g c
+    pub going-stop : isAt t h ≡ false → Takes end b was ws keys g c
     going-stop y = over (took-other ss n t turns (here ws c) h (w .local) y)
 
 -- ---- the whole pop
 
-pub none-yet : (g : Gathered) (keys : List ℕ) → gatheringOf g keys ≡ nothingYet → length keys ≡ mostWaiting → g .actions ≡ 0
-none-yet g keys e l = let z : length (take (g .actions) keys) ≡ 0 = ap (λ x. length (x .actions)) e in omega (arith, length-take (g .actions) keys)
-
-module _ (ws keys : List ℕ) (c : Counts) (g : Gathered) (w : Waits ws c) (l : length keys ≡ mostWaiting) (o : gatheringOf g keys ≡ nothingYet) where
+module _ (ws keys : List ℕ) (c : Counts) (g : Gathered) (w : Waits ws c) (o : g ≡ noneYet) where
   pub start-room : g .actions + c .waiting ≤ mostWaiting
-  start-room = let z = none-yet g keys o l in omega (arith, w .few)
+  start-room = let z : g .actions ≡ 0 = ap (λ x. x .actions) o in omega (arith, w .few)
 
-  pub start-takes : Takes (here ws c) nothingYet ws keys g c
-  start-takes = rw (← o) (takes-none ws c w g keys l start-room)
+  pub start-takes : Takes (here ws c) noneYet keys ws keys g c
+  start-takes = subst (λ x. Takes (here ws c) x keys ws keys g c) o (takes-none ws c w g keys start-room)
 
 module _ (ss : List Scope) (n : ℕ) (ws : List ℕ) (c : Counts) where
   pub pops-nothing :
       (r : Popped) (keys : List ℕ) → nothing ≡ peekAt (peekHead ss n (take (c .waiting) (eventsOf ws))) → r .found ≡ false → ofGlobal (r .tag) ≡ zeroTag →
-      Takes (here ws c) nothingYet ws keys (r .gathered) (r .counts) → Pops (popOf ss n (take (c .waiting) (eventsOf ws)) (c .work)) r ws keys
+      Takes (here ws c) noneYet keys ws keys (r .gathered) (r .counts) → Pops (popOf ss n (take (c .waiting) (eventsOf ws)) (c .work)) r keys ws keys
   unfolding popOf
   pops-nothing r keys e f t k = rw (pop-nothing ss n (here ws c) (peekHead ss n (take (c .waiting) (eventsOf ws))) e) (record { found = f; tag = t; takes = k })
 
-  module _ (t : Tag) (mid keys : List ℕ) (g : Gathered) (d : Counts) (v : Takes (tookAt t (here ws c) (rootIn (take (c .waiting) (eventsOf ws)))) nothingYet mid keys g d) where
+  module _ (t : Tag) (was mid keys : List ℕ) (g : Gathered) (d : Counts) (v : Takes (tookAt t (here ws c) (rootIn (take (c .waiting) (eventsOf ws)))) noneYet was mid keys g d) where
     k : Took
     k = tookAt t (here ws c) (rootIn (take (c .waiting) (eventsOf ws)))
 
     pub local-still : (b : Head) → n ≤ mostScopes → b ≡ localIn ss n (take (c .waiting) (eventsOf ws)) → b ≡ localIn ss n (take (d .waiting) (eventsOf mid))
     unfolding k
-    local-still b f e = e ∙ (sym (root-leaves ss n t f (take (c .waiting) (eventsOf ws)) (c .work)) ∙ rw (takes-waiting k nothingYet mid keys g d v))
+    local-still b f e = e ∙ (sym (root-leaves ss n t f (take (c .waiting) (eventsOf ws)) (c .work)) ∙ rw (takes-waiting k noneYet was mid keys g d v))
 
     pub pops-found :
         (r : Popped) (m : ℕ) (out next : List ℕ) → tag t ≡ peekAt (peekHead ss n (take (c .waiting) (eventsOf ws))) → m ≡ length (take (c .waiting) (eventsOf ws)) → r .found ≡ true → ofGlobal (r .tag) ≡ t →
-        Takes (tookScopes m ss n t (here mid d)) (gatheringOf g keys) out next (r .gathered) (r .counts) → Pops (popOf ss n (take (c .waiting) (eventsOf ws)) (c .work)) r out next
+        Takes (tookScopes m ss n t (here mid d)) g keys out next (r .gathered) (r .counts) → Pops (popOf ss n (take (c .waiting) (eventsOf ws)) (c .work)) r was out next
     unfolding popOf tookAll k
     pops-found r m out next e q f u a =
         let s : tookScopes m ss n t k ≡ after (k .events) (tookScopes m ss n t (here mid d)) =
-        ap (tookScopes m ss n t) (takes-here k nothingYet mid keys g d v) ∙ scopes-after ss n t (k .events) m (here mid d) in
+        ap (tookScopes m ss n t) (takes-here k noneYet was mid keys g d v) ∙ scopes-after ss n t (k .events) m (here mid d) in
         rw (pop-found ss n (here ws c) (peekHead ss n (take (c .waiting) (eventsOf ws))) t e)
-        (record { found = f; tag = u; takes = rw (← q, s) (takes-then k nothingYet mid keys g d v (tookScopes m ss n t (here mid d)) out next (r .gathered) (r .counts) a) })
+        (record { found = f; tag = u; takes = rw (← q, s) (takes-then k noneYet was mid keys g d v (tookScopes m ss n t (here mid d)) out next (r .gathered) (r .counts) a) })

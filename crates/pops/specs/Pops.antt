@@ -13,7 +13,7 @@ use Rattle.machine.specs.Machine.{Reply, nothing, ready, tag}
 use Rattle.scopes.specs.Scopes.{Scope}
 use Rattle.queue.specs.Queue.{headsOf}
 use Rattle.heads.specs.Found.{leastHead}
-use Rattle.ready.specs.Gathering.{Gathering, nothingYet, addedTo, gatheringOf}
+use Rattle.ready.specs.Gathering.{noneYet, addedTo, gatheringOf, Grown}
 use Rattle.ready.specs.declared.Gathered.{Gathered}
 use Rattle.lens.specs.declared.Counts.{Counts}
 use Rattle.lens.specs.Lens.{Queued, Waits}
@@ -104,15 +104,15 @@ popReply p = cond (p .found) (ready (readyOf (p .tag) (p .took .events))) nothin
 
 -- ---- what the code hands back
 
--- rows and counts hold what waits, and what was taken is gathered besides what was before
-pub record Takes (k : Took) (before : Gathering) (ws keys : List ℕ) (g : Gathered) (c : Counts) : Type 0 where
+-- rows and counts hold what waits, and what was taken is gathered besides what was before, its keys in the array as it was
+pub record Takes (k : Took) (b : Gathered) (was ws keys : List ℕ) (g : Gathered) (c : Counts) : Type 0 where
   pub queued : Queued (k .waiting) (k .work) ws c
   pub waits : Waits ws c
-  pub gathered : gatheringOf g keys ≡ foldl addedTo before (k .events)
-  pub long : length keys ≡ mostWaiting
+  pub gathered : gatheringOf g keys ≡ foldl addedTo (gatheringOf b was) (k .events)
+  pub grown : Grown (b .actions) (g .actions) was keys
   pub room : g .actions + c .waiting ≤ mostWaiting
 
-pub record Pops (p : Pop) (r : Popped) (ws keys : List ℕ) : Type 0 where
+pub record Pops (p : Pop) (r : Popped) (was ws keys : List ℕ) : Type 0 where
   pub found : r .found ≡ p .found
   pub tag : ofGlobal (r .tag) ≡ p .tag
-  pub takes : Takes (p .took) nothingYet ws keys (r .gathered) (r .counts)
+  pub takes : Takes (p .took) noneYet was ws keys (r .gathered) (r .counts)

@@ -4,15 +4,14 @@ ghost use Prim.Native.Nat.{_+_, _≤_};
 ghost use lib.ListN.{length, take};
 ghost use Rattle.lists.specs.Lists.{every};
 ghost use Rattle.rows.specs.Kinds.{scope, count};
-ghost use Rattle.tags.specs.Views.{ofGlobal};
+ghost use Rattle.tags.specs.Views.{ofGlobal, ofQueue};
 ghost use Rattle.machine.specs.State.{mostWaiting};
 ghost use Rattle.machine.specs.Heads.{sooner, isAt};
 ghost use Rattle.machine.specs.Machine.{peekAt};
 ghost use Rattle.slots.specs.Slots.{eventsOf, eventOf};
 ghost use Rattle.scopes.specs.Scopes.{mostScopes, scopesOf};
-ghost use Rattle.queue.specs.Queue.{ofStamp, headsOf, Held};
+ghost use Rattle.queue.specs.Queue.{headsOf, Held};
 ghost use Rattle.heads.specs.Found.{headOf, leastHead};
-ghost use Rattle.ready.specs.Gathering.{gatheringOf};
 ghost use Rattle.lens.specs.Lens.{Waits};
 ghost use Rattle.pops.specs.Pops.{untaken, taken, tookAt, tookScopes, peekHead, popOf, controlled, controlIn, replyOf, Takes, Pops};
 use heads::Head;
@@ -107,7 +106,7 @@ fn take_at(
     requires { ⌜ Waits (now events) (given .counts) ⌝ }
     requires { ⌜ (length (now keys) ≡ mostWaiting) × (given .gathered .actions + given .counts .waiting ≤ mostWaiting) ⌝ }
     requires { ⌜ Held (now heads) (headsOf (take (given .counts .waiting) (eventsOf (now events)))) ⌝ }
-    ensures { λ r. ⌜ Takes (taken (h .queue) (ofStamp (h .stamp)) (untaken (take (given .counts .waiting) (eventsOf (now (events .entry)))) (given .counts .work))) (gatheringOf (given .gathered) (now (keys .entry))) (now (events .exit)) (now (keys .exit)) (r .gathered) (r .counts) ⌝ }
+    ensures { λ r. ⌜ Takes (taken (h .queue) (ofQueue (h .stamp)) (untaken (take (given .counts .waiting) (eventsOf (now (events .entry)))) (given .counts .work))) (given .gathered) (now (keys .entry)) (now (events .exit)) (now (keys .exit)) (r .gathered) (r .counts) ⌝ }
     ensures { λ r. ⌜ Held (now (heads .exit)) (headsOf (take (r .counts .waiting) (eventsOf (now (events .exit))))) ⌝ }
 {
     let none = KeySet::empty();
@@ -121,7 +120,8 @@ fn take_at(
     let counts = given.counts;
     let before = given.gathered;
     let gone = ready::take_out(events, counts.waiting, which, keys, before);
-    queue::renew(heads, h.queue, gone.found, gone.lowest);
+    let lowest = gone.lowest;
+    queue::renew(heads, h.queue, lowest);
     let gathered = gone.gathered;
     let left = Counts {
         waiting: gone.count,
@@ -145,7 +145,7 @@ fn take_head(
     requires { ⌜ Waits (now events) (given .counts) ⌝ }
     requires { ⌜ (length (now keys) ≡ mostWaiting) × (given .gathered .actions + given .counts .waiting ≤ mostWaiting) ⌝ }
     requires { ⌜ Held (now heads) (headsOf (take (given .counts .waiting) (eventsOf (now events)))) ⌝ }
-    ensures { λ r. ⌜ Takes (tookAt (ofGlobal t) (untaken (take (given .counts .waiting) (eventsOf (now (events .entry)))) (given .counts .work)) (headOf h)) (gatheringOf (given .gathered) (now (keys .entry))) (now (events .exit)) (now (keys .exit)) (r .gathered) (r .counts) ⌝ }
+    ensures { λ r. ⌜ Takes (tookAt (ofGlobal t) (untaken (take (given .counts .waiting) (eventsOf (now (events .entry)))) (given .counts .work)) (headOf h)) (given .gathered) (now (keys .entry)) (now (events .exit)) (now (keys .exit)) (r .gathered) (r .counts) ⌝ }
     ensures { λ r. ⌜ Held (now (heads .exit)) (headsOf (take (r .counts .waiting) (eventsOf (now (events .exit))))) ⌝ }
 {
     match h {
@@ -174,7 +174,7 @@ fn take_scopes(
     requires { ⌜ (length (now keys) ≡ mostWaiting) × (given .gathered .actions + given .counts .waiting ≤ mostWaiting) ⌝ }
     requires { ⌜ Held (now heads) (headsOf (take (given .counts .waiting) (eventsOf (now events)))) ⌝ }
     requires { ⌜ headOf (turn .local) ≡ leastHead (scopesOf (now scopes)) (headsOf (take (given .counts .waiting) (eventsOf (now events)))) (turn .scopes) ⌝ }
-    ensures { λ r. ⌜ Takes (tookScopes (turn .turns) (scopesOf (now (scopes .entry))) (turn .scopes) (ofGlobal (turn .tag)) (untaken (take (given .counts .waiting) (eventsOf (now (events .entry)))) (given .counts .work))) (gatheringOf (given .gathered) (now (keys .entry))) (now (events .exit)) (now (keys .exit)) (r .gathered) (r .counts) ⌝ }
+    ensures { λ r. ⌜ Takes (tookScopes (turn .turns) (scopesOf (now (scopes .entry))) (turn .scopes) (ofGlobal (turn .tag)) (untaken (take (given .counts .waiting) (eventsOf (now (events .entry)))) (given .counts .work))) (given .gathered) (now (keys .entry)) (now (events .exit)) (now (keys .exit)) (r .gathered) (r .counts) ⌝ }
     ensures { λ r. ⌜ Held (now (heads .exit)) (headsOf (take (r .counts .waiting) (eventsOf (now (events .exit))))) ⌝ }
 {
     let t = turn.tag;
@@ -207,14 +207,14 @@ pub fn pop_next_event(
     requires { ⌜ Waits (now events) counts ⌝ }
     requires { ⌜ length (now keys) ≡ mostWaiting ⌝ }
     requires { ⌜ Held (now heads) (headsOf (take (counts .waiting) (eventsOf (now events)))) ⌝ }
-    ensures { λ r. ⌜ Pops (popOf (scopesOf (now (scopes .entry))) (count (now (image .entry)) scope) (take (counts .waiting) (eventsOf (now (events .entry)))) (counts .work)) r (now (events .exit)) (now (keys .exit)) ⌝ }
+    ensures { λ r. ⌜ Pops (popOf (scopesOf (now (scopes .entry))) (count (now (image .entry)) scope) (take (counts .waiting) (eventsOf (now (events .entry)))) (counts .work)) r (now (keys .entry)) (now (events .exit)) (now (keys .exit)) ⌝ }
     ensures { λ r. ⌜ Held (now (heads .exit)) (headsOf (take (r .counts .waiting) (eventsOf (now (events .exit))))) ⌝ }
 {
     let n = rows::count(image, rows::SCOPE);
     let waiting = counts.waiting;
     let root = heads::root_head(heads);
     let local = heads::scope_head(heads, scopes, n);
-    let none = Gathered::nothing_yet(keys);
+    let none = Gathered::nothing_yet();
     match peek_of(root, local) {
         Peeked::Nothing => Popped {
             found: false,
@@ -270,10 +270,9 @@ fn is_controlled(s: Slot, t: GlobalTag) -> bool
     ensures { λ r. ⌜ r ≡ controlled (ofGlobal t) (eventOf s) ⌝ }
 {
     if s.queue == slots::NONE {
-        if s.offset == t.0 {
-            if s.microstep == t.1 {
-                return s.control;
-            }
+        let own = s.tag.as_global();
+        if own.same(t) {
+            return s.control;
         }
     }
     true

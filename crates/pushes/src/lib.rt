@@ -5,7 +5,7 @@ ghost use mathlib.Core.Bool.{false, true, cond, _&&_};
 ghost use Prim.Native.Nat.{_+_, _<_};
 ghost use lib.ListN.{take};
 ghost use Rattle.lists.specs.Walk as lists;
-ghost use Rattle.tags.specs.Views.{ofGlobal, ofLocal, ofClock, mappedLocal};
+ghost use Rattle.tags.specs.Views.{ofGlobal, ofLocal, ofQueue, ofClock, mappedLocal};
 ghost use Rattle.tags.specs.Tags.{toGlobal};
 ghost use Rattle.key_set.specs.Sets.{noKeys, wordCount};
 ghost use Rattle.machine.specs.Table.{setOf};
@@ -24,6 +24,7 @@ use tags::GlobalTag;
 use tags::LocalTag;
 use tags::MappedGlobal;
 use tags::MappedLocal;
+use tags::QueueTag;
 use tags::ScopeClock;
 
 pub enum Outcome {
@@ -114,10 +115,10 @@ fn root_made(p: RootPush, keyed: Keyed) -> Made
     if !t.within() {
         return refused(Refusal::ArgumentTag);
     }
+    let own = QueueTag::of_global(t);
     let slot = Slot {
         queue: slots::NONE,
-        offset: t.0,
-        microstep: t.1,
+        tag: own,
         reactions: set,
         terminal: p.terminal,
         control: p.control,
@@ -178,14 +179,13 @@ fn to_root(image: &[u8], action: u16) -> bool
     !schedule::is_modal(image)
 }
 
-fn action_slot(p: ActionPush, set: KeySet, queue: u16, x: LocalTag) -> Made
-    ensures { λ r. ⌜ madeOf r ≡ lists.done (actionOf queue (p .action) (ofLocal x) (ofGlobal (p .tag)) (p .terminal) (set .words)) ⌝ }
+fn action_slot(p: ActionPush, set: KeySet, queue: u16, x: QueueTag) -> Made
+    ensures { λ r. ⌜ madeOf r ≡ lists.done (actionOf queue (p .action) (ofQueue x) (ofGlobal (p .tag)) (p .terminal) (set .words)) ⌝ }
 {
     let stored = p.tag;
     let slot = Slot {
         queue,
-        offset: x.0,
-        microstep: x.1,
+        tag: x,
         reactions: set,
         terminal: p.terminal,
         control: false,
@@ -205,11 +205,15 @@ fn placed(image: &[u8], scopes: &[u64; scopes::ROOM], p: ActionPush, set: KeySet
 {
     let t = p.tag;
     if to_root(image, p.action) {
-        return action_slot(p, set, slots::NONE, LocalTag(t.0, t.1));
+        let own = QueueTag::of_global(t);
+        return action_slot(p, set, slots::NONE, own);
     }
     let scope = rows::action_scope(image, p.action);
     match local_tag(scopes, scope, t) {
-        MappedLocal::Tag(x) => action_slot(p, set, scope, x),
+        MappedLocal::Tag(x) => {
+            let own = QueueTag::of_local(x);
+            action_slot(p, set, scope, own)
+        }
         MappedLocal::Refused(n) => refused(n),
     }
 }

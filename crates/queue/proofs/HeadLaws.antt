@@ -15,19 +15,20 @@ use Rattle.lists.specs.Lists.{drop-take-end, drop-pred}
 use Rattle.lists.specs.Tests.{same?}
 use Rattle.lists.specs.Held as H
 use Rattle.tags.specs.Tags.{Tag, at, earlier}
+use Rattle.tags.specs.Views.{ofQueue}
+use Rattle.tags.specs.declared.QueueTag.{QueueTag}
 use Rattle.machine.specs.State.{Event, root, inQueue}
 use Rattle.machine.specs.Heads.{Least, noTag, least, lesser, leastOf}
 use Rattle.scopes.specs.Scopes.{mostScopes}
 use Rattle.slots.specs.Slots.{blank, IsDue}
 use Rattle.slots.specs.declared.Due.{Due}
-use Rattle.queue.specs.Queue.{queues, ofStamp, ofEarliest, entryOf, queueOf, leastWords, encode, decode, encode-long, leastsOf, Whole, Held, headsOf}
-use Rattle.queue.specs.declared.Stamp.{Stamp}
+use Rattle.queue.specs.Queue.{queues, ofEarliest, entryOf, queueOf, leastWords, encode, decode, encode-long, leastsOf, Whole, Held, headsOf}
 use Rattle.queue.specs.declared.Earliest.{Earliest}
 use Rattle.queue.specs.declared.Earliest.the-variants as E
 
 -- ---- the words of an entry
 
-pub decode-there : (t : Stamp) → t .1 < 4294967296 → decode (encode (least (ofStamp t))) ≡ least (ofStamp t)
+pub decode-there : (t : QueueTag) → t .1 < 4294967296 → decode (encode (least (ofQueue t))) ≡ least (ofQueue t)
 unfolding decode encode
 decode-there t h = rw (mod-eq-of-lt h)
 
@@ -53,11 +54,11 @@ module _ (ws : List ℕ) (k : ℕ) where
     put-past l b = H.held-past decode encode leastWords queues encode-long ws k l h b
 
     pub put-there :
-        (t : Stamp) → t .1 < 4294967296 → k < queues → {out : List ℕ} → out ≡ stores ws (k * leastWords) 0 (1 ∷ t .0 ∷ t .1 ∷ []) →
-        Held out (set (leastsOf ws) k (least (ofStamp t)))
+        (t : QueueTag) → t .1 < 4294967296 → k < queues → {out : List ℕ} → out ≡ stores ws (k * leastWords) 0 (1 ∷ t .0 ∷ t .1 ∷ []) →
+        Held out (set (leastsOf ws) k (least (ofQueue t)))
     unfolding encode
     put-there t p b o =
-        H.held-stores decode encode leastWords queues encode-long ws k (least (ofStamp t)) (1 ∷ t .0 ∷ t .1 ∷ []) h (decode-there t p) b refl o
+        H.held-stores decode encode leastWords queues encode-long ws k (least (ofQueue t)) (1 ∷ t .0 ∷ t .1 ∷ []) h (decode-there t p) b refl o
 
     pub put-nothing : k < queues → {out : List ℕ} → out ≡ stores ws (k * leastWords) 0 (0 ∷ 0 ∷ 0 ∷ []) → Held out (set (leastsOf ws) k noTag)
     unfolding encode decode
@@ -74,23 +75,23 @@ blank-heads =
 -- ---- the lesser of two
 
 -- the entry of one event more, by what stood there
-module _ (ws : List ℕ) (q : ℕ) (t : Stamp) {k : ℕ} (o : k ≡ entryOf q) (e : Earliest) (h : ofEarliest e ≡ getD (leastsOf ws) k noTag) where
+module _ (ws : List ℕ) (q : ℕ) (t : QueueTag) {k : ℕ} (o : k ≡ entryOf q) (e : Earliest) (h : ofEarliest e ≡ getD (leastsOf ws) k noTag) where
   abbrev Noted : List ℕ → Type 0
-  Noted out = Held out (set (leastsOf ws) (entryOf q) (lesser (ofStamp t) (getD (leastsOf ws) (entryOf q) noTag)))
+  Noted out = Held out (set (leastsOf ws) (entryOf q) (lesser (ofQueue t) (getD (leastsOf ws) (entryOf q) noTag)))
 
-  pub note-first : {out : List ℕ} → e ≡ E.Nothing → Held out (set (leastsOf ws) k (least (ofStamp t))) → Noted out
+  pub note-first : {out : List ℕ} → e ≡ E.Nothing → Held out (set (leastsOf ws) k (least (ofQueue t))) → Noted out
   note-first p r =
       let l : getD (leastsOf ws) k noTag ≡ noTag = sym h ∙ ap ofEarliest p in
       rw (← o) (rw l r)
 
-  pub note-lesser : {out : List ℕ} {u : Stamp} → e ≡ E.At u → earlier (ofStamp u) (ofStamp t) ≡ false → Held out (set (leastsOf ws) k (least (ofStamp t))) → Noted out
+  pub note-lesser : {out : List ℕ} {u : QueueTag} → e ≡ E.At u → earlier (ofQueue u) (ofQueue t) ≡ false → Held out (set (leastsOf ws) k (least (ofQueue t))) → Noted out
   note-lesser {u = u} p f r =
-      let l : getD (leastsOf ws) k noTag ≡ least (ofStamp u) = sym h ∙ ap ofEarliest p in
+      let l : getD (leastsOf ws) k noTag ≡ least (ofQueue u) = sym h ∙ ap ofEarliest p in
       rw (← o) (rw (l, f) r)
 
-  pub note-kept : {u : Stamp} → Whole ws → e ≡ E.At u → earlier (ofStamp u) (ofStamp t) ≡ true → Noted ws
+  pub note-kept : {u : QueueTag} → Whole ws → e ≡ E.At u → earlier (ofQueue u) (ofQueue t) ≡ true → Noted ws
   note-kept {u} w p f =
-      let l : getD (leastsOf ws) k noTag ≡ least (ofStamp u) = sym h ∙ ap ofEarliest p in
+      let l : getD (leastsOf ws) k noTag ≡ least (ofQueue u) = sym h ∙ ap ofEarliest p in
       record { whole = w; things = rw (← o) (rw (l, f) (rw (← l) (sym (set-getD (leastsOf ws) k noTag)))) }
 
 -- ---- one event more in front
@@ -159,7 +160,7 @@ module _ (l : List Event) (n : ℕ) where
 
   pub heads-step :
       (i : ℕ) (d : Due) {ws out : List ℕ} → 0 < i → i ≤ n → n ≤ length l → IsDue d (getD l (i - 1) blank) → Held ws (headsOf (drop i (take n l))) →
-      Held out (set (leastsOf ws) (entryOf (d .queue)) (lesser (at (d .offset) (d .microstep)) (getD (leastsOf ws) (entryOf (d .queue)) noTag))) →
+      Held out (set (leastsOf ws) (entryOf (d .queue)) (lesser (ofQueue (d .tag)) (getD (leastsOf ws) (entryOf (d .queue)) noTag))) →
       Held out (headsOf (drop (i - 1) (take n l)))
   heads-step i d z a b r h o =
       let e = getD l (i - 1) blank in

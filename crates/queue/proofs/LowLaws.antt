@@ -14,13 +14,16 @@ use Rattle.lists.specs.Lists.{lose, lose-append}
 use Rattle.lists.specs.Rows.{tab, tab-set}
 use Rattle.lists.specs.Tests.{same?, gt-eqb, gt-ltb, and-left, yes-no}
 use Rattle.tags.specs.Tags.{Tag, at, earlier}
+use Rattle.tags.specs.Views.{ofQueue}
+use Rattle.tags.specs.declared.QueueTag.{QueueTag}
 use Rattle.machine.specs.State.{Event, mostWaiting, inQueue, atHead}
 use Rattle.machine.specs.Heads.{Least, noTag, least, lesser, leastOf}
 use Rattle.slots.specs.Slots.{blank, eventsOf, IsDue}
 use Rattle.slots.specs.declared.Due.{Due}
 use Rattle.slots.proofs.SlotLaws.{events-long}
-use Rattle.queue.specs.Queue.{queues, ofStamp, lowestOf, lowers, isLower, entryOf, queueOf, leastsOf, Held, headsOf}
-use Rattle.queue.specs.declared.Stamp.{Stamp}
+use Rattle.queue.specs.Queue.{queues, ofEarliest, lowers, isLower, entryOf, queueOf, leastsOf, Held, headsOf}
+use Rattle.queue.specs.declared.Earliest.{Earliest}
+use Rattle.queue.specs.declared.Earliest.the-variants as E
 use Rattle.queue.proofs.HeadLaws.{entry-own, entry-other, heads-more}
 
 -- ---- the order of tags
@@ -151,19 +154,19 @@ module _ (q : ℕ) (es : List Event) (e : Event) (l : Least) (h : l ≡ leastOf 
       go false m p = refl
 
 -- the test of an event that is due so
-module _ (q : ℕ) (found : Bool) (t : Stamp) (d : Due) (e : Event) (h : IsDue d e) where
-  pub low-other : (d .queue ≡ q → ⊥) → false ≡ isLower q (lowestOf found t) e
+module _ (q : ℕ) (l : Earliest) (d : Due) (e : Event) (h : IsDue d e) where
+  pub low-other : (d .queue ≡ q → ⊥) → false ≡ isLower q (ofEarliest l) e
   unfolding isLower inQueue
   low-other n = rw (← h .queue) (simp (ne-eqb _ _ n))
 
   module _ (k : d .queue ≡ q) where
-    pub low-first : found ≡ false → true ≡ isLower q (lowestOf found t) e
+    pub low-first : l ≡ E.Nothing → true ≡ isLower q (ofEarliest l) e
     unfolding isLower inQueue
-    low-first f = rw (← h .queue) (simp (eq-eqb _ _ k, f))
+    low-first f = rw (← h .queue, f) (simp (eq-eqb _ _ k))
 
-    pub low-by : found ≡ true → (b : Bool) → earlier (ofStamp t) (at (d .offset) (d .microstep)) ≡ b → not b ≡ isLower q (lowestOf found t) e
+    pub low-by : {t : QueueTag} → l ≡ E.At t → (b : Bool) → earlier (ofQueue t) (ofQueue (d .tag)) ≡ b → not b ≡ isLower q (ofEarliest l) e
     unfolding isLower inQueue
-    low-by f b p = rw (← h .queue, ← h .tag) (simp (eq-eqb _ _ k, f, p))
+    low-by f b p = rw (← h .queue, ← h .tag, f) (simp (eq-eqb _ _ k, p))
 
 -- ---- one event more of the front of the rows
 
@@ -226,7 +229,7 @@ module _ (rows : List ℕ) (before after : ℕ) {ws : List ℕ} (w : Held ws (he
   grow-none e = rw e w
 
   pub grow-one : (d : Due) {out : List ℕ} → before ≤ after → after ≤ before + 1 → after ≤ mostWaiting → (after ≡ before → ⊥) → IsDue d (getD (eventsOf rows) before blank) →
-      Held out (set (leastsOf ws) (entryOf (d .queue)) (lesser (at (d .offset) (d .microstep)) (getD (leastsOf ws) (entryOf (d .queue)) noTag))) →
+      Held out (set (leastsOf ws) (entryOf (d .queue)) (lesser (ofQueue (d .tag)) (getD (leastsOf ws) (entryOf (d .queue)) noTag))) →
       Held out (headsOf (take after (eventsOf rows)))
   grow-one d a b f n r o =
       let e : after ≡ before + 1 = omega arith in

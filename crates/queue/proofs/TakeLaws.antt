@@ -13,19 +13,20 @@ use Rattle.lists.specs.Lay.{lay}
 use Rattle.lists.specs.Tests.{and-no}
 use Rattle.lists.specs.Loops as loops
 use Rattle.key_set.specs.Sets.{has}
-use Rattle.tags.specs.Tags.{at, sameTag}
+use Rattle.tags.specs.Tags.{sameTag}
+use Rattle.tags.specs.Views.{ofQueue}
+use Rattle.tags.specs.declared.QueueTag.{QueueTag}
 use Rattle.machine.specs.State.{Event, mostWaiting, ordinary, atHead, inQueue}
 use Rattle.slots.specs.Slots.{slotWords, blank, encode, decode, encode-long, eventsOf, Whole, Held, IsDue}
 use Rattle.slots.specs.declared.Due.{Due}
 use Rattle.slots.proofs.SlotLaws.{events-long}
-use Rattle.queue.specs.Queue.{oneIf, ofStamp, goesOf}
-use Rattle.queue.specs.declared.Stamp.{Stamp}
+use Rattle.queue.specs.Queue.{oneIf, goesOf}
 use Rattle.queue.specs.declared.Which.{Which}
 
 -- ---- which go
 
 module _ (w : Which) (e : Event) {r : Bool} where
-  pub goes-at : w .«by_tag» ≡ true → r ≡ atHead (w .queue) (ofStamp (w .stamp)) e → r ≡ goesOf w e
+  pub goes-at : w .«by_tag» ≡ true → r ≡ atHead (w .queue) (ofQueue (w .stamp)) e → r ≡ goesOf w e
   unfolding goesOf
   goes-at t h = simp t h
 
@@ -34,20 +35,20 @@ module _ (w : Which) (e : Event) {r : Bool} where
   goes-in t h = simp t h
 
 -- an event that is due so
-module _ (d : Due) (q : ℕ) (t : Stamp) (e : Event) (h : IsDue d e) where
-  at-due : (eqb (d .queue) q && sameTag (at (d .offset) (d .microstep)) (ofStamp t)) ≡ atHead q (ofStamp t) e
+module _ (d : Due) (q : ℕ) (t : QueueTag) (e : Event) (h : IsDue d e) where
+  at-due : (eqb (d .queue) q && sameTag (ofQueue (d .tag)) (ofQueue t)) ≡ atHead q (ofQueue t) e
   unfolding atHead inQueue
   at-due = rw (h .queue, h .tag)
 
-  pub due-here : {r : Bool} → d .offset ≡ t .0 → d .queue ≡ q → r ≡ eqb (d .microstep) (t .1) → r ≡ atHead q (ofStamp t) e
+  pub due-here : {r : Bool} → d .tag .0 ≡ t .0 → d .queue ≡ q → r ≡ eqb (d .tag .1) (t .1) → r ≡ atHead q (ofQueue t) e
   unfolding sameTag
   due-here o k m = m ∙ (simp (eq-eqb _ _ o, eq-eqb _ _ k) refl ∙ at-due)
 
-  pub due-elsewhere : (d .queue ≡ q → ⊥) → false ≡ atHead q (ofStamp t) e
+  pub due-elsewhere : (d .queue ≡ q → ⊥) → false ≡ atHead q (ofQueue t) e
   unfolding sameTag
   due-elsewhere k = simp (ne-eqb _ _ k) refl ∙ at-due
 
-  pub due-otherwise : (d .offset ≡ t .0 → ⊥) → false ≡ atHead q (ofStamp t) e
+  pub due-otherwise : (d .tag .0 ≡ t .0 → ⊥) → false ≡ atHead q (ofQueue t) e
   unfolding sameTag
   due-otherwise o = sym (and-no (eqb (d .queue) q)) ∙ (simp (ne-eqb _ _ o) refl ∙ at-due)
 

@@ -10,11 +10,11 @@ use Rattle.lists.specs.Lists.{lose, keep, count}
 use Rattle.lists.specs.Rows.{tab}
 use Rattle.refusals.specs.declared.Refusal.the-variants as R
 use Rattle.tags.specs.Tags.{Tag, at, earlier}
+use Rattle.tags.specs.Views.{ofQueue}
 use Rattle.machine.specs.State.{Event, root, mostWaiting, inQueue, atHead, ordinary}
 use Rattle.machine.specs.Heads.{Least, noTag, least, lesser, leastOf}
 use Rattle.scopes.specs.Scopes.{mostScopes}
 use Rattle.key_set.specs.Sets.{has}
-use Rattle.queue.specs.declared.Stamp.{Stamp}
 use Rattle.queue.specs.declared.Which.{Which}
 use Rattle.queue.specs.declared.Earliest.{Earliest}
 use Rattle.queue.specs.declared.Earliest.the-variants as E
@@ -31,16 +31,9 @@ acceptedAt n = cond (leb mostWaiting n) (A.Refused R.Waiting) (A.Count (n + 1))
 abbrev pub queues : ℕ
 queues = mostScopes + 1
 
-abbrev pub ofStamp : Stamp → Tag
-ofStamp t = at (t .0) (t .1)
-
 abbrev pub ofEarliest : Earliest → Least
 ofEarliest E.Nothing = noTag
-ofEarliest (E.At t) = least (ofStamp t)
-
--- the least tag so far, if there is one
-abbrev pub lowestOf : Bool → Stamp → Least
-lowestOf found t = cond found (least (ofStamp t)) noTag
+ofEarliest (E.At t) = least (ofQueue t)
 
 -- no earlier than it
 abbrev pub lowers : Tag → Least → Bool
@@ -90,7 +83,7 @@ headsOf es = tab (λ k. leastOf (queueOf k) es) 0 queues
 -- ---- taking out: the events of a queue at a tag, or those of some scopes
 
 unfoldable pub goesOf : Which → Event → Bool
-goesOf w e = cond (w .«by_tag») (atHead (w .queue) (ofStamp (w .stamp)) e) (has (w .inside .words) (e .queue))
+goesOf w e = cond (w .«by_tag») (atHead (w .queue) (ofQueue (w .stamp)) e) (has (w .inside .words) (e .queue))
 
 abbrev pub oneIf : Bool → ℕ
 oneIf b = cond b 1 0

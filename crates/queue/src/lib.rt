@@ -8,22 +8,20 @@ ghost use Rattle.lists.specs.Lists as lists;
 ghost use Rattle.lists.specs.Lay.{lay};
 ghost use Rattle.machine.specs.State.{Event, mostWaiting, ordinary, atHead};
 ghost use Rattle.machine.specs.Heads.{noTag, least, lesser};
-ghost use Rattle.tags.specs.Tags.{at, earlier};
+ghost use Rattle.tags.specs.Views.{ofQueue};
 ghost use Rattle.slots.specs.Slots.{eventsOf, eventOf, blank, IsDue};
 ghost use Rattle.slots.specs.Slots as slot;
-ghost use Rattle.queue.specs.Queue.{acceptedAt, ofStamp, ofEarliest, lowestOf, isLower, entryOf, leastsOf, Whole, Held, headsOf, goesOf, oneIf};
+ghost use Rattle.queue.specs.Queue.{acceptedAt, ofEarliest, isLower, entryOf, leastsOf, Whole, Held, headsOf, goesOf, oneIf};
 use key_set::KeySet;
 use refusals::Refusal;
 use slots::Due;
 use slots::Slot;
-
-// A tag on its queue's own scale.
-pub struct Stamp(pub u64, pub u32);
+use tags::QueueTag;
 
 // The least tag of a queue, or nothing.
 pub enum Earliest {
     Nothing,
-    At(Stamp),
+    At(QueueTag),
 }
 
 // How many events wait now, or the refusal.
@@ -38,20 +36,6 @@ pub const QUEUES: usize = scopes::MOST_SCOPES + 1;
 const LEAST_WORDS: usize = 3;
 
 pub const HEADS: usize = QUEUES * LEAST_WORDS;
-
-impl Stamp {
-    pub fn earlier(self, other: Stamp) -> bool
-        ensures { λ r. ⌜ r ≡ earlier (ofStamp self) (ofStamp other) ⌝ }
-    {
-        if self.0 < other.0 {
-            return true;
-        }
-        if other.0 < self.0 {
-            return false;
-        }
-        self.1 < other.1
-    }
-}
 
 // ---- accepting
 
@@ -95,14 +79,14 @@ pub fn least_at(heads: &[u64; HEADS], k: usize) -> Earliest
     let offset = heads[b + 1];
     let microstep = heads[b + 2];
     if there == 1 {
-        return Earliest::At(Stamp(offset, (microstep % 4294967296) as u32));
+        return Earliest::At(QueueTag(offset, (microstep % 4294967296) as u32));
     }
     Earliest::Nothing
 }
 
-fn put_least(heads: &mut [u64; HEADS], k: usize, t: Stamp)
+fn put_least(heads: &mut [u64; HEADS], k: usize, t: QueueTag)
     requires { ⌜ Whole (now heads) ⌝ }
-    ensures { λ _. ⌜ Held (now (heads .exit)) (set (leastsOf (now (heads .entry))) k (least (ofStamp t))) ⌝ }
+    ensures { λ _. ⌜ Held (now (heads .exit)) (set (leastsOf (now (heads .entry))) k (least (ofQueue t))) ⌝ }
 {
     if QUEUES <= k {
         return;
@@ -129,10 +113,10 @@ fn put_none(heads: &mut [u64; HEADS], k: usize)
 // One event more; where its queue has an earlier one nothing is written.
 fn note(heads: &mut [u64; HEADS], d: Due)
     requires { ⌜ Whole (now heads) ⌝ }
-    ensures { λ _. ⌜ Held (now (heads .exit)) (set (leastsOf (now (heads .entry))) (entryOf (d .queue)) (lesser (at (d .offset) (d .microstep)) (getD (leastsOf (now (heads .entry))) (entryOf (d .queue)) noTag))) ⌝ }
+    ensures { λ _. ⌜ Held (now (heads .exit)) (set (leastsOf (now (heads .entry))) (entryOf (d .queue)) (lesser (ofQueue (d .tag)) (getD (leastsOf (now (heads .entry))) (entryOf (d .queue)) noTag))) ⌝ }
 {
     let k = entry_of(d.queue);
-    let t = Stamp(d.offset, d.microstep);
+    let t = d.tag;
     match least_at(heads, k) {
         Earliest::Nothing => {
             put_least(heads, k, t);
@@ -176,33 +160,33 @@ pub fn grow(heads: &mut [u64; HEADS], rows: &[u64; slots::ROOM], before: usize, 
 }
 
 // The entry of a queue whose least tag is another now, or which has none.
-pub fn renew(heads: &mut [u64; HEADS], queue: u16, found: bool, lowest: Stamp)
+pub fn renew(heads: &mut [u64; HEADS], queue: u16, lowest: Earliest)
     requires { ⌜ Whole (now heads) ⌝ }
-    ensures { λ _. ⌜ Held (now (heads .exit)) (set (leastsOf (now (heads .entry))) (entryOf queue) (lowestOf found lowest)) ⌝ }
+    ensures { λ _. ⌜ Held (now (heads .exit)) (set (leastsOf (now (heads .entry))) (entryOf queue) (ofEarliest lowest)) ⌝ }
 {
     let k = entry_of(queue);
-    if found {
-        put_least(heads, k, lowest);
-        return;
+    match lowest {
+        Earliest::Nothing => {
+            put_none(heads, k);
+        }
+        Earliest::At(t) => {
+            put_least(heads, k, t);
+        }
     }
-    put_none(heads, k);
 }
 
 // An event of the queue takes the place of the lowest so far, if there is one, unless that is earlier.
-pub fn is_lower(queue: u16, found: bool, lowest: Stamp, d: Due) -> bool
-    ensures { λ r. ⌜ ((e : Event) → IsDue d e → r ≡ isLower queue (lowestOf found lowest) e) ⌝ }
+pub fn is_lower(queue: u16, lowest: Earliest, d: Due) -> bool
+    ensures { λ r. ⌜ ((e : Event) → IsDue d e → r ≡ isLower queue (ofEarliest lowest) e) ⌝ }
 {
     if d.queue == queue {
-        if found {
-            let t = Stamp(d.offset, d.microstep);
-            if lowest.earlier(t) {
-                return false;
-            }
-            return true;
+        match lowest {
+            Earliest::Nothing => true,
+            Earliest::At(t) => { if t.earlier(d.tag) { false } else { true } }
         }
-        return true;
+    } else {
+        false
     }
-    false
 }
 
 // ---- taking out
@@ -211,7 +195,7 @@ pub fn is_lower(queue: u16, found: bool, lowest: Stamp, d: Due) -> bool
 pub struct Which {
     pub by_tag: bool,
     pub queue: u16,
-    pub stamp: Stamp,
+    pub stamp: QueueTag,
     pub inside: KeySet,
 }
 
@@ -222,12 +206,13 @@ pub struct Removed {
 }
 
 // Offsets differ more often than queues.
-fn is_at(d: Due, queue: u16, t: Stamp) -> bool
-    ensures { λ r. ⌜ ((e : Event) → IsDue d e → r ≡ atHead queue (ofStamp t) e) ⌝ }
+fn is_at(d: Due, queue: u16, t: QueueTag) -> bool
+    ensures { λ r. ⌜ ((e : Event) → IsDue d e → r ≡ atHead queue (ofQueue t) e) ⌝ }
 {
-    if d.offset == t.0 {
+    let u = d.tag;
+    if u.0 == t.0 {
         if d.queue == queue {
-            return d.microstep == t.1;
+            return u.1 == t.1;
         }
     }
     false

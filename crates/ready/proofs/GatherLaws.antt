@@ -2,11 +2,11 @@
 use mathlib.Core.Bool.{Bool, true, false, cond, _||_}
 use mathlib.Core.Path.{_≡_, refl, sym, ap, _∙_}
 use mathlib.Core.List.{List, [], _∷_, _++_, append-nil, append-assoc}
-use Prim.Native.Nat.{ℕ, suc, _+_, _<_, _≤_}
+use Prim.Native.Nat.{ℕ, suc, _+_, _-_, _<_, _≤_}
 use native.Mathlib.Omega.{arith}
 use native.Mathlib.Numerals.{add-one}
-use lib.ListN.{length, getD, set, take, length-set, length-take, length-append}
-use lib.Seq.{take-suc-set, getD-take}
+use lib.ListN.{length, getD, set, take, drop, length-set, length-take, length-append}
+use lib.Seq.{take-suc-set, getD-take, drop-set-lt, drop-drop}
 use lib.Dec.{eqb}
 use borrow.Author.Tests.{eq-eqb, ne-eqb}
 use Rattle.lists.specs.Lists.{any, keep, foldl, any-at, any-suc, any-append, keep-suc-yes, keep-suc-no, keep-shorter}
@@ -16,7 +16,7 @@ use Rattle.key_set.specs.Sets.{unionOf, noKeys, wordCount}
 use Rattle.machine.specs.State.{Event, ordinary}
 use Rattle.machine.specs.Heads.{Ready, addAction, readyOf}
 use Rattle.slots.specs.Slots.{blank}
-use Rattle.ready.specs.Gathering.{Gathering, nothingYet, addedTo, isNew, countAfter, keysAfter}
+use Rattle.ready.specs.Gathering.{Gathering, nothingYet, addedTo, isNew, countAfter, keysAfter, Grown}
 
 -- ---- folding at the end
 
@@ -98,12 +98,21 @@ count-near keys n a = go (isNew (take n keys) a)
     go true = omega arith
     go false = omega arith
 
-keys-long : (keys : List ℕ) (n a : ℕ) → length (keysAfter keys n a) ≡ length keys
-keys-long keys n a = go (isNew (take n keys) a)
+pub grown-none : (n : ℕ) (keys : List ℕ) → Grown n n keys keys
+grown-none n keys = record { more = omega arith; long = refl; behind = refl }
+
+pub grown-then : {n m k : ℕ} {a b c : List ℕ} → Grown n m a b → Grown m k b c → Grown n k a c
+grown-then {n} {m} {k} {a} {b} {c} w v =
+    let e : k ≡ m + (k - m) = omega (arith, v .more) in
+    let s : drop k b ≡ drop k a = rw (e, ← drop-drop (k - m) m b, ← drop-drop (k - m) m a, w .behind) in
+    record { more = omega (arith, w .more, v .more); long = v .long ∙ w .long; behind = v .behind ∙ s }
+
+keys-grown : (keys : List ℕ) (n a : ℕ) → Grown n (countAfter keys n a) keys (keysAfter keys n a)
+keys-grown keys n a = go (isNew (take n keys) a)
   where
-    go : (b : Bool) → length (cond b (set keys n a) keys) ≡ length keys
-    go true = length-set keys n a
-    go false = refl
+    go : (b : Bool) → Grown n (cond b (n + 1) n) keys (cond b (set keys n a) keys)
+    go true = record { more = omega arith; long = length-set keys n a; behind = drop-set-lt (n + 1) keys n a (omega arith) }
+    go false = grown-none n keys
 
 keys-added : (keys : List ℕ) (n : ℕ) (e : Event) → n < length keys → take (countAfter keys n (e .action)) (keysAfter keys n (e .action)) ≡ addAction (take n keys) e
 unfolding addAction
@@ -124,8 +133,8 @@ module _ (keys out : List ℕ) (g : Gathering) (n m : ℕ) (e : Event) (h : n < 
   pub added-near : m ≤ n + 1
   added-near = rw a (count-near keys n (e .action))
 
-  pub added-long : length out ≡ length keys
-  added-long = rw b (keys-long keys n (e .action))
+  pub added-grown : Grown n m keys out
+  added-grown = rw (a, b) (keys-grown keys n (e .action))
 
 -- ---- the loop's state: what was gathered of the first i events, and how many keys at most
 

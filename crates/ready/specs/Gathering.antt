@@ -4,15 +4,15 @@ use mathlib.Core.Bool.{Bool, true, false, cond, _||_}
 use mathlib.Core.Path.{_≡_, refl, ap, _∙_, sym}
 use mathlib.Core.List.{List, [], _∷_, _++_}
 use Prim.Native.Nat.{ℕ, _+_, _≤_}
-use lib.ListN.{length, take, set}
+use lib.ListN.{length, take, drop, set}
 use lib.Dec.{eqb}
 use Rattle.lists.specs.Lists.{any, foldl, keep, lose, count}
 use Rattle.key_set.specs.Sets.{unionOf, noKeys, wordCount}
 use Rattle.tags.specs.Tags.{Tag}
 use Rattle.rows.specs.Rows.{none}
-use Rattle.machine.specs.State.{Event, mostWaiting, ordinary}
+use Rattle.machine.specs.State.{Event, ordinary}
 use Rattle.machine.specs.Heads.{Ready, addAction, readyOf, leastOf}
-use Rattle.queue.specs.Queue.{lowestOf}
+use Rattle.queue.specs.Queue.{ofEarliest}
 use Rattle.ready.specs.declared.Gathered.{Gathered}
 use Rattle.ready.specs.declared.Taken.{Taken}
 
@@ -53,6 +53,9 @@ gatheringOf g actions =
       actions = take (g .actions) actions;
     }
 
+abbrev pub noneYet : Gathered
+noneYet = record { terminal = false; work = false; network = false; reactions = record { words = noKeys wordCount }; actions = 0 }
+
 -- how many keys there are after an action, and where it stands
 abbrev pub isNew : List ℕ → ℕ → Bool
 isNew l a = cond (eqb a none || any (eqb a) l) false true
@@ -63,12 +66,18 @@ countAfter keys n a = cond (isNew (take n keys) a) (n + 1) n
 abbrev pub keysAfter : List ℕ → ℕ → ℕ → List ℕ
 keysAfter keys n a = cond (isNew (take n keys) a) (set keys n a) keys
 
+-- the lent array with m keys where n stood: as long as it was, and behind them as it was
+pub record Grown (n m : ℕ) (was keys : List ℕ) : Type 0 where
+  pub more : n ≤ m
+  pub long : length keys ≡ length was
+  pub behind : drop m keys ≡ drop m was
+
 -- what taking out comes to: the events that go are gathered behind what there was, with no more keys than there may be;
 -- how many stay, how many ordinary ones went, and the least tag that queue q has left
-pub record Sifted (q : ℕ) (p : Event → Bool) (es : List Event) (start : Gathering) (first : ℕ) (r : Taken) (keys : List ℕ) : Type 0 where
-  pub folds : gatheringOf (r .gathered) keys ≡ foldl addedTo start (keep p es)
-  pub near : r .gathered .actions ≤ first + length (keep p es)
-  pub long : length keys ≡ mostWaiting
+pub record Sifted (q : ℕ) (p : Event → Bool) (es : List Event) (g : Gathered) (was : List ℕ) (r : Taken) (keys : List ℕ) : Type 0 where
+  pub folds : gatheringOf (r .gathered) keys ≡ foldl addedTo (gatheringOf g was) (keep p es)
+  pub near : r .gathered .actions ≤ g .actions + length (keep p es)
+  pub grown : Grown (g .actions) (r .gathered .actions) was keys
   pub left : r .count ≡ length (lose p es)
   pub went : r .ordinary ≡ count ordinary (keep p es)
-  pub least : lowestOf (r .found) (r .lowest) ≡ leastOf q (lose p es)
+  pub least : ofEarliest (r .lowest) ≡ leastOf q (lose p es)

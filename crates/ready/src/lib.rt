@@ -9,9 +9,9 @@ ghost use Rattle.lists.specs.Lay.{lay};
 ghost use Rattle.machine.specs.State.{mostWaiting, ordinary};
 ghost use Rattle.slots.specs.Slots.{eventsOf, eventOf, blank, Whole, Held};
 ghost use Rattle.queue.specs.Queue.{goesOf};
-ghost use Rattle.ready.specs.Gathering.{nothingYet, addedTo, gatheringOf, countAfter, keysAfter, Sifted};
+ghost use Rattle.ready.specs.Gathering.{noneYet, addedTo, gatheringOf, countAfter, keysAfter, Grown, Sifted};
 use key_set::KeySet;
-use queue::Stamp;
+use queue::Earliest;
 use queue::Which;
 use slots::Slot;
 
@@ -25,8 +25,8 @@ pub struct Gathered {
 }
 
 impl Gathered {
-    pub fn nothing_yet(keys: &[u16; slots::MOST_WAITING]) -> Self
-        ensures { λ r. ⌜ gatheringOf r (now (keys .entry)) ≡ nothingYet ⌝ }
+    pub fn nothing_yet() -> Self
+        ensures { λ r. ⌜ r ≡ noneYet ⌝ }
     {
         let none = KeySet::empty();
         Self {
@@ -75,7 +75,7 @@ fn add_key(keys: &mut [u16; slots::MOST_WAITING], n: usize, a: u16) -> usize
 fn add(keys: &mut [u16; slots::MOST_WAITING], g: Gathered, s: Slot) -> Gathered
     requires { ⌜ (length (now keys) ≡ mostWaiting) × (g .actions < mostWaiting) ⌝ }
     ensures { λ r. ⌜ gatheringOf r (now (keys .exit)) ≡ addedTo (gatheringOf g (now (keys .entry))) (eventOf s) ⌝ }
-    ensures { λ r. ⌜ (r .actions ≤ g .actions + 1) × (length (now (keys .exit)) ≡ length (now (keys .entry))) ⌝ }
+    ensures { λ r. ⌜ (r .actions ≤ g .actions + 1) × Grown (g .actions) (r .actions) (now (keys .entry)) (now (keys .exit)) ⌝ }
 {
     let n = g.actions;
     let count = add_key(keys, n, s.action);
@@ -106,8 +106,7 @@ pub struct Taken {
     pub gathered: Gathered,
     pub count: usize,
     pub ordinary: usize,
-    pub found: bool,
-    pub lowest: Stamp,
+    pub lowest: Earliest,
 }
 
 // The events that go are gathered, in order of acceptance; those that stay, over the front.
@@ -120,14 +119,13 @@ fn sift(
 ) -> Taken
     requires { ⌜ Whole (now rows) × (n ≤ mostWaiting) ⌝ }
     requires { ⌜ (length (now keys) ≡ mostWaiting) × (g .actions + n ≤ mostWaiting) ⌝ }
-    ensures { λ r. ⌜ Sifted (which .queue) (goesOf which) (take n (eventsOf (now (rows .entry)))) (gatheringOf g (now (keys .entry))) (g .actions) r (now (keys .exit)) ⌝ }
+    ensures { λ r. ⌜ Sifted (which .queue) (goesOf which) (take n (eventsOf (now (rows .entry)))) g (now (keys .entry)) r (now (keys .exit)) ⌝ }
     ensures { λ _. ⌜ Held (now (rows .exit)) (over (lose (goesOf which) (take n (eventsOf (now (rows .entry))))) (eventsOf (now (rows .entry)))) ⌝ }
 {
     let mut out = g;
     let mut w: usize = 0;
     let mut ordinary: usize = 0;
-    let mut found = false;
-    let mut lowest = Stamp(0, 0);
+    let mut lowest = Earliest::Nothing;
     let mut i: usize = 0;
     while i < n {
         let d = slots::due_at(rows, i);
@@ -140,9 +138,9 @@ fn sift(
         } else {
             queue::stay(rows, at, w);
             w += 1;
-            if queue::is_lower(which.queue, found, lowest, d) {
-                lowest = Stamp(d.offset, d.microstep);
-                found = true;
+            if queue::is_lower(which.queue, lowest, d) {
+                let t = d.tag;
+                lowest = Earliest::At(t);
             }
         }
     }
@@ -150,7 +148,6 @@ fn sift(
         gathered: out,
         count: w,
         ordinary,
-        found,
         lowest,
     }
 }
@@ -165,7 +162,7 @@ pub fn take_out(
 ) -> Taken
     requires { ⌜ Whole (now rows) × (n ≤ mostWaiting) ⌝ }
     requires { ⌜ (length (now keys) ≡ mostWaiting) × (g .actions + n ≤ mostWaiting) ⌝ }
-    ensures { λ r. ⌜ Sifted (which .queue) (goesOf which) (take n (eventsOf (now (rows .entry)))) (gatheringOf g (now (keys .entry))) (g .actions) r (now (keys .exit)) ⌝ }
+    ensures { λ r. ⌜ Sifted (which .queue) (goesOf which) (take n (eventsOf (now (rows .entry)))) g (now (keys .entry)) r (now (keys .exit)) ⌝ }
     ensures { λ _. ⌜ Held (now (rows .exit)) (lay blank (eventsOf (now (rows .entry))) (lose (goesOf which) (take n (eventsOf (now (rows .entry))))) n) ⌝ }
 {
     let r = sift(rows, n, which, keys, g);

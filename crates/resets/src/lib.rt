@@ -21,10 +21,10 @@ use entries::ValueRows;
 use key_set::Found;
 use key_set::KeySet;
 use plan::Plan;
-use queue::Stamp;
 use queue::Which;
 use scopes::Scope;
 use tags::LocalTag;
+use tags::QueueTag;
 use tags::ScopeClock;
 
 // How many events wait and how much is held after it.
@@ -48,7 +48,7 @@ fn drop_events(
     let which = Which {
         by_tag: false,
         queue: 0,
-        stamp: Stamp(0, 0),
+        stamp: QueueTag::ZERO,
         inside,
     };
     let gone = queue::remove(events, counts.waiting, which);

@@ -7,19 +7,19 @@ ghost use lib.ListN.{getD};
 ghost use Rattle.key_set.specs.Sets.{insertKey};
 ghost use Rattle.rows.specs.Kinds.{kindOf, place as placeOf, count as countOf};
 ghost use Rattle.rows.specs.Rows.{none};
-ghost use Rattle.tags.specs.Views.{ofLocal};
+ghost use Rattle.tags.specs.Views.{ofQueue};
 ghost use Rattle.table.specs.Rules.{timerTag};
 ghost use Rattle.schedule.specs.Schedule.{namesMode, isModal, isCurrent, isActive, belongs as belongsTo, reactionsOf, triggersOf, startupsOf, resetsOf};
 use key_set::KeySet;
-use tags::LocalTag;
+use tags::QueueTag;
 
-// A timer row's tag, on its scope's scale.
-pub fn timer_tag(image: &[u8], j: u16) -> LocalTag
-    ensures { λ r. ⌜ ofLocal r ≡ timerTag (now (image .entry)) j ⌝ }
+// A timer row's tag, on the scale of its scope's queue: a scope without a parent has the root's.
+pub fn timer_tag(image: &[u8], j: u16) -> QueueTag
+    ensures { λ r. ⌜ ofQueue r ≡ timerTag (now (image .entry)) j ⌝ }
 {
     let offset = rows::timer_offset(image, j);
     let microstep = rows::timer_microstep(image, j);
-    LocalTag(offset, microstep)
+    QueueTag(offset, microstep)
 }
 
 // ---- modes

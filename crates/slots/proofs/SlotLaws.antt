@@ -97,8 +97,8 @@ module _ (ws : List ℕ) (k : ℕ) where
   read-there h = sym (H.thing-get decode encode slotWords mostWaiting encode-long ws k blank h)
 
   pub due-there :
-      {d : Due} → k < mostWaiting → d .queue ≡ getD ws (k * slotWords + 0) 0 % 65536 → d .offset ≡ getD ws (k * slotWords + 1) 0 →
-      d .microstep ≡ getD ws (k * slotWords + 2) 0 % 4294967296 → IsDue d (getD (eventsOf ws) k blank)
+      {d : Due} → k < mostWaiting → d .queue ≡ getD ws (k * slotWords + 0) 0 % 65536 → d .tag .0 ≡ getD ws (k * slotWords + 1) 0 →
+      d .tag .1 ≡ getD ws (k * slotWords + 2) 0 % 4294967296 → IsDue d (getD (eventsOf ws) k blank)
   unfolding decode tab
   due-there h q o m = record { queue = q ∙ ap (λ e. e .queue) (read-there h); tag = rw (o, m) (ap (λ e. e .tag) (read-there h)) }
 

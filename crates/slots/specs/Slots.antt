@@ -8,7 +8,7 @@ use lib.Dec.{eqb}
 use Rattle.lists.specs.Held as H
 use Rattle.key_set.specs.Sets.{noKeys, wordCount}
 use Rattle.tags.specs.Tags.{at, zeroTag}
-use Rattle.tags.specs.Views.{ofGlobal}
+use Rattle.tags.specs.Views.{ofGlobal, ofQueue}
 use Rattle.machine.specs.State.{Event, mostWaiting}
 use Rattle.slots.specs.declared.Slot.{Slot}
 use Rattle.slots.specs.declared.Due.{Due}
@@ -18,7 +18,7 @@ abbrev pub eventOf : Slot → Event
 eventOf s =
     record {
       queue = s .queue;
-      tag = at (s .offset) (s .microstep);
+      tag = ofQueue (s .tag);
       reactions = s .reactions .words;
       terminal = s .terminal;
       control = s .control;
@@ -30,7 +30,7 @@ eventOf s =
 -- an event's queue and tag
 pub record IsDue (d : Due) (e : Event) : Type 0 where
   pub queue : d .queue ≡ e .queue
-  pub tag : at (d .offset) (d .microstep) ≡ e .tag
+  pub tag : ofQueue (d .tag) ≡ e .tag
 
 -- what stands in a slot that is free
 abbrev pub blank : Event

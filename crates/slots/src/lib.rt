@@ -7,6 +7,7 @@ ghost use Rattle.slots.specs.Slots.{blank, bitOf, headWord, stepsWord, e
 ghost use Rattle.machine.specs.State.{ordinary, mostWaiting};
 use key_set::KeySet;
 use tags::GlobalTag;
+use tags::QueueTag;
 
 // How many events may wait; `mostWaiting` of specs/ says the same.
 pub const MOST_WAITING: usize = 256;
@@ -24,8 +25,7 @@ pub const NONE: u16 = 65535;
 // (or NONE) with its stored tag.
 pub struct Slot {
     pub queue: u16,
-    pub offset: u64,
-    pub microstep: u32,
+    pub tag: QueueTag,
     pub reactions: KeySet,
     pub terminal: bool,
     pub control: bool,
@@ -37,8 +37,7 @@ pub struct Slot {
 // When an event is due: its queue, and its tag on that queue's scale.
 pub struct Due {
     pub queue: u16,
-    pub offset: u64,
-    pub microstep: u32,
+    pub tag: QueueTag,
 }
 
 fn bit(b: bool) -> u64
@@ -59,8 +58,7 @@ impl Slot {
         };
         Self {
             queue: 0,
-            offset: 0,
-            microstep: 0,
+            tag: QueueTag::ZERO,
             reactions: none,
             terminal: false,
             control: false,
@@ -99,7 +97,7 @@ fn head_word(s: Slot) -> u64
 fn steps_word(s: Slot) -> u64
     ensures { λ r. ⌜ r ≡ stepsWord (eventOf s) ⌝ }
 {
-    (s.microstep as u64) + (s.stored.1 as u64) * 4294967296
+    (s.tag.1 as u64) + (s.stored.1 as u64) * 4294967296
 }
 
 // The slot in row k; past the last row a blank one.
@@ -121,8 +119,7 @@ pub fn slot_at(rows: &[u64; ROOM], k: usize) -> Slot
     };
     Slot {
         queue: (head % 65536) as u16,
-        offset,
-        microstep: (steps % 4294967296) as u32,
+        tag: QueueTag(offset, (steps % 4294967296) as u32),
         reactions,
         terminal: head / 4294967296 % 2 == 1,
         control: head / 8589934592 % 2 == 1,
@@ -143,8 +140,7 @@ pub fn due_at(rows: &[u64; ROOM], k: usize) -> Due
     let steps = rows[b + 2];
     Due {
         queue: (head % 65536) as u16,
-        offset,
-        microstep: (steps % 4294967296) as u32,
+        tag: QueueTag(offset, (steps % 4294967296) as u32),
     }
 }
 
@@ -160,7 +156,7 @@ pub fn put_slot(rows: &mut [u64; ROOM], k: usize, s: Slot)
     let r = s.reactions;
     let w = r.words;
     rows[b + 0] = head_word(s);
-    rows[b + 1] = s.offset;
+    rows[b + 1] = s.tag.0;
     rows[b + 2] = steps_word(s);
     rows[b + 3] = s.stored.0;
     rows[b + 4] = w[0];

@@ -30,8 +30,8 @@ use store_calls::Changed;
 use store_calls::Outcome;
 use tags::DelayedGlobal;
 use tags::GlobalTag;
-use tags::LocalTag;
 use tags::MappedGlobal;
+use tags::QueueTag;
 
 // What a step comes to: done or refused, how many events wait and how much is held.
 pub struct Started {
@@ -83,10 +83,10 @@ fn accept(events: &mut [u64; slots::ROOM], counts: lens::Counts, s: Slot) -> Que
 fn plain(there: GlobalTag, reactions: KeySet) -> Slot
     ensures { λ r. ⌜ eventOf r ≡ T.plainEvent (ofGlobal there) (reactions .words) ⌝ }
 {
+    let own = QueueTag::of_global(there);
     Slot {
         queue: slots::NONE,
-        offset: there.0,
-        microstep: there.1,
+        tag: own,
         reactions,
         terminal: false,
         control: false,
@@ -388,9 +388,11 @@ fn timer_image(image: &[u8], scopes: &[u64; scopes::ROOM], j: u16) -> MappedGlob
     if has_parent(image, i) {
         let s = scopes::scope_at(scopes, i as usize);
         let clock = s.clock;
-        return clock.to_global(x);
+        let local = x.as_local();
+        return clock.to_global(local);
     }
-    MappedGlobal::Tag(GlobalTag(x.0, x.1))
+    let own = x.as_global();
+    MappedGlobal::Tag(own)
 }
 
 // The scope's own queue, or the root's where it has no parent.
@@ -413,8 +415,7 @@ fn timer_slot(image: &[u8], j: u16, g: GlobalTag) -> Slot
     let reactions = schedule::triggers(image, action);
     Slot {
         queue,
-        offset: x.0,
-        microstep: x.1,
+        tag: x,
         reactions,
         terminal: false,
         control: false,

@@ -19,7 +19,7 @@ use Rattle.lists.specs.Held as H
 use Rattle.lists.specs.Loops.{test-on, test-fails, test-all}
 use Rattle.rows.specs.Bytes.{Image}
 use Rattle.rows.specs.Rows as rows
-use Rattle.tags.specs.Tags.{Answer, within, withinClock, toGlobal}
+use Rattle.tags.specs.Tags.{Tag, Answer, within, withinClock, toGlobal}
 use Rattle.tags.specs.declared.MappedGlobal.{MappedGlobal}
 use Rattle.tags.specs.declared.MappedGlobal.the-variants as M
 use Rattle.tags.specs.Views.{mappedGlobal}
@@ -157,14 +157,18 @@ module _ (ss : List Scope) (e : Event) where
     unfolding imageKeeps
     image-off y = simp (ne-eqb (e .queue) root n, ← ex, y)
 
-    module _ (y : x .active ≡ true) (m : MappedGlobal) (em : mappedGlobal m ≡ toGlobal (x .clock) (e .tag)) where
+    -- its tag as a local one, z, and what that maps to
+    module _ (y : x .active ≡ true) {z : Tag} (d : z ≡ e .tag) (m : MappedGlobal) (em : mappedGlobal m ≡ toGlobal (x .clock) z) where
+      own : mappedGlobal m ≡ toGlobal (x .clock) (e .tag)
+      own = em ∙ ap (toGlobal (x .clock)) d
+
       pub image-tag : {t : _} → m ≡ M.Tag t → true ≡ imageKeeps ss e
       unfolding imageKeeps
-      image-tag q = simp (ne-eqb (e .queue) root n, ← ex, y, ← em, q)
+      image-tag q = simp (ne-eqb (e .queue) root n, ← ex, y, ← own, q)
 
       pub image-not : {t : _} → m ≡ M.Refused t → false ≡ imageKeeps ss e
       unfolding imageKeeps
-      image-not q = simp (ne-eqb (e .queue) root n, ← ex, y, ← em, q)
+      image-not q = simp (ne-eqb (e .queue) root n, ← ex, y, ← own, q)
 
 pub ruleset image-cases = (image-root, image-off, image-tag, image-not)
 

@@ -21,7 +21,6 @@ use key_set::Found;
 use key_set::KeySet;
 use lens::Counts;
 use slots::Slot;
-use tags::LocalTag;
 use tags::MappedGlobal;
 
 // How many scopes, reactions and actions the table has.
@@ -154,7 +153,7 @@ fn is_proper(image: &[u8], z: Sizes, s: Slot) -> bool
     requires { ⌜ z ≡ sizesOf (now image) ⌝ }
     ensures { λ r. ⌜ r ≡ eventRules (now (image .entry)) (eventOf s) ⌝ }
 {
-    let tag = LocalTag(s.offset, s.microstep);
+    let tag = s.tag;
     let set = s.reactions;
     let stored = s.stored;
     if !tag.within() {
@@ -197,7 +196,8 @@ fn has_image(scopes: &[u64; scopes::ROOM], s: Slot) -> bool
     let x = scopes::scope_at(scopes, s.queue as usize);
     let clock = x.clock;
     if x.active {
-        match clock.to_global(LocalTag(s.offset, s.microstep)) {
+        let local = s.tag.as_local();
+        match clock.to_global(local) {
             MappedGlobal::Tag(_) => true,
             MappedGlobal::Refused(_) => false,
         }

@@ -7,6 +7,7 @@ use Rattle.lists.specs.Walk.{Result, done, refused}
 use Rattle.refusals.specs.declared.Refusal.the-variants.{MappedTag}
 use Rattle.tags.specs.declared.GlobalTag.{GlobalTag}
 use Rattle.tags.specs.declared.LocalTag.{LocalTag}
+use Rattle.tags.specs.declared.QueueTag.{QueueTag}
 use Rattle.tags.specs.declared.Fields.{Fields}
 use Rattle.tags.specs.declared.ScopeClock.{ScopeClock}
 use Rattle.tags.specs.declared.DelayedGlobal.{DelayedGlobal}
@@ -28,6 +29,10 @@ ofGlobal t = at (t .0) (t .1)
 
 abbrev pub ofLocal : LocalTag → Tag
 ofLocal t = at (t .0) (t .1)
+
+-- on whichever scale its queue has
+abbrev pub ofQueue : QueueTag → Tag
+ofQueue t = at (t .0) (t .1)
 
 abbrev pub ofFields : Fields → Tag
 ofFields t = at (t .0) (t .1)

@@ -3,7 +3,7 @@
 ghost use mathlib.Core.Path.{_≡_};
 ghost use mathlib.Core.Bool.{true, _&&_};
 ghost use Rattle.tags.specs.Tags.{maxOffset, maxMicrostep, within, sameTag, earlier, delayed, shifted, withinClock, toLocal, toGlobal, isHeld, globalToLocal, localToGlobal, freshClock};
-ghost use Rattle.tags.specs.Views.{ofGlobal, ofLocal, ofFields, ofClock, answered, delayedGlobal, delayedLocal, mappedGlobal, mappedLocal, placeOf, settledAt, heldBackAt, heldAt, placedAt};
+ghost use Rattle.tags.specs.Views.{ofGlobal, ofLocal, ofQueue, ofFields, ofClock, answered, delayedGlobal, delayedLocal, mappedGlobal, mappedLocal, placeOf, settledAt, heldBackAt, heldAt, placedAt};
 use refusals::Refusal;
 
 // A global tag: offset in nanoseconds, microstep.
@@ -408,5 +408,57 @@ impl ScopeClock {
             return MappedGlobal::Refused(Refusal::ArgumentTag);
         }
         self.to_global(x)
+    }
+}
+
+// ---- a queue's own scale
+
+// A tag on its queue's own scale: global in the root's queue, local in a scope's. Which of the two it is only the queue tells,
+// so it is made from either by name, and turned back by name where the queue is known.
+pub struct QueueTag(pub u64, pub u32);
+
+impl QueueTag {
+    pub const ZERO: QueueTag = QueueTag(0, 0);
+
+    // For the root's queue.
+    pub fn of_global(t: GlobalTag) -> Self
+        ensures { λ r. ⌜ ofQueue r ≡ ofGlobal t ⌝ }
+    {
+        QueueTag(t.0, t.1)
+    }
+
+    // For a scope's queue.
+    pub fn of_local(t: LocalTag) -> Self
+        ensures { λ r. ⌜ ofQueue r ≡ ofLocal t ⌝ }
+    {
+        QueueTag(t.0, t.1)
+    }
+
+    // Of the root's queue.
+    pub fn as_global(self) -> GlobalTag
+        ensures { λ r. ⌜ ofGlobal r ≡ ofQueue self ⌝ }
+    {
+        GlobalTag(self.0, self.1)
+    }
+
+    // Of a scope's queue.
+    pub fn as_local(self) -> LocalTag
+        ensures { λ r. ⌜ ofLocal r ≡ ofQueue self ⌝ }
+    {
+        LocalTag(self.0, self.1)
+    }
+
+    // The tag lies within the limits, which are those of both scales.
+    pub fn within(self) -> bool
+        ensures { λ r. ⌜ r ≡ within (ofQueue self) ⌝ }
+    {
+        is_within(Fields(self.0, self.1))
+    }
+
+    // Offset first; both of one queue.
+    pub fn earlier(self, other: QueueTag) -> bool
+        ensures { λ r. ⌜ r ≡ earlier (ofQueue self) (ofQueue other) ⌝ }
+    {
+        is_earlier(Fields(self.0, self.1), Fields(other.0, other.1))
     }
 }

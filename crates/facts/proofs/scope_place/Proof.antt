@@ -19,8 +19,11 @@ holds-back-requires c κs = search needs
 bit-requires-2 : tie.Need-bit-requires-2
 bit-requires-2 c κs = search needs
 
+cast-t11 : tie.Need-cast-t11
+cast-t11 c = search needs
+
 returns : tie.Need-returns
-returns c = scope-place-is _ _ _ (c .before .before .before .before .to-global .ensures) (c .before .before .before .of-global .ensures .0) (c .before .before .before .of-global .ensures .1 .0) (c .before .before .before .of-global .ensures .1 .1) (c .before .before .bit .ensures) (c .before .holds-back .ensures) (c .bit2 .ensures)
+returns c = scope-place-is _ _ _ (c .before .before .before .before .before .to-global .ensures) (c .before .before .before .before .of-global .ensures .0) (c .before .before .before .before .of-global .ensures .1 .0) (c .before .before .before .before .of-global .ensures .1 .1) (c .before .before .before .bit .ensures) (c .before .before .holds-back .ensures) (c .before .bit2 .ensures)
 
 pub scope-place-spec : {M : Type 1} → statement M
 scope-place-spec =
@@ -31,4 +34,5 @@ scope-place-spec =
     bit-requires
     holds-back-requires
     bit-requires-2
+    cast-t11
     returns)

@@ -1,7 +1,8 @@
 -- `heads::head_in` meets its contract. Assumes nothing.
 use mathlib.Core.Path.{_∙_, ap}
 use Rattle.scopes.specs.Scopes.{scopesOf}
-use Rattle.queue.specs.Queue.{leastsOf, ofStamp}
+use Rattle.tags.specs.Views.{ofQueue}
+use Rattle.queue.specs.Queue.{leastsOf}
 use Rattle.machine.specs.Heads.{least}
 use Rattle.heads.specs.Found.{scopeHeadOf}
 use Rattle.heads.proofs.HeadsLaws.{in-nothing, in-at}
@@ -31,7 +32,7 @@ returns-2 : tie.Need-returns-2
 returns-2 c =
     let a = c .before .before .before .before .before .before .args in
     in-at (scopesOf (a .scopes .now)) (leastsOf (a .heads .now)) (a .i) (c .before .before .before .before .before .least-at .result) (c .before .before .before .before .before .least-at .ensures)
-    (c .before .before .before .t .given .1) (c .scope-head-of .ensures ∙ ap (λ s. scopeHeadOf s (a .i) (least (ofStamp (c .before .before .before .t .given .0 .0)))) (c .before .scope-at .ensures))
+    (c .before .before .before .t .given .1) (c .scope-head-of .ensures ∙ ap (λ s. scopeHeadOf s (a .i) (least (ofQueue (c .before .before .before .t .given .0 .0)))) (c .before .scope-at .ensures))
 
 pub head-in-spec : {M : Type 1} → statement M
 head-in-spec =

@@ -33,54 +33,54 @@ enum-known-t c = search needs
 
 take-head-requires : tie.Need-take-head-requires
 take-head-requires c κs =
-    let a = c .before .before .before .before .before .before .before .before .before .before .before .before .before .before .before in
+    let a = c .before .before .before .before .before .before .before .before .before .before .before .before .before .before in
     let z = c .before .before .before .before .before .before .before .nothing-yet in
-    (a .pre .1 .0, ((a .pre .1 .1 .0, start-room (a .args .events .now) (a .args .keys .now) (a .args .counts) (z .result) (a .pre .1 .0) (a .pre .1 .1 .0) (z .ensures)), a .pre .1 .1 .1))
+    (a .pre .1 .0, ((a .pre .1 .1 .0, start-room (a .args .events .now) (a .args .keys .now) (a .args .counts) (z .result) (a .pre .1 .0) (z .ensures)), a .pre .1 .1 .1))
 
 take-scopes-requires : tie.Need-take-scopes-requires
 take-scopes-requires c κs =
-    let a = c .before .before .before .before .before .before .before .before .before .before .before .before .before .before .before .before .before .before .before in
-    let n = c .before .before .before .before .before .before .before .before .before .before .before .before .before .before .before .before .before .count .result in
+    let a = c .before .before .before .before .before .before .before .before .before .before .before .before .before .before .before .before .before .before in
+    let n = c .before .before .before .before .before .before .before .before .before .before .before .before .before .before .before .before .count .result in
     let s =
-    seen (scopesOf (a .args .scopes .now)) n (take (a .args .counts .waiting) (eventsOf (a .args .events .now))) (c .before .before .before .before .before .before .before .before .before .before .before .before .before .before .before .root-head .result) (c .before .before .before .before .before .before .before .before .before .before .before .before .before .scope-head .result) (a .args .heads .now) n refl
-    (a .pre .1 .1 .1) (c .before .before .before .before .before .before .before .before .before .before .before .before .before .before .before .root-head .ensures) (c .before .before .before .before .before .before .before .before .before .before .before .before .before .scope-head .ensures) in
+    seen (scopesOf (a .args .scopes .now)) n (take (a .args .counts .waiting) (eventsOf (a .args .events .now))) (c .before .before .before .before .before .before .before .before .before .before .before .before .before .before .root-head .result) (c .before .before .before .before .before .before .before .before .before .before .before .before .scope-head .result) (a .args .heads .now) n refl
+    (a .pre .1 .1 .1) (c .before .before .before .before .before .before .before .before .before .before .before .before .before .before .root-head .ensures) (c .before .before .before .before .before .before .before .before .before .before .before .before .scope-head .ensures) in
     let z = c .before .before .before .before .before .before .before .before .before .before .before .nothing-yet in
     let f = c .before .before .before .take-head in
     let w = f .ensures .0 in
     let v = rw (s .root, z .ensures) at w in
-    let few : n ≤ mostScopes = rw (c .before .before .before .before .before .before .before .before .before .before .before .before .before .before .before .before .before .count .ensures) (a .pre .0) in
-    (w .waits, ((w .long, w .room), (f .ensures .1, local-still (scopesOf (a .args .scopes .now)) n (a .args .events .now) (a .args .counts) _ _ (f .last .1 .0) (f .result .gathered) (f .result .counts) v _ few (s .local))))
+    let few : n ≤ mostScopes = rw (c .before .before .before .before .before .before .before .before .before .before .before .before .before .before .before .before .count .ensures) (a .pre .0) in
+    (w .waits, ((w .grown .long ∙ a .pre .1 .1 .0, w .room), (f .ensures .1, local-still (scopesOf (a .args .scopes .now)) n (a .args .events .now) (a .args .counts) _ _ _ (f .last .1 .0) (f .result .gathered) (f .result .counts) v _ few (s .local))))
 
 returns : tie.Need-returns
 returns c =
-    let a = c .before .before .before .before .before .before .before .before .before .before .before in
-    let n = c .before .before .before .before .before .before .before .before .before .count .result in
+    let a = c .before .before .before .before .before .before .before .before .before .before in
+    let n = c .before .before .before .before .before .before .before .before .count .result in
     let s =
-    seen (scopesOf (a .args .scopes .now)) n (take (a .args .counts .waiting) (eventsOf (a .args .events .now))) (c .before .before .before .before .before .before .before .root-head .result) (c .before .before .before .before .before .scope-head .result) (a .args .heads .now) n refl
-    (a .pre .1 .1 .1) (c .before .before .before .before .before .before .before .root-head .ensures) (c .before .before .before .before .before .scope-head .ensures) in
+    seen (scopesOf (a .args .scopes .now)) n (take (a .args .counts .waiting) (eventsOf (a .args .events .now))) (c .before .before .before .before .before .before .root-head .result) (c .before .before .before .before .scope-head .result) (a .args .heads .now) n refl
+    (a .pre .1 .1 .1) (c .before .before .before .before .before .before .root-head .ensures) (c .before .before .before .before .scope-head .ensures) in
     let z = c .before .before .before .nothing-yet in
-    let p = sym (ap replyOf (c .enum-told .given .1)) ∙ seen-peek _ _ _ (c .before .before .before .before .before .before .before .root-head .result) (c .before .before .before .before .before .scope-head .result) s (c .before .before .peek-of .ensures) in (
-      rw (← (c .before .before .before .before .before .before .before .before .before .count .ensures))
+    let p = sym (ap replyOf (c .enum-told .given .1)) ∙ seen-peek _ _ _ (c .before .before .before .before .before .before .root-head .result) (c .before .before .before .before .scope-head .result) s (c .before .before .peek-of .ensures) in (
+      rw (← (c .before .before .before .before .before .before .before .before .count .ensures))
           (pops-nothing (scopesOf (a .args .scopes .now)) n (a .args .events .now) (a .args .counts) _ (a .args .keys .now) p refl refl
-          (start-takes (a .args .events .now) (a .args .keys .now) (a .args .counts) (z .result) (a .pre .1 .0) (a .pre .1 .1 .0) (z .ensures))),
+          (start-takes (a .args .events .now) (a .args .keys .now) (a .args .counts) (z .result) (a .pre .1 .0) (z .ensures))),
       a .pre .1 .1 .1,
     )
 
 returns-2 : tie.Need-returns-2
 returns-2 c =
-    let a = c .before .before .before .before .before .before .before .before .before .before .before .before .before .before .before .before .before .before .before .before .before .before in
-    let n = c .before .before .before .before .before .before .before .before .before .before .before .before .before .before .before .before .before .before .before .before .count .result in
+    let a = c .before .before .before .before .before .before .before .before .before .before .before .before .before .before .before .before .before .before .before .before .before in
+    let n = c .before .before .before .before .before .before .before .before .before .before .before .before .before .before .before .before .before .before .before .count .result in
     let s =
-    seen (scopesOf (a .args .scopes .now)) n (take (a .args .counts .waiting) (eventsOf (a .args .events .now))) (c .before .before .before .before .before .before .before .before .before .before .before .before .before .before .before .before .before .before .root-head .result) (c .before .before .before .before .before .before .before .before .before .before .before .before .before .before .before .before .scope-head .result) (a .args .heads .now) n refl
-    (a .pre .1 .1 .1) (c .before .before .before .before .before .before .before .before .before .before .before .before .before .before .before .before .before .before .root-head .ensures) (c .before .before .before .before .before .before .before .before .before .before .before .before .before .before .before .before .scope-head .ensures) in
+    seen (scopesOf (a .args .scopes .now)) n (take (a .args .counts .waiting) (eventsOf (a .args .events .now))) (c .before .before .before .before .before .before .before .before .before .before .before .before .before .before .before .before .before .root-head .result) (c .before .before .before .before .before .before .before .before .before .before .before .before .before .before .before .scope-head .result) (a .args .heads .now) n refl
+    (a .pre .1 .1 .1) (c .before .before .before .before .before .before .before .before .before .before .before .before .before .before .before .before .before .root-head .ensures) (c .before .before .before .before .before .before .before .before .before .before .before .before .before .before .before .scope-head .ensures) in
     let z = c .before .before .before .before .before .before .before .before .before .before .before .before .before .before .nothing-yet in
-    let p = sym (ap replyOf (c .before .before .before .before .before .before .before .before .before .before .before .t .given .1)) ∙ seen-peek _ _ _ (c .before .before .before .before .before .before .before .before .before .before .before .before .before .before .before .before .before .before .root-head .result) (c .before .before .before .before .before .before .before .before .before .before .before .before .before .before .before .before .scope-head .result) s (c .before .before .before .before .before .before .before .before .before .before .before .before .before .peek-of .ensures) in
+    let p = sym (ap replyOf (c .before .before .before .before .before .before .before .before .before .before .before .t .given .1)) ∙ seen-peek _ _ _ (c .before .before .before .before .before .before .before .before .before .before .before .before .before .before .before .before .before .root-head .result) (c .before .before .before .before .before .before .before .before .before .before .before .before .before .before .before .scope-head .result) s (c .before .before .before .before .before .before .before .before .before .before .before .before .before .peek-of .ensures) in
     let f = c .before .before .before .before .before .before .take-head in
     let w = f .ensures .0 in
     let v = rw (s .root, z .ensures) at w in
     let k = c .before .before .take-scopes in (
-      rw (← (c .before .before .before .before .before .before .before .before .before .before .before .before .before .before .before .before .before .before .before .before .count .ensures))
-          (pops-found (scopesOf (a .args .scopes .now)) n (a .args .events .now) (a .args .counts) _ (f .last .0) (f .last .1 .0) (f .result .gathered) (f .result .counts) v _ (a .args .counts .waiting)
+      rw (← (c .before .before .before .before .before .before .before .before .before .before .before .before .before .before .before .before .before .before .before .count .ensures))
+          (pops-found (scopesOf (a .args .scopes .now)) n (a .args .events .now) (a .args .counts) _ _ (f .last .0) (f .last .1 .0) (f .result .gathered) (f .result .counts) v _ (a .args .counts .waiting)
           (k .last .1 .0) (k .last .1 .1 .0) p (sym (waits-long (a .args .events .now) (a .args .counts) (a .pre .1 .0))) refl refl (k .ensures .0)),
       k .ensures .1,
     )

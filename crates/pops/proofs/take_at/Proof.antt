@@ -1,9 +1,10 @@
 -- `pops::take_at` meets its contract. Assumes nothing.
-use mathlib.Core.Path.{refl, _∙_, sym}
+use mathlib.Core.Path.{refl}
 use lib.ListN.{take}
 use Rattle.slots.specs.Slots.{eventsOf}
 use Rattle.pops.specs.Pops.{taken}
-use Rattle.queue.specs.Queue.{ofStamp, goesOf}
+use Rattle.tags.specs.Views.{ofQueue}
+use Rattle.queue.specs.Queue.{goesOf}
 use Rattle.pops.proofs.PopLaws.{went-few, takes-some, heads-left}
 use borrow.Author.Needs.{needs}
 use Rattle.pops.proofs.take_at.Statement.{statement}
@@ -18,12 +19,12 @@ take-out-requires c κs = search needs
 renew-requires : tie.Need-renew-requires
 renew-requires c κs = search needs
 
-sub-t18 : tie.Need-sub-t18
+sub-t19 : tie.Need-sub-t19
 unfolding goesOf
-sub-t18 c =
+sub-t19 c =
     let a = c .before .before .before .before .before .before .before .before .before .before .before .before in
     let g = c .before .before .before .before .before .take-out .ensures .0 in
-    went-few _ _ (a .pre .0) (a .args .h .queue) (ofStamp (a .args .h .stamp)) _ _ (g .left) (g .went)
+    went-few _ _ (a .pre .0) (a .args .h .queue) (ofQueue (a .args .h .stamp)) _ _ (g .left) (g .went)
 
 returns : tie.Need-returns
 unfolding goesOf taken
@@ -32,13 +33,13 @@ returns c =
     let g = c .before .before .before .before .before .take-out in
     let r = g .ensures .0 in
     let k =
-    takes-some (a .args .events .now) (a .args .given .counts) (a .pre .0) (a .args .h .queue) (ofStamp (a .args .h .stamp)) (g .result .count) (g .result .ordinary)
+    takes-some (a .args .events .now) (a .args .given .counts) (a .pre .0) (a .args .h .queue) (ofQueue (a .args .h .stamp)) (g .result .count) (g .result .ordinary)
     (r .left) (r .went) (a .args .given .gathered) (g .result .gathered) (a .args .keys .now) (g .last .1 .1 .1 .0) (g .last .0) (g .ensures .1) (r .folds) (r .near)
-    (r .long ∙ sym (a .pre .1 .0 .0)) (a .pre .1 .0 .0) (a .pre .1 .0 .1) in (
+    (r .grown) (a .pre .1 .0 .1) in (
       k,
-      heads-left _ _ _ _ _ _ k (a .args .h .queue) (ofStamp (a .args .h .stamp)) (take (a .args .given .counts .waiting) (eventsOf (a .args .events .now))) (g .result .found) (g .result .lowest)
+      heads-left _ _ _ _ _ _ _ k (a .args .h .queue) (ofQueue (a .args .h .stamp)) (take (a .args .given .counts .waiting) (eventsOf (a .args .events .now))) (g .result .lowest)
           refl (a .pre .1 .1) (r .least) (c .before .before .before .renew .ensures),
     )
 
 pub take-at-spec : {M : Type 1} → statement M
-take-at-spec = tie.close (tie.spec empty-requires take-out-requires renew-requires sub-t18 returns)
+take-at-spec = tie.close (tie.spec empty-requires take-out-requires renew-requires sub-t19 returns)

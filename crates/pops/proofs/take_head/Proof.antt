@@ -21,7 +21,7 @@ returns : tie.Need-returns
 returns c =
     let a = c .before .before in (
       rw (at-none _ _ (a .args .h) (c .enum-told .given .1))
-          (takes-none (a .args .events .now) (a .args .given .counts) (a .pre .0) (a .args .given .gathered) (a .args .keys .now) (a .pre .1 .0 .0) (a .pre .1 .0 .1)),
+          (takes-none (a .args .events .now) (a .args .given .counts) (a .pre .0) (a .args .given .gathered) (a .args .keys .now) (a .pre .1 .0 .1)),
       a .pre .1 .1,
     )
 
@@ -36,7 +36,7 @@ returns-3 c =
     let a = c .before .before .before .before .before .before in
     let h = c .before .before .before .before .h in (
       rw (at-other _ _ (a .args .h) _ (h .given .1) (sym (c .before .same .ensures) ∙ c .if1 .left))
-          (takes-none (a .args .events .now) (a .args .given .counts) (a .pre .0) (a .args .given .gathered) (a .args .keys .now) (a .pre .1 .0 .0) (a .pre .1 .0 .1)),
+          (takes-none (a .args .events .now) (a .args .given .counts) (a .pre .0) (a .args .given .gathered) (a .args .keys .now) (a .pre .1 .0 .1)),
       a .pre .1 .1,
     )
 

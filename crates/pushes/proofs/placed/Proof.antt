@@ -10,11 +10,14 @@ use Rattle.pushes.proofs.placed.Tie as tie
 to-root-requires : tie.Need-to-root-requires
 to-root-requires c κs = search needs
 
+of-global-requires : tie.Need-of-global-requires
+of-global-requires c κs = search needs
+
 action-slot-requires : tie.Need-action-slot-requires
 action-slot-requires c κs = search needs
 
 returns : tie.Need-returns
-returns c = placed-root (c .before .before .before .before .before .args .image .now) (scopesOf (c .before .before .before .before .before .args .scopes .now)) (c .before .before .before .before .before .args .p .action) (ofGlobal (c .before .before .before .before .before .args .p .tag)) (c .before .before .before .before .before .args .p .terminal) (c .before .before .before .before .before .args .set .words) (sym (c .before .before .to-root .ensures) ∙ c .before .if1 .taken) (c .action-slot .ensures)
+returns c = placed-root (c .before .before .before .before .before .before .args .image .now) (scopesOf (c .before .before .before .before .before .before .args .scopes .now)) (c .before .before .before .before .before .before .args .p .action) (ofGlobal (c .before .before .before .before .before .before .args .p .tag)) (c .before .before .before .before .before .before .args .p .terminal) (c .before .before .before .before .before .before .args .set .words) (sym (c .before .before .before .to-root .ensures) ∙ c .before .before .if1 .taken) (rw (c .before .of-global .ensures) at (c .action-slot .ensures))
 
 action-scope-requires : tie.Need-action-scope-requires
 action-scope-requires c κs = search needs
@@ -24,6 +27,9 @@ local-tag-requires c κs = search needs
 
 enum-known-x : tie.Need-enum-known-x
 enum-known-x c = search needs
+
+of-local-requires : tie.Need-of-local-requires
+of-local-requires c κs = search needs
 
 action-slot-requires-2 : tie.Need-action-slot-requires-2
 action-slot-requires-2 c κs = search needs
@@ -35,7 +41,7 @@ refused-requires : tie.Need-refused-requires
 refused-requires c κs = search needs
 
 returns-2 : tie.Need-returns-2
-returns-2 c = let k = c .before .before .before .before .before .action-scope .ensures in placed-there (c .before .before .before .before .before .before .before .before .before .before .args .image .now) (scopesOf (c .before .before .before .before .before .before .before .before .before .before .args .scopes .now)) (c .before .before .before .before .before .before .before .before .before .before .args .p .action) (ofGlobal (c .before .before .before .before .before .before .before .before .before .before .args .p .tag)) (c .before .before .before .before .before .before .before .before .before .before .args .p .terminal) (c .before .before .before .before .before .before .before .before .before .before .args .set .words) (sym (c .before .before .before .before .before .before .before .to-root .ensures) ∙ c .before .before .before .before .before .before .if1 .left) (rw k at (sym (ap mappedLocal (c .before .before .x .given .1)) ∙ c .before .before .before .before .local-tag .ensures)) (rw k at (c .action-slot2 .ensures))
+returns-2 c = let k = c .before .before .before .before .before .before .action-scope .ensures in placed-there (c .before .before .before .before .before .before .before .before .before .before .before .args .image .now) (scopesOf (c .before .before .before .before .before .before .before .before .before .before .before .args .scopes .now)) (c .before .before .before .before .before .before .before .before .before .before .before .args .p .action) (ofGlobal (c .before .before .before .before .before .before .before .before .before .before .before .args .p .tag)) (c .before .before .before .before .before .before .before .before .before .before .before .args .p .terminal) (c .before .before .before .before .before .before .before .before .before .before .before .args .set .words) (sym (c .before .before .before .before .before .before .before .before .to-root .ensures) ∙ c .before .before .before .before .before .before .before .if1 .left) (rw k at (sym (ap mappedLocal (c .before .before .before .x .given .1)) ∙ c .before .before .before .before .before .local-tag .ensures)) (rw (k, c .before .of-local .ensures) at (c .action-slot2 .ensures))
 
 returns-3 : tie.Need-returns-3
 returns-3 c = let k = c .before .before .before .before .before .action-scope .ensures in placed-refused (c .before .before .before .before .before .before .before .before .before .before .args .image .now) (scopesOf (c .before .before .before .before .before .before .before .before .before .before .args .scopes .now)) (c .before .before .before .before .before .before .before .before .before .before .args .p .action) (ofGlobal (c .before .before .before .before .before .before .before .before .before .before .args .p .tag)) (c .before .before .before .before .before .before .before .before .before .before .args .p .terminal) (c .before .before .before .before .before .before .before .before .before .before .args .set .words) (sym (c .before .before .before .before .before .before .before .to-root .ensures) ∙ c .before .before .before .before .before .before .if1 .left) (rw k at (sym (ap mappedLocal (c .before .before .n .given .1)) ∙ c .before .before .before .before .local-tag .ensures)) (c .refused .ensures)
@@ -45,11 +51,13 @@ placed-spec =
     tie.close
     (tie.spec
     to-root-requires
+    of-global-requires
     action-slot-requires
     returns
     action-scope-requires
     local-tag-requires
     enum-known-x
+    of-local-requires
     action-slot-requires-2
     enum-known-n
     refused-requires

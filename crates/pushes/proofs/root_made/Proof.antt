@@ -22,10 +22,13 @@ refused-requires-2 c κs = search needs
 returns-2 : tie.Need-returns-2
 returns-2 c = root-tag _ _ _ _ _ _ (not-false _ (c .before .before .before .if1 .left)) (flag-no (c .before .before .within .ensures) (c .before .if2 .taken)) (c .refused2 .ensures)
 
+of-global-requires : tie.Need-of-global-requires
+of-global-requires c κs = search needs
+
 returns-3 : tie.Need-returns-3
-returns-3 c = root-done _ _ _ _ _ _ (not-false _ (c .before .before .if1 .left)) (flag-yes (c .before .within .ensures) (c .if2 .left)) refl
+returns-3 c = root-done _ _ _ _ _ _ (not-false _ (c .before .before .before .if1 .left)) (flag-yes (c .before .before .within .ensures) (c .before .if2 .left)) (rw (c .of-global .ensures))
 
 pub root-made-spec : {M : Type 1} → statement M
 root-made-spec =
     tie.close
-    (tie.spec refused-requires returns within-requires refused-requires-2 returns-2 returns-3)
+    (tie.spec refused-requires returns within-requires refused-requires-2 returns-2 of-global-requires returns-3)

@@ -75,11 +75,11 @@ cast-t28 c = search needs
 cast-t30 : tie.Need-cast-t30
 cast-t30 c = search needs
 
-cast-t41 : tie.Need-cast-t41
-cast-t41 c = search needs
+cast-t42 : tie.Need-cast-t42
+cast-t42 c = search needs
 
-cast-t44 : tie.Need-cast-t44
-cast-t44 c = search needs
+cast-t45 : tie.Need-cast-t45
+cast-t45 c = search needs
 
 returns-2 : tie.Need-returns-2
 unfolding decode tab
@@ -112,6 +112,6 @@ slot-at-spec =
     element-copy-out-second
     cast-t28
     cast-t30
-    cast-t41
-    cast-t44
+    cast-t42
+    cast-t45
     returns-2)

@@ -1,5 +1,6 @@
 -- `starts::timer_image` meets its contract. Assumes nothing.
-use mathlib.Core.Path.{ap}
+use mathlib.Core.Path.{ap, _∙_}
+use Rattle.lists.specs.Walk.{done}
 use Rattle.starts.proofs.StartLaws.{image-mapped, image-plain}
 use borrow.Author.Needs.{needs}
 use Rattle.starts.proofs.timer_image.Statement.{statement}
@@ -20,14 +21,20 @@ cast-scope-at c = search needs
 scope-at-requires : tie.Need-scope-at-requires
 scope-at-requires c κs = search needs
 
+as-local-requires : tie.Need-as-local-requires
+as-local-requires c κs = search needs
+
 to-global-requires : tie.Need-to-global-requires
 to-global-requires c κs = search needs
 
 returns : tie.Need-returns
-returns c = image-mapped _ _ _ (c .before .before .before .before .before .before .timer-scope .ensures) (c .before .before .before .before .has-parent .ensures) (c .before .before .before .before .before .timer-tag .ensures) (c .before .before .before .if1 .taken) (ap (λ x. x .clock) (c .before .before .scope-at .ensures)) (c .to-global .ensures)
+returns c = image-mapped _ _ _ (c .before .before .before .before .before .before .before .timer-scope .ensures) (c .before .before .before .before .before .has-parent .ensures) (c .before .before .before .before .before .before .timer-tag .ensures) (c .before .before .before .before .if1 .taken) (ap (λ x. x .clock) (c .before .before .before .scope-at .ensures)) (rw (c .before .as-local .ensures) at (c .to-global .ensures))
+
+as-global-requires : tie.Need-as-global-requires
+as-global-requires c κs = search needs
 
 returns-2 : tie.Need-returns-2
-returns-2 c = image-plain _ _ _ (c .before .before .before .timer-scope .ensures) (c .before .has-parent .ensures) (c .before .before .timer-tag .ensures) (c .if1 .left)
+returns-2 c = ap done (c .as-global .ensures) ∙ image-plain _ _ _ (c .before .before .before .before .timer-scope .ensures) (c .before .before .has-parent .ensures) (c .before .before .before .timer-tag .ensures) (c .before .if1 .left)
 
 pub timer-image-spec : {M : Type 1} → statement M
 timer-image-spec =
@@ -38,6 +45,8 @@ timer-image-spec =
     has-parent-requires
     cast-scope-at
     scope-at-requires
+    as-local-requires
     to-global-requires
     returns
+    as-global-requires
     returns-2)

@@ -13,6 +13,9 @@ cast-scope-at c = search needs
 scope-at-requires : tie.Need-scope-at-requires
 scope-at-requires c κs = search needs
 
+as-local-requires : tie.Need-as-local-requires
+as-local-requires c κs = search needs
+
 to-global-requires : tie.Need-to-global-requires
 to-global-requires c κs = search needs
 
@@ -38,6 +41,7 @@ has-image-spec =
     returns
     cast-scope-at
     scope-at-requires
+    as-local-requires
     to-global-requires
     enum-told
     enum-told-2
