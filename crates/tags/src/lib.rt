@@ -452,7 +452,7 @@ impl QueueTag {
     pub fn within(self) -> bool
         ensures { λ r. ⌜ r ≡ within (ofQueue self) ⌝ }
     {
-        is_within(Fields(self.0, self.1))
+        is_within(Fields(self.0, self.1), GlobalTag::LAST)
     }
 
     // Offset first; both of one queue.
