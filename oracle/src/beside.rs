@@ -28,8 +28,8 @@ use crate::rng::Rng;
 use crate::shrink::shown;
 use crate::text::assemble;
 
-/// Time for one day; and for one that is tried while a day is made smaller.
-const LIMIT: Duration = Duration::from_secs(20);
+/// Time for one day, long enough for a busy machine; and for one that is tried while a day is made smaller.
+const LIMIT: Duration = Duration::from_secs(120);
 const SHORT_LIMIT: Duration = Duration::from_secs(3);
 /// Most bytes of answers that are read: far more than any day here has.
 const MOST_BYTES: u64 = 64 << 20;
