@@ -83,6 +83,9 @@ fn put_keys(bytes: &mut [u8], at: usize, keys: &[u16]) -> usize
 // Room for the lines of a piece; `scratch` of proofs/ says the same.
 const SCRATCH: usize = 65536;
 
+// The peek tag, control only, and the counts.
+const FIRST_WORDS: usize = 8;
+
 // Bytes of a state; `stateLength` of specs/ says the same.
 const STATE_BYTES: usize = 8
     * (FIRST_WORDS
@@ -91,8 +94,6 @@ const STATE_BYTES: usize = 8
         + slots::ROOM
         + entries::MOST_HELD * entries::VALUE_WORDS
         + entries::MOST_HELD * entries::BUCKET_WORDS);
-
-const FIRST_WORDS: usize = 8;
 
 // The place so many bytes on.
 fn behind(bytes: &[u8], at: usize, n: usize) -> usize
@@ -158,7 +159,7 @@ fn flag_word(b: bool) -> u64
     b as u64
 }
 
-// The peek tag, control only, and the counts.
+// The words before the arrays.
 fn first_words(image: &[u8], day: Day) -> [u64; FIRST_WORDS]
     requires { ⌜ Kept (now image) day ⌝ }
     ensures { λ r. ⌜ r ≡ firstWords (now (image .entry)) (viewOf (now (image .entry)) day) ⌝ }
