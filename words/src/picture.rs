@@ -10,7 +10,7 @@ use std::fmt::Write;
 /// A picture shows at most so many records.
 pub const MOST: usize = 400;
 const LEFT: f64 = 96.0;
-const TOP: f64 = 92.0;
+const TOP: f64 = 112.0;
 const ROW: f64 = 22.0;
 const BOTTOM: f64 = 220.0;
 /// The bands of modes, and of active scopes; what is pushed, ready, held back or refused.
@@ -349,6 +349,8 @@ const LEGEND: &str = "Coloured: the mode that is current. Shaded: the scope is a
 const NO_SCALE: &str =
     "NO SCALE OF TIME: every moment has a column of its own, however far the next; the times stand below.";
 
+const BOLD: &str = "font-weight=\"bold\"";
+
 /// The picture of a day under its head; what it leaves out is said.
 pub fn drawn(shown: &Shown, head: &[String], left_out: Option<String>) -> String {
     let teller = Teller::new(shown.table);
@@ -384,13 +386,12 @@ pub fn drawn(shown: &Shown, head: &[String], left_out: Option<String>) -> String
             picture.text(8.0, y, &format!("font-size=\"13\" fill=\"{ALARM}\""), line);
         }
     } else {
-        let title = match &left_out {
-            Some(words) => format!("{first} ({words})"),
-            None => first.to_string(),
-        };
-        picture.text(8.0, 18.0, "font-size=\"13\"", &title);
-        picture.text(8.0, 36.0, "", LEGEND);
-        picture.text(8.0, 54.0, "font-weight=\"bold\"", NO_SCALE);
+        picture.text(8.0, 18.0, "font-size=\"13\"", first);
+        for (i, line) in wrapped(LEGEND).iter().enumerate() {
+            picture.text(8.0, 36.0 + 15.0 * i as f64, "", line);
+        }
+        picture.text(8.0, 70.0, BOLD, NO_SCALE);
+        picture.text(8.0, 88.0, BOLD, left_out.as_deref().unwrap_or(""));
         picture.frame();
         picture.bands();
         picture.marks();
