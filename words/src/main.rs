@@ -158,13 +158,20 @@ fn draw(facts: &mut Input, chosen: &Chosen, out: &str) -> Result<u8, String> {
         records: &drawn.records,
     };
     let picture = picture::drawn(&shown, &head, left_out);
+    let failed = |error: std::io::Error| format!("{out} cannot be written: {error}");
+    if out == "-" {
+        std::io::stdout()
+            .write_all(picture.as_bytes())
+            .map_err(failed)?;
+        return Ok(status);
+    }
     // beside it first: no half of a picture stands in its place
     let beside = format!("{out}.{}.part", std::process::id());
     std::fs::write(&beside, picture)
         .and_then(|()| std::fs::rename(&beside, out))
         .map_err(|error| {
             let _ = std::fs::remove_file(&beside);
-            format!("{out} cannot be written: {error}")
+            failed(error)
         })?;
     Ok(status)
 }
