@@ -399,7 +399,7 @@ fn take(
     ensures { λ r. ⌜ Whole (now (events .exit)) × (r ≤ mostWaiting) ⌝ }
 {
     let stamp = h.stamp;
-    say_place(out, desk, b"take", scopes, h.queue, stamp.0, stamp.1);
+    say_place(out, desk, b"take", scopes, h.queue, stamp);
     let none = KeySet::empty();
     let which = Which {
         by_tag: true,
