@@ -1,5 +1,6 @@
--- Demand 3 for the code: what the public calls answer and leave, made one after the other from a fresh manager, is what the history tells. Each public
--- call's contract is `stepOn` (crate manager), so these are statements about the code. Assumes nothing but the accepted table.
+-- Demand 3 for the code: what the public calls answer and leave, made one after the other from a fresh manager, is what the history tells. Every `Call`
+-- has a method of `Manager` whose contract is `stepOn` of it (listed at the head of crate manager), those on values too, so these are statements about
+-- the code, for every call of 01. Assumes nothing but the accepted table.
 use mathlib.Core.Bool.{true}
 use mathlib.Core.Path.{_≡_, ap, _∙_}
 use mathlib.Core.List.{List, [], _∷_}
