@@ -32,18 +32,19 @@ const LENGTH: usize = gate_day::IMAGE_LENGTH_BYTES;
 
 // ---- lines
 
-// The lines on their way out: as many bytes as there is room for, then they go.
-const ROOM: usize = 8192;
-
-// A line of facts has fewer.
+// A line of facts has fewer bytes.
 const LINE: usize = 256;
 
-// The desk: how many bytes are on their way, then the offsets whose times this record has told, each in the cell that its remainder gives.
-const CELLS: usize = 64;
+// So many bytes may be on their way; then they go.
+const ROOM: usize = 8192;
+
+// The desk: how many bytes are on their way; the offsets whose times this record has told, each in the cell that its remainder gives; and,
+// from cell FRONT on, the bytes.
+const FRONT: usize = 64;
+
+const CELLS: usize = 8256;
 
 const TIMES: u64 = 61;
-
-type Out = [u8; ROOM];
 
 type Desk = [u64; CELLS];
 
@@ -58,23 +59,28 @@ fn filled(desk: &Desk) -> usize
 }
 
 // All that is on its way goes out.
-fn flush(out: &Out, desk: &mut Desk) {
+fn flush(desk: &mut Desk) {
     let n = filled(desk);
     let mut chunk = [0u8; ROOM];
     let mut i: usize = 0;
     while i < n {
-        chunk[i] = out[i];
+        let byte = desk[FRONT + i] % 256;
+        chunk[i] = byte as u8;
         i += 1;
     }
     io::write_all(STDOUT_FILENO, &chunk[..n]);
     desk[0] = 0;
 }
 
+fn widened(byte: u8) -> u64 {
+    byte as u64
+}
+
 // Bytes behind those that are on their way.
-fn put(out: &mut Out, desk: &mut Desk, bytes: &[u8]) {
+fn put(desk: &mut Desk, bytes: &[u8]) {
     let start = filled(desk);
     if ROOM - start < bytes.len() {
-        flush(out, desk);
+        flush(desk);
     }
     let mut at = filled(desk);
     let mut i: usize = 0;
@@ -82,48 +88,49 @@ fn put(out: &mut Out, desk: &mut Desk, bytes: &[u8]) {
         if ROOM <= at {
             break;
         }
-        out[at] = bytes[i];
+        let byte = widened(bytes[i]);
+        desk[FRONT + at] = byte;
         at += 1;
         i += 1;
     }
     desk[0] = at as u64;
 }
 
-fn say(out: &mut Out, desk: &mut Desk, name: &[u8], words: &[u64]) {
+fn say(desk: &mut Desk, name: &[u8], words: &[u64]) {
     let mut line = [0u8; LINE];
     let n = facts::write_fact(&mut line, name, words);
-    put(out, desk, &line[..n]);
+    put(desk, &line[..n]);
 }
 
-fn say_two(out: &mut Out, desk: &mut Desk, name: &[u8], first: u64, second: u64) {
+fn say_two(desk: &mut Desk, name: &[u8], first: u64, second: u64) {
     let words = [first, second];
-    say(out, desk, name, &words);
+    say(desk, name, &words);
 }
 
 // An offset's hours, minutes, seconds and nanoseconds, once a record; that of zero need not be told.
-fn say_time(out: &mut Out, desk: &mut Desk, offset: u64) {
+fn say_time(desk: &mut Desk, offset: u64) {
     let cell = (offset % TIMES) as usize + 1;
     if desk[cell] == offset {
         return;
     }
     desk[cell] = offset;
     let words = facts::time_words(offset);
-    say(out, desk, b"time", &words);
+    say(desk, b"time", &words);
 }
 
 // No time is told yet.
 fn forget_times(desk: &mut Desk) {
     let mut i: usize = 1;
-    while i < CELLS {
+    while i < FRONT {
         desk[i] = 0;
         i += 1;
     }
 }
 
 // The bench's line, behind a word.
-fn say_answer(out: &mut Out, desk: &mut Desk, line: &[u8]) {
-    put(out, desk, b"answer ");
-    put(out, desk, line);
+fn say_answer(desk: &mut Desk, line: &[u8]) {
+    put(desk, b"answer ");
+    put(desk, line);
 }
 
 fn wide(key: u16) -> u64 {
@@ -151,37 +158,37 @@ fn turned(offset: u64) -> u64 {
 }
 
 // Row i of the kind k; of a timer its time too, also as it were with its lowest byte first.
-fn say_row(out: &mut Out, desk: &mut Desk, image: &[u8], k: u8, i: u16) {
+fn say_row(desk: &mut Desk, image: &[u8], k: u8, i: u16) {
     let words = faults::row_words(image, k, i);
-    say(out, desk, b"row", &words);
+    say(desk, b"row", &words);
     if k == rows::TIMER {
         let offset = rows::timer_offset(image, i);
-        say_time(out, desk, offset);
+        say_time(desk, offset);
         let other = turned(offset);
-        say_two(out, desk, b"turned", i as u64, other);
-        say_time(out, desk, other);
+        say_two(desk, b"turned", i as u64, other);
+        say_time(desk, other);
     }
 }
 
-fn say_rows_of(out: &mut Out, desk: &mut Desk, image: &[u8], k: u8) {
+fn say_rows_of(desk: &mut Desk, image: &[u8], k: u8) {
     let total = rows::count(image, k);
     let mut i: u16 = 0;
     while i < total {
-        say_row(out, desk, image, k, i);
+        say_row(desk, image, k, i);
         i += 1;
     }
 }
 
-fn say_rows(out: &mut Out, desk: &mut Desk, image: &[u8]) {
+fn say_rows(desk: &mut Desk, image: &[u8]) {
     let mut k: u8 = 0;
     while k < rows::KINDS {
-        say_rows_of(out, desk, image, k);
+        say_rows_of(desk, image, k);
         k += 1;
     }
 }
 
 // A kind's count, its least and most, and where it stands.
-fn say_count(out: &mut Out, desk: &mut Desk, image: &[u8], k: u8) {
+fn say_count(desk: &mut Desk, image: &[u8], k: u8) {
     let total = rows::count(image, k);
     let kind = rows::kind_at(k);
     let at = rows::count_place(k);
@@ -192,100 +199,104 @@ fn say_count(out: &mut Out, desk: &mut Desk, image: &[u8], k: u8) {
         kind.most as u64,
         at as u64,
     ];
-    say(out, desk, b"count", &words);
+    say(desk, b"count", &words);
 }
 
-fn say_counts(out: &mut Out, desk: &mut Desk, image: &[u8]) {
+fn say_counts(desk: &mut Desk, image: &[u8]) {
     let mut k: u8 = 0;
     while k < rows::KINDS {
-        say_count(out, desk, image, k);
+        say_count(desk, image, k);
         k += 1;
     }
 }
 
 // The bytes of row i of the kind k, with their places.
-fn say_bytes(out: &mut Out, desk: &mut Desk, image: &[u8], k: u8, i: u16) {
+fn say_bytes(desk: &mut Desk, image: &[u8], k: u8, i: u16) {
     let start = rows::row_place(image, k, i);
     let kind = rows::kind_at(k);
     let end = start + kind.width;
     let mut at = start;
     while at < end {
         let byte = rows::one_byte(image, at);
-        say_two(out, desk, b"byte", at as u64, byte as u64);
+        say_two(desk, b"byte", at as u64, byte as u64);
         at += 1;
     }
 }
 
 // The first row that breaks a rule, and which.
-fn say_fault(out: &mut Out, desk: &mut Desk, image: &[u8]) {
+fn say_fault(desk: &mut Desk, image: &[u8]) {
     let k = faults::bad_kind(image);
     let i = table::bad_row(image, k);
     let words = faults::fault_words(image, k, i);
-    say(out, desk, b"fault", &words);
-    say_row(out, desk, image, k, i);
-    say_bytes(out, desk, image, k, i);
+    say(desk, b"fault", &words);
+    say_row(desk, image, k, i);
+    say_bytes(desk, image, k, i);
 }
 
-// Why the image is refused: which of the check's steps, and what it looked at.
-fn say_refusal(out: &mut Out, desk: &mut Desk, image: &[u8], refusal: ImageRefusal) {
+// Which of the check's steps refuses the image, and what it looked at.
+fn refusal_words(image: &[u8], refusal: ImageRefusal) -> [u64; 2] {
     match refusal {
-        ImageRefusal::Length => say_two(out, desk, b"refusal", 1, 0),
+        ImageRefusal::Length => [1, 0],
         ImageRefusal::Version => {
             let version = rows::one_byte(image, LENGTH);
-            say_two(out, desk, b"refusal", 2, version as u64);
+            [2, version as u64]
         }
-        ImageRefusal::Short => say_two(out, desk, b"refusal", 3, 0),
-        ImageRefusal::Count(at) => {
-            say_counts(out, desk, image);
-            say_two(out, desk, b"refusal", 4, at as u64);
-        }
+        ImageRefusal::Short => [3, 0],
+        ImageRefusal::Count(at) => [4, at as u64],
         ImageRefusal::Unfilled => {
-            say_counts(out, desk, image);
             let end = rows::place(image, rows::KINDS);
-            say_two(out, desk, b"refusal", 5, end as u64);
+            [5, end as u64]
         }
-        ImageRefusal::Row(at) => {
-            say_counts(out, desk, image);
-            say_fault(out, desk, image);
-            say_two(out, desk, b"refusal", 6, at as u64);
-        }
+        ImageRefusal::Row(at) => [6, at as u64],
     }
 }
 
+// Why the image is refused; where it is long enough for its counts they are told first, and so is a row that breaks a rule.
+fn say_refusal(desk: &mut Desk, image: &[u8], refusal: ImageRefusal) {
+    let words = refusal_words(image, refusal);
+    if 3 < words[0] {
+        say_counts(desk, image);
+    }
+    if words[0] == 6 {
+        say_fault(desk, image);
+    }
+    say(desk, b"refusal", &words);
+}
+
 // The same, and no more follows.
-fn say_refused(out: &mut Out, desk: &mut Desk, image: &[u8], refusal: ImageRefusal) {
-    say_refusal(out, desk, image, refusal);
-    flush(out, desk);
+fn say_refused(desk: &mut Desk, image: &[u8], refusal: ImageRefusal) {
+    say_refusal(desk, image, refusal);
+    flush(desk);
 }
 
 // The line of the table's check.
-fn say_table(out: &mut Out, desk: &mut Desk, checked: Checked) {
+fn say_table(desk: &mut Desk, checked: Checked) {
     let mut line = io::buffer();
     let n = lines::write_table(&mut line, 0, checked);
-    say_answer(out, desk, &line[..n]);
+    say_answer(desk, &line[..n]);
 }
 
 // ---- the state
 
-fn say_scope(out: &mut Out, desk: &mut Desk, scopes: &[u64; scopes::ROOM], i: u16) {
+fn say_scope(desk: &mut Desk, scopes: &[u64; scopes::ROOM], i: u16) {
     let words = facts::scope_words(scopes, i);
-    say(out, desk, b"scope", &words);
-    say_time(out, desk, words[4]);
-    say_time(out, desk, words[6]);
-    say_time(out, desk, words[8]);
+    say(desk, b"scope", &words);
+    say_time(desk, words[4]);
+    say_time(desk, words[6]);
+    say_time(desk, words[8]);
 }
 
-fn say_scopes(out: &mut Out, desk: &mut Desk, image: &[u8], scopes: &[u64; scopes::ROOM]) {
+fn say_scopes(desk: &mut Desk, image: &[u8], scopes: &[u64; scopes::ROOM]) {
     let total = rows::count(image, rows::SCOPE);
     let mut i: u16 = 0;
     while i < total {
-        say_scope(out, desk, scopes, i);
+        say_scope(desk, scopes, i);
         i += 1;
     }
 }
 
 // Each reactor's current mode.
-fn say_modes(out: &mut Out, desk: &mut Desk, image: &[u8], modes: &[u16; plan::MOST_REACTORS]) {
+fn say_modes(desk: &mut Desk, image: &[u8], modes: &[u16; plan::MOST_REACTORS]) {
     let total = rows::count(image, rows::REACTOR) as usize;
     let mut i: usize = 0;
     while i < plan::MOST_REACTORS {
@@ -293,14 +304,13 @@ fn say_modes(out: &mut Out, desk: &mut Desk, image: &[u8], modes: &[u16; plan::M
         let reactor = i;
         i += 1;
         if reactor < total {
-            say_two(out, desk, b"mode", reactor as u64, mode);
+            say_two(desk, b"mode", reactor as u64, mode);
         }
     }
 }
 
 // A tag of a queue, its image, and whether it is held back.
 fn say_place(
-    out: &mut Out,
     desk: &mut Desk,
     name: &[u8],
     scopes: &[u64; scopes::ROOM],
@@ -308,14 +318,13 @@ fn say_place(
     tag: QueueTag,
 ) {
     let words = facts::place_words(scopes, queue, tag);
-    say(out, desk, name, &words);
-    say_time(out, desk, words[1]);
-    say_time(out, desk, words[5]);
+    say(desk, name, &words);
+    say_time(desk, words[1]);
+    say_time(desk, words[5]);
 }
 
 // The least tag of a queue, which has the entry k.
 fn say_queue(
-    out: &mut Out,
     desk: &mut Desk,
     scopes: &[u64; scopes::ROOM],
     heads: &[u64; queue::HEADS],
@@ -324,13 +333,12 @@ fn say_queue(
 ) {
     match queue::least_at(heads, k) {
         Earliest::Nothing => {}
-        Earliest::At(t) => say_place(out, desk, b"queue", scopes, queue, t),
+        Earliest::At(t) => say_place(desk, b"queue", scopes, queue, t),
     }
 }
 
 // The least tag of every queue that has one.
 fn say_queues(
-    out: &mut Out,
     desk: &mut Desk,
     image: &[u8],
     scopes: &[u64; scopes::ROOM],
@@ -340,11 +348,11 @@ fn say_queues(
     requires { ⌜ waiting ≤ mostWaiting ⌝ }
 {
     let heads = queue::heads(events, waiting);
-    say_queue(out, desk, scopes, &heads, slots::NONE, scopes::MOST_SCOPES);
+    say_queue(desk, scopes, &heads, slots::NONE, scopes::MOST_SCOPES);
     let total = rows::count(image, rows::SCOPE);
     let mut i: u16 = 0;
     while i < total {
-        say_queue(out, desk, scopes, &heads, i, i as usize);
+        say_queue(desk, scopes, &heads, i, i as usize);
         i += 1;
     }
 }
@@ -387,7 +395,6 @@ fn scope_head(
 
 // The events at a head are told and taken out; how many are left.
 fn take(
-    out: &mut Out,
     desk: &mut Desk,
     scopes: &[u64; scopes::ROOM],
     events: &mut [u64; slots::ROOM],
@@ -399,7 +406,7 @@ fn take(
     ensures { λ r. ⌜ Whole (now (events .exit)) × (r ≤ mostWaiting) ⌝ }
 {
     let stamp = h.stamp;
-    say_place(out, desk, b"take", scopes, h.queue, stamp);
+    say_place(desk, b"take", scopes, h.queue, stamp);
     let none = KeySet::empty();
     let which = Which {
         by_tag: true,
@@ -413,7 +420,6 @@ fn take(
 
 // The root's events at t if its head is t.
 fn take_root(
-    out: &mut Out,
     desk: &mut Desk,
     scopes: &[u64; scopes::ROOM],
     events: &mut [u64; slots::ROOM],
@@ -429,7 +435,7 @@ fn take_root(
         Head::At(h) => {
             let g = h.tag;
             if g.same(t) {
-                take(out, desk, scopes, events, waiting, h)
+                take(desk, scopes, events, waiting, h)
             } else {
                 waiting
             }
@@ -439,7 +445,6 @@ fn take_root(
 
 // While the least scope head is t, all events at that head.
 fn take_scopes(
-    out: &mut Out,
     desk: &mut Desk,
     image: &[u8],
     scopes: &[u64; scopes::ROOM],
@@ -461,7 +466,7 @@ fn take_scopes(
             Head::At(h) => {
                 let g = h.tag;
                 if g.same(t) {
-                    left = take(out, desk, scopes, events, left, h);
+                    left = take(desk, scopes, events, left, h);
                 } else {
                     return;
                 }
@@ -471,31 +476,31 @@ fn take_scopes(
 }
 
 // What a pop takes, in its own order.
-fn say_sources(out: &mut Out, desk: &mut Desk, image: &[u8], day: Day, t: GlobalTag)
+fn say_sources(desk: &mut Desk, image: &[u8], day: Day, t: GlobalTag)
     requires { ⌜ Kept (now image) day ⌝ }
 {
     let scopes = day.scopes;
     let mut events = day.events;
     let counts = day.counts;
     let waiting = counts.waiting;
-    let left = take_root(out, desk, &scopes, &mut events, waiting, t);
-    take_scopes(out, desk, image, &scopes, &mut events, left, t);
+    let left = take_root(desk, &scopes, &mut events, waiting, t);
+    take_scopes(desk, image, &scopes, &mut events, left, t);
 }
 
 // What a pop finds.
-fn say_pop(out: &mut Out, desk: &mut Desk, image: &[u8], day: Day)
+fn say_pop(desk: &mut Desk, image: &[u8], day: Day)
     requires { ⌜ Kept (now image) day ⌝ }
 {
     let scopes = day.scopes;
     let events = day.events;
     let counts = day.counts;
     let waiting = counts.waiting;
-    say_queues(out, desk, image, &scopes, &events, waiting);
+    say_queues(desk, image, &scopes, &events, waiting);
     match peek(image, &scopes, &events, waiting) {
         Head::Empty => {}
         Head::At(h) => {
             let t = h.tag;
-            say_sources(out, desk, image, day, t);
+            say_sources(desk, image, day, t);
         }
     }
 }
@@ -525,65 +530,59 @@ fn keys_end(parsed: Parsed) -> usize
     records::MOST_KEYS
 }
 
-fn say_call(out: &mut Out, desk: &mut Desk, parsed: Parsed) {
+fn say_call(desk: &mut Desk, parsed: Parsed) {
     let words = facts::call_words(parsed);
-    say(out, desk, b"call", &words);
-    say_time(out, desk, words[4]);
+    say(desk, b"call", &words);
+    say_time(desk, words[4]);
 }
 
 // The reactions named.
-fn say_keys(out: &mut Out, desk: &mut Desk, keys: &[u16]) {
+fn say_keys(desk: &mut Desk, keys: &[u16]) {
     let mut i: usize = 0;
     while i < keys.len() {
         let key = wide(keys[i]);
-        say_two(out, desk, b"key", i as u64, key);
+        say_two(desk, b"key", i as u64, key);
         i += 1;
     }
 }
 
 // The first key that the table lacks.
-fn say_lack(out: &mut Out, desk: &mut Desk, image: &[u8], parsed: Parsed, keys: &[u16]) {
+fn say_lack(desk: &mut Desk, image: &[u8], parsed: Parsed, keys: &[u16]) {
     let words = facts::lacking(image, parsed, keys);
     if words[0] == 1 {
-        say(out, desk, b"lacks", &words);
+        say(desk, b"lacks", &words);
     }
 }
 
 // What a record asks.
-fn say_asked(out: &mut Out, desk: &mut Desk, image: &[u8], body: &[u8]) -> Parsed {
+fn say_asked(desk: &mut Desk, image: &[u8], body: &[u8]) -> Parsed {
     let mut keys = [0u16; records::MOST_KEYS];
     let parsed = records::parse(body, &mut keys);
     let n = keys_end(parsed);
-    say_call(out, desk, parsed);
-    say_keys(out, desk, &keys[..n]);
-    say_lack(out, desk, image, parsed, &keys[..n]);
+    say_call(desk, parsed);
+    say_keys(desk, &keys[..n]);
+    say_lack(desk, image, parsed, &keys[..n]);
     parsed
 }
 
 // A global tag on a scope's scale.
-fn say_local(out: &mut Out, desk: &mut Desk, scopes: &[u64; scopes::ROOM], i: u16, t: GlobalTag) {
+fn say_local(desk: &mut Desk, scopes: &[u64; scopes::ROOM], i: u16, t: GlobalTag) {
     let words = facts::local_words(scopes, i, t);
-    say(out, desk, b"local", &words);
-    say_time(out, desk, words[2]);
+    say(desk, b"local", &words);
+    say_time(desk, words[2]);
 }
 
-fn say_locals(
-    out: &mut Out,
-    desk: &mut Desk,
-    image: &[u8],
-    scopes: &[u64; scopes::ROOM],
-    t: GlobalTag,
-) {
+fn say_locals(desk: &mut Desk, image: &[u8], scopes: &[u64; scopes::ROOM], t: GlobalTag) {
     let total = rows::count(image, rows::SCOPE);
     let mut i: u16 = 0;
     while i < total {
-        say_local(out, desk, scopes, i, t);
+        say_local(desk, scopes, i, t);
         i += 1;
     }
 }
 
 // What stands before a record that depends on it.
-fn say_before(out: &mut Out, desk: &mut Desk, image: &[u8], day: Day, parsed: Parsed)
+fn say_before(desk: &mut Desk, image: &[u8], day: Day, parsed: Parsed)
     requires { ⌜ Kept (now image) day ⌝ }
 {
     let scopes = day.scopes;
@@ -593,28 +592,28 @@ fn say_before(out: &mut Out, desk: &mut Desk, image: &[u8], day: Day, parsed: Pa
         Parsed::Control(_) => {}
         Parsed::Action(action, t, _, _) => {
             let i = rows::action_scope(image, action);
-            say_local(out, desk, &scopes, i, t);
+            say_local(desk, &scopes, i, t);
         }
-        Parsed::Transition(_, _, _, t) => say_locals(out, desk, image, &scopes, t),
-        Parsed::Pop => say_pop(out, desk, image, day),
+        Parsed::Transition(_, _, _, t) => say_locals(desk, image, &scopes, t),
+        Parsed::Pop => say_pop(desk, image, day),
         Parsed::Malformed => {}
     }
 }
 
 // The event that was accepted last.
-fn say_last(out: &mut Out, desk: &mut Desk, day: Day) {
+fn say_last(desk: &mut Desk, day: Day) {
     let scopes = day.scopes;
     let events = day.events;
     let counts = day.counts;
     let waiting = counts.waiting;
     if 0 < waiting {
         let s = slots::slot_at(&events, waiting - 1);
-        say_place(out, desk, b"into", &scopes, s.queue, s.tag);
+        say_place(desk, b"into", &scopes, s.queue, s.tag);
     }
 }
 
 // Modes, scopes and the least tag of every queue.
-fn say_turned(out: &mut Out, desk: &mut Desk, image: &[u8], day: Day)
+fn say_turned(desk: &mut Desk, image: &[u8], day: Day)
     requires { ⌜ Kept (now image) day ⌝ }
 {
     let modes = day.modes;
@@ -622,13 +621,13 @@ fn say_turned(out: &mut Out, desk: &mut Desk, image: &[u8], day: Day)
     let events = day.events;
     let counts = day.counts;
     let waiting = counts.waiting;
-    say_modes(out, desk, image, &modes);
-    say_scopes(out, desk, image, &scopes);
-    say_queues(out, desk, image, &scopes, &events, waiting);
+    say_modes(desk, image, &modes);
+    say_scopes(desk, image, &scopes);
+    say_queues(desk, image, &scopes, &events, waiting);
 }
 
 // How many events wait, how many of them are ordinary, how many values and buckets are held.
-fn say_held(out: &mut Out, desk: &mut Desk, day: Day) {
+fn say_held(desk: &mut Desk, day: Day) {
     let counts = day.counts;
     let held = day.held;
     let words = [
@@ -637,60 +636,60 @@ fn say_held(out: &mut Out, desk: &mut Desk, day: Day) {
         held.values as u64,
         held.buckets as u64,
     ];
-    say(out, desk, b"held", &words);
+    say(desk, b"held", &words);
 }
 
 // What stands after a record that changes it.
-fn say_after(out: &mut Out, desk: &mut Desk, image: &[u8], day: Day, parsed: Parsed)
+fn say_after(desk: &mut Desk, image: &[u8], day: Day, parsed: Parsed)
     requires { ⌜ Kept (now image) day ⌝ }
 {
-    say_held(out, desk, day);
+    say_held(desk, day);
     match parsed {
-        Parsed::Plain(_, _, _) => say_last(out, desk, day),
-        Parsed::Network(_, _) => say_last(out, desk, day),
-        Parsed::Control(_) => say_last(out, desk, day),
-        Parsed::Action(_, _, _, _) => say_last(out, desk, day),
-        Parsed::Transition(_, _, _, _) => say_turned(out, desk, image, day),
+        Parsed::Plain(_, _, _) => say_last(desk, day),
+        Parsed::Network(_, _) => say_last(desk, day),
+        Parsed::Control(_) => say_last(desk, day),
+        Parsed::Action(_, _, _, _) => say_last(desk, day),
+        Parsed::Transition(_, _, _, _) => say_turned(desk, image, day),
         Parsed::Pop => {}
         Parsed::Malformed => {}
     }
 }
 
 // How many bytes a record has, its length included, its version and its op, whatever they are.
-fn say_record(out: &mut Out, desk: &mut Desk, bytes: &[u8]) {
+fn say_record(desk: &mut Desk, bytes: &[u8]) {
     let version = rows::one_byte(bytes, LENGTH);
     let op = rows::one_byte(bytes, LENGTH + 1);
     let words = [bytes.len() as u64, version as u64, op as u64];
-    say(out, desk, b"record", &words);
+    say(desk, b"record", &words);
 }
 
-fn begin_record(out: &mut Out, desk: &mut Desk, bytes: &[u8]) {
+fn begin_record(desk: &mut Desk, bytes: &[u8]) {
     forget_times(desk);
-    say_record(out, desk, bytes);
+    say_record(desk, bytes);
 }
 
 // The end of a record's facts; they go out before the next record is waited for.
-fn say_end(out: &mut Out, desk: &mut Desk) {
-    put(out, desk, b"end\n");
-    flush(out, desk);
+fn say_end(desk: &mut Desk) {
+    put(desk, b"end\n");
+    flush(desk);
 }
 
 // One record, its length included: what it asks, its line, and the day after it.
-fn tell(out: &mut Out, desk: &mut Desk, image: &[u8], day: Day, bytes: &[u8]) -> Day
+fn tell(desk: &mut Desk, image: &[u8], day: Day, bytes: &[u8]) -> Day
     requires { ⌜ Kept (now image) day ⌝ }
     requires { ⌜ 4 ≤ length (now bytes) ⌝ }
     ensures { λ r. ⌜ Kept (now (image .entry)) r ⌝ }
 {
-    begin_record(out, desk, bytes);
-    let parsed = say_asked(out, desk, image, &bytes[LENGTH..]);
-    say_before(out, desk, image, day, parsed);
+    begin_record(desk, bytes);
+    let parsed = say_asked(desk, image, &bytes[LENGTH..]);
+    say_before(desk, image, day, parsed);
     let mut output = io::buffer();
     let piece = gate_day::run_records(image, day, bytes, &mut output);
     let after = piece.day;
     let written = piece.written;
-    say_answer(out, desk, &output[..written]);
-    say_after(out, desk, image, after, parsed);
-    say_end(out, desk);
+    say_answer(desk, &output[..written]);
+    say_after(desk, image, after, parsed);
+    say_end(desk);
     after
 }
 
@@ -721,23 +720,23 @@ fn bounded(n: usize) -> u64
 }
 
 // How many bytes are not read, and the end.
-fn end_run(out: &mut Out, desk: &mut Desk) {
+fn end_run(desk: &mut Desk) {
     let left = rest();
-    say_two(out, desk, b"unread", left, 0);
-    say_end(out, desk);
+    say_two(desk, b"unread", left, 0);
+    say_end(desk);
 }
 
 // A record that ends the run: how many bytes its length says, and how many there are.
-fn say_cut(out: &mut Out, desk: &mut Desk, said: u64, there: u64) {
-    say_two(out, desk, b"cut", said, there);
+fn say_cut(desk: &mut Desk, said: u64, there: u64) {
+    say_two(desk, b"cut", said, there);
     let mut line = io::buffer();
     let n = lines::write_refused(&mut line, 0, 1);
-    say_answer(out, desk, &line[..n]);
-    end_run(out, desk);
+    say_answer(desk, &line[..n]);
+    end_run(desk);
 }
 
 // The next record over the front of the space; how many bytes it has, or 0 where the run ends.
-fn read_record(out: &mut Out, desk: &mut Desk, space: &mut [u8]) -> usize
+fn read_record(desk: &mut Desk, space: &mut [u8]) -> usize
     requires { ⌜ 4096 ≤ length (now space) ⌝ }
     ensures { λ r. ⌜ (r ≤ length (now (space .exit))) × (length (now (space .exit)) ≡ length (now (space .entry))) ⌝ }
 {
@@ -746,111 +745,110 @@ fn read_record(out: &mut Out, desk: &mut Desk, space: &mut [u8]) -> usize
         return 0;
     }
     if got < LENGTH {
-        say_cut(out, desk, 0, got as u64);
+        say_cut(desk, 0, got as u64);
         return 0;
     }
     let n = rows::four_bytes(space, 0) as usize;
     if records::MOST_BYTES < n {
-        say_cut(out, desk, n as u64, 0);
+        say_cut(desk, n as u64, 0);
         return 0;
     }
     let end = LENGTH + n;
     let more = io::read_full(STDIN_FILENO, &mut space[LENGTH..end]);
     if more < n {
-        say_cut(out, desk, n as u64, more as u64);
+        say_cut(desk, n as u64, more as u64);
         return 0;
     }
     end
 }
 
 // What stands before the first record.
-fn say_start(out: &mut Out, desk: &mut Desk, image: &[u8], day: Day)
+fn say_start(desk: &mut Desk, image: &[u8], day: Day)
     requires { ⌜ Kept (now image) day ⌝ }
 {
-    say_turned(out, desk, image, day);
-    put(out, desk, b"records\n");
-    flush(out, desk);
+    say_turned(desk, image, day);
+    put(desk, b"records\n");
+    flush(desk);
 }
 
 // The records, one after another.
-fn run(out: &mut Out, desk: &mut Desk, image: &[u8])
+fn run(desk: &mut Desk, image: &[u8])
     requires { ⌜ isTable (now image) ≡ true ⌝ }
 {
     let mut day = gate_day::start(image);
-    say_start(out, desk, image, day);
+    say_start(desk, image, day);
     let mut input = io::buffer();
     let mut turns: u64 = 1000000000000000;
     while 0 < turns {
         turns -= 1;
-        let end = read_record(out, desk, &mut input);
+        let end = read_record(desk, &mut input);
         if end < LENGTH {
             return;
         }
-        day = tell(out, desk, image, day, &input[..end]);
+        day = tell(desk, image, day, &input[..end]);
     }
 }
 
 // The line of the check, and how many bytes the image says and has.
-fn say_checked(out: &mut Out, desk: &mut Desk, image: &[u8], checked: Checked) {
-    say_table(out, desk, checked);
+fn say_checked(desk: &mut Desk, image: &[u8], checked: Checked) {
+    say_table(desk, checked);
     let said = rows::four_bytes(image, 0);
-    say_two(out, desk, b"image", said as u64, image.len() as u64);
+    say_two(desk, b"image", said as u64, image.len() as u64);
 }
 
 // The image, checked, and its rows; or why it is refused.
-fn answer(out: &mut Out, desk: &mut Desk, image: &[u8]) {
+fn answer(desk: &mut Desk, image: &[u8]) {
     let checked = table::check(image);
-    say_checked(out, desk, image, checked);
+    say_checked(desk, image, checked);
     match checked {
         Checked::Accepted => {
-            say_counts(out, desk, image);
-            say_rows(out, desk, image);
+            say_counts(desk, image);
+            say_rows(desk, image);
         }
-        Checked::Refused(refusal) => say_refused(out, desk, image, refusal),
+        Checked::Refused(refusal) => say_refused(desk, image, refusal),
     }
     if table::accepted(image) {
-        run(out, desk, image);
+        run(desk, image);
     }
 }
 
 // An image that is cut short or longer than the largest: how many bytes its length says, and how many there are.
-fn say_no_image(out: &mut Out, desk: &mut Desk, said: u64, there: u64) {
-    say_table(out, desk, Checked::Refused(ImageRefusal::Length));
-    say_two(out, desk, b"image", said, there);
-    say_two(out, desk, b"refusal", 1, 0);
-    flush(out, desk);
+fn say_no_image(desk: &mut Desk, said: u64, there: u64) {
+    say_table(desk, Checked::Refused(ImageRefusal::Length));
+    say_two(desk, b"image", said, there);
+    say_two(desk, b"refusal", 1, 0);
+    flush(desk);
 }
 
 // The image by its length, over the front of the space; how many bytes it has, or 0 where it is cut short or longer than the largest.
-fn read_image(out: &mut Out, desk: &mut Desk, space: &mut [u8]) -> usize
+fn read_image(desk: &mut Desk, space: &mut [u8]) -> usize
     requires { ⌜ largest ≤ length (now space) ⌝ }
     ensures { λ r. ⌜ r ≤ length (now (space .exit)) ⌝ }
 {
     let got = io::read_full(STDIN_FILENO, &mut space[..LENGTH]);
     if got < LENGTH {
-        say_no_image(out, desk, 0, got as u64);
+        say_no_image(desk, 0, got as u64);
         return 0;
     }
     let n = rows::four_bytes(space, 0) as usize;
     if LARGEST - LENGTH < n {
-        say_no_image(out, desk, n as u64, 0);
+        say_no_image(desk, n as u64, 0);
         return 0;
     }
     let end = LENGTH + n;
     let more = io::read_full(STDIN_FILENO, &mut space[LENGTH..end]);
     if more < n {
-        say_no_image(out, desk, n as u64, more as u64);
+        say_no_image(desk, n as u64, more as u64);
         return 0;
     }
     end
 }
 
 fn main() {
-    let mut out = [0u8; ROOM];
     let mut desk = [0u64; CELLS];
     let mut space = io::buffer();
-    let end = read_image(&mut out, &mut desk, &mut space);
+    let end = read_image(&mut desk, &mut space);
     if 0 < end {
-        answer(&mut out, &mut desk, &space[..end]);
+        answer(&mut desk, &space[..end]);
     }
 }

@@ -29,7 +29,7 @@ accepted-requires : tie.Need-accepted-requires
 accepted-requires c κs = search needs
 
 run-requires : tie.Need-run-requires
-run-requires c κs = sym (c .before .before .before .accepted .ensures) ∙ c .before .before .if1 .taken
+run-requires c κs = sym (c .before .before .accepted .ensures) ∙ c .before .if1 .taken
 
 returns : tie.Need-returns
 returns c = search needs

@@ -9,10 +9,10 @@ use Rattle.explained.proofs.flush.Statement.{statement}
 use Rattle.explained.proofs.flush.Tie as tie
 
 abbrev Inv-loop : tie.InvT-loop
-Inv-loop out desk n chunk₀ i₀ chunk i = (i ≤ n) × ((n ≤ 8192) × (8192 ≡ length chunk))
+Inv-loop desk n chunk₀ i₀ chunk i = (i ≤ n) × ((n ≤ 8192) × (8192 ≡ length chunk))
 
 abbrev μ-loop : tie.MeasureT-loop
-μ-loop out desk n chunk₀ i₀ chunk i = n - i
+μ-loop desk n chunk₀ i₀ chunk i = n - i
 
 filled-requires : tie.Need-filled-requires Inv-loop μ-loop
 filled-requires c κs = search needs
@@ -20,8 +20,17 @@ filled-requires c κs = search needs
 loop-holds : tie.Need-loop-holds Inv-loop μ-loop
 loop-holds c = search needs
 
-element-copy-out-chunk : tie.Need-element-copy-out-chunk Inv-loop μ-loop
-element-copy-out-chunk c = search needs
+add-byte : tie.Need-add-byte Inv-loop μ-loop
+add-byte c = search needs
+
+mul-byte : tie.Need-mul-byte Inv-loop μ-loop
+mul-byte c = search needs
+
+element-copy-out-byte : tie.Need-element-copy-out-byte Inv-loop μ-loop
+element-copy-out-byte c = search needs
+
+cast-chunk : tie.Need-cast-chunk Inv-loop μ-loop
+cast-chunk c = search needs
 
 array-write-chunk : tie.Need-array-write-chunk Inv-loop μ-loop
 array-write-chunk c = search needs
@@ -58,7 +67,10 @@ flush-spec =
     μ-loop
     filled-requires
     loop-holds
-    element-copy-out-chunk
+    add-byte
+    mul-byte
+    element-copy-out-byte
+    cast-chunk
     array-write-chunk
     add-i
     loop-less

@@ -18,7 +18,7 @@ array-share-prefix-space : tie.Need-array-share-prefix-space
 array-share-prefix-space c = search needs
 
 slice-aggregate-answer : tie.Need-slice-aggregate-answer
-slice-aggregate-answer c = sym (length-take-le _ _ (c .before .before .before .before .before .read-image .ensures))
+slice-aggregate-answer c = sym (length-take-le _ _ (c .before .before .before .before .read-image .ensures))
 
 answer-requires : tie.Need-answer-requires
 answer-requires c κs = search needs

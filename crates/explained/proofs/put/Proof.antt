@@ -6,10 +6,10 @@ use Rattle.explained.proofs.put.Statement.{statement}
 use Rattle.explained.proofs.put.Tie as tie
 
 abbrev Inv-loop : tie.InvT-loop
-Inv-loop out₀ desk bytes start at₀ i₀ out at i = i ≤ length bytes
+Inv-loop desk₀ bytes start at₀ i₀ desk at i = i ≤ length bytes
 
 abbrev μ-loop : tie.MeasureT-loop
-μ-loop out₀ desk bytes start at₀ i₀ out at i = length bytes - i
+μ-loop desk₀ bytes start at₀ i₀ desk at i = length bytes - i
 
 filled-requires : tie.Need-filled-requires Inv-loop μ-loop
 filled-requires c κs = search needs
@@ -26,11 +26,20 @@ filled-requires-2 c κs = search needs
 loop-holds : tie.Need-loop-holds Inv-loop μ-loop
 loop-holds c = search needs
 
-shared-slice-read-out : tie.Need-shared-slice-read-out Inv-loop μ-loop
-shared-slice-read-out c = search needs
+shared-slice-read-widened : tie.Need-shared-slice-read-widened Inv-loop μ-loop
+shared-slice-read-widened c = search needs
 
-element-write-out : tie.Need-element-write-out Inv-loop μ-loop
-element-write-out c = search needs
+widened-requires : tie.Need-widened-requires Inv-loop μ-loop
+widened-requires c κs = search needs
+
+add-desk : tie.Need-add-desk Inv-loop μ-loop
+add-desk c = search needs
+
+mul-desk : tie.Need-mul-desk Inv-loop μ-loop
+mul-desk c = search needs
+
+element-write-desk : tie.Need-element-write-desk Inv-loop μ-loop
+element-write-desk c = search needs
 
 add-at : tie.Need-add-at Inv-loop μ-loop
 add-at c = search needs
@@ -44,8 +53,8 @@ loop-less c = search needs
 loop-again : tie.Need-loop-again Inv-loop μ-loop
 loop-again c = search needs
 
-element-write-desk : tie.Need-element-write-desk Inv-loop μ-loop
-element-write-desk c = search needs
+element-write-desk-2 : tie.Need-element-write-desk-2 Inv-loop μ-loop
+element-write-desk-2 c = search needs
 
 returns : tie.Need-returns Inv-loop μ-loop
 returns c = search needs
@@ -61,11 +70,14 @@ put-spec =
     flush-requires
     filled-requires-2
     loop-holds
-    shared-slice-read-out
-    element-write-out
+    shared-slice-read-widened
+    widened-requires
+    add-desk
+    mul-desk
+    element-write-desk
     add-at
     add-i
     loop-less
     loop-again
-    element-write-desk
+    element-write-desk-2
     returns)

@@ -10,49 +10,49 @@ use Rattle.explained.proofs.run.Statement.{statement}
 use Rattle.explained.proofs.run.Tie as tie
 
 abbrev Inv-loop : tie.InvT-loop
-Inv-loop out₀ desk₀ image day₀ input₀ turns₀ out desk day input turns = Kept image day × (4096 ≡ length input)
+Inv-loop desk₀ image day₀ input₀ turns₀ desk day input turns = Kept image day × (4096 ≡ length input)
 
 abbrev μ-loop : tie.MeasureT-loop
-μ-loop out₀ desk₀ image day₀ input₀ turns₀ out desk day input turns = turns
+μ-loop desk₀ image day₀ input₀ turns₀ desk day input turns = turns
 
 start-requires : tie.Need-start-requires Inv-loop μ-loop
 start-requires c κs = search needs
 
 say-start-requires : tie.Need-say-start-requires Inv-loop μ-loop
-say-start-requires c κs = c .before .before .start .ensures .0
+say-start-requires c κs = c .before .start .ensures .0
 
 buffer-requires : tie.Need-buffer-requires Inv-loop μ-loop
 buffer-requires c κs = search needs
 
 loop-holds : tie.Need-loop-holds Inv-loop μ-loop
-loop-holds c = (c .before .before .before .before .start .ensures .0, c .buffer .ensures)
+loop-holds c = (c .before .before .before .start .ensures .0, c .buffer .ensures)
 
 sub-turns : tie.Need-sub-turns Inv-loop μ-loop
 sub-turns c = search needs
 
 slice-aggregate-read-record : tie.Need-slice-aggregate-read-record Inv-loop μ-loop
-slice-aggregate-read-record c = c .before .before .before .before .loop .inv .1
+slice-aggregate-read-record c = c .before .before .before .loop .inv .1
 
 read-record-requires : tie.Need-read-record-requires Inv-loop μ-loop
-read-record-requires c κs = omega (arith, c .before .before .before .before .loop .inv .1)
+read-record-requires c κs = omega (arith, c .before .before .before .loop .inv .1)
 
 returns : tie.Need-returns Inv-loop μ-loop
 returns c = search needs
 
 array-share-prefix-input : tie.Need-array-share-prefix-input Inv-loop μ-loop
-array-share-prefix-input c = c .before .before .before .before .read-record .ensures .0
+array-share-prefix-input c = c .before .before .before .read-record .ensures .0
 
 slice-aggregate-tell : tie.Need-slice-aggregate-tell Inv-loop μ-loop
-slice-aggregate-tell c = sym (length-take-le _ _ (c .before .before .before .before .before .read-record .ensures .0))
+slice-aggregate-tell c = sym (length-take-le _ _ (c .before .before .before .before .read-record .ensures .0))
 
 tell-requires : tie.Need-tell-requires Inv-loop μ-loop
-tell-requires c κs = (c .before .before .before .before .before .before .before .before .before .before .loop .inv .0, part-long _ _ _ (c .before .before .before .before .before .read-record .ensures .0) (c .before .before .before .if1 .left))
+tell-requires c κs = (c .before .before .before .before .before .before .before .before .loop .inv .0, part-long _ _ _ (c .before .before .before .before .read-record .ensures .0) (c .before .before .if1 .left))
 
 loop-less : tie.Need-loop-less Inv-loop μ-loop
-loop-less c = let t = c .before .before .before .before .before .before .before .before .before .before .loop-test .taken in omega (arith, t)
+loop-less c = let t = c .before .before .before .before .before .before .before .before .loop-test .taken in omega (arith, t)
 
 loop-again : tie.Need-loop-again Inv-loop μ-loop
-loop-again c = (c .tell .ensures, c .before .before .before .before .before .before .before .before .before .before .before .loop .inv .1 ∙ sym (c .before .before .before .before .before .before .read-record .ensures .1))
+loop-again c = (c .tell .ensures, c .before .before .before .before .before .before .before .before .before .loop .inv .1 ∙ sym (c .before .before .before .before .before .read-record .ensures .1))
 
 returns-2 : tie.Need-returns-2 Inv-loop μ-loop
 returns-2 c = search needs

@@ -16,7 +16,7 @@ array-share-prefix-line : tie.Need-array-share-prefix-line
 array-share-prefix-line c = search needs
 
 slice-aggregate-put : tie.Need-slice-aggregate-put
-slice-aggregate-put c = sym (length-take-le _ _ (written-room (c .before .before .before .before .write-fact .ensures)))
+slice-aggregate-put c = sym (length-take-le _ _ (written-room (c .before .before .before .write-fact .ensures)))
 
 put-requires : tie.Need-put-requires
 put-requires c κs = search needs

@@ -5,10 +5,10 @@ use Rattle.explained.proofs.say_bytes.Statement.{statement}
 use Rattle.explained.proofs.say_bytes.Tie as tie
 
 abbrev Inv-loop : tie.InvT-loop
-Inv-loop out₀ desk₀ image k i start end at₀ t9 out desk at = at ≤ end
+Inv-loop desk₀ image k i start end at₀ t9 desk at = at ≤ end
 
 abbrev μ-loop : tie.MeasureT-loop
-μ-loop out₀ desk₀ image k i start end at₀ t9 out desk at = end - at
+μ-loop desk₀ image k i start end at₀ t9 desk at = end - at
 
 row-place-requires : tie.Need-row-place-requires Inv-loop μ-loop
 row-place-requires c κs = search needs

@@ -6,10 +6,10 @@ use Rattle.explained.proofs.say_keys.Statement.{statement}
 use Rattle.explained.proofs.say_keys.Tie as tie
 
 abbrev Inv-loop : tie.InvT-loop
-Inv-loop out₀ desk₀ keys i₀ t4 out desk i = i ≤ length keys
+Inv-loop desk₀ keys i₀ t4 desk i = i ≤ length keys
 
 abbrev μ-loop : tie.MeasureT-loop
-μ-loop out₀ desk₀ keys i₀ t4 out desk i = length keys - i
+μ-loop desk₀ keys i₀ t4 desk i = length keys - i
 
 loop-holds : tie.Need-loop-holds Inv-loop μ-loop
 loop-holds c = search needs

@@ -6,10 +6,10 @@ use Rattle.explained.proofs.say_modes.Statement.{statement}
 use Rattle.explained.proofs.say_modes.Tie as tie
 
 abbrev Inv-loop : tie.InvT-loop
-Inv-loop out₀ desk₀ image modes total i₀ t7 out desk i = i ≤ mostReactors
+Inv-loop desk₀ image modes total i₀ t7 desk i = i ≤ mostReactors
 
 abbrev μ-loop : tie.MeasureT-loop
-μ-loop out₀ desk₀ image modes total i₀ t7 out desk i = mostReactors - i
+μ-loop desk₀ image modes total i₀ t7 desk i = mostReactors - i
 
 count-requires : tie.Need-count-requires Inv-loop μ-loop
 count-requires c κs = search needs

@@ -17,7 +17,7 @@ remove-requires : tie.Need-remove-requires
 remove-requires c κs = search needs
 
 returns : tie.Need-returns
-returns c = (c .remove .ensures .1 .1 .whole, left-few _ _ _ (c .before .before .before .before .before .before .before .before .pre .1) (c .remove .ensures .0))
+returns c = (c .remove .ensures .1 .1 .whole, left-few _ _ _ (c .before .before .before .before .before .before .before .pre .1) (c .remove .ensures .0))
 
 pub take-spec : {M : Type 1} → statement M
 take-spec =

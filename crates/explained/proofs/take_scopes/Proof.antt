@@ -7,10 +7,10 @@ use Rattle.explained.proofs.take_scopes.Statement.{statement}
 use Rattle.explained.proofs.take_scopes.Tie as tie
 
 abbrev Inv-loop : tie.InvT-loop
-Inv-loop out₀ desk₀ image scopes events₀ waiting t left₀ turns₀ out desk events left turns = Whole events × (left ≤ mostWaiting)
+Inv-loop desk₀ image scopes events₀ waiting t left₀ turns₀ desk events left turns = Whole events × (left ≤ mostWaiting)
 
 abbrev μ-loop : tie.MeasureT-loop
-μ-loop out₀ desk₀ image scopes events₀ waiting t left₀ turns₀ out desk events left turns = turns
+μ-loop desk₀ image scopes events₀ waiting t left₀ turns₀ desk events left turns = turns
 
 loop-holds : tie.Need-loop-holds Inv-loop μ-loop
 loop-holds c = search needs

@@ -37,7 +37,7 @@ array-share-prefix-output : tie.Need-array-share-prefix-output
 array-share-prefix-output c = search needs
 
 slice-aggregate-say-answer : tie.Need-slice-aggregate-say-answer
-slice-aggregate-say-answer c = sym (length-take-le _ _ (written-room (c .before .before .before .before .before .run-records .ensures .1 .lines)))
+slice-aggregate-say-answer c = sym (length-take-le _ _ (written-room (c .before .before .before .before .run-records .ensures .1 .lines)))
 
 say-answer-requires : tie.Need-say-answer-requires
 say-answer-requires c κs = search needs
