@@ -12,7 +12,7 @@ use Rattle.machine.specs.State.{root}
 use Rattle.machine.specs.Machine.{Call, plain, network, control, action, transit, pop, ok, refusal, nothing, ready, tag, flag, number}
 use Rattle.machine_days.specs.Computed.{dayOf, longDayOf, askedOf, clock, value, bucket}
 
--- 256 wait: keys (5), 10, 6 and a mapped tag (7) still come before 8; a pop frees its slots.
+-- 256 wait: keys (5), 6 and a mapped tag (7) still come before 8; a pop frees its slots.
 abbrev pub full-events-image : Image
 full-events-image =
     0 ∷ 0 ∷ 0 ∷ 53 ∷ 1 ∷ 0 ∷ 3 ∷ 0 ∷ 1 ∷ 0 ∷ 2 ∷ 0 ∷ 1 ∷ 0 ∷ 1 ∷ 0 ∷ 0 ∷ 0 ∷ 0 ∷ 0 ∷ 0 ∷ 0 ∷ 0 ∷ 255 ∷
