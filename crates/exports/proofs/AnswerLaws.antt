@@ -1,20 +1,25 @@
--- What is told of a table's check and of a day's state. Assumes nothing.
+-- What is told of a table's check, of a table written and of a day's state. Assumes nothing.
 use mathlib.Core.Path.{_≡_, ap, _∙_, sym}
 use mathlib.Core.List.{List}
-use Prim.Native.Nat.{ℕ, _≤_, _<_}
+use Prim.Native.Nat.{ℕ, _+_, _*_, _≤_, _<_}
 use lib.ListN.{length, take, drop}
 use Rattle.table.specs.Check.{numberOf}
 use Rattle.table.specs.declared.Checked.{Checked}
 use Rattle.table.specs.declared.Checked.the-variants.{Accepted, Refused}
 use Rattle.table.specs.declared.ImageRefusal.{ImageRefusal}
-use Rattle.lines.specs.Written.{Written}
+use Rattle.puts.specs.Written.{Written}
 use Rattle.gate_day.specs.Days.{imageEnd, opened}
 use Rattle.gate_day.specs.Views.{viewOf}
 use Rattle.gate_day.specs.declared.Day.{Day}
+use Rattle.writer.specs.Writer as writer
+use Rattle.writer.specs.Writer.{wrote, writing, placeOf}
+use Rattle.writer.specs.declared.Wrote.{Wrote}
+use Rattle.writer.proofs.SmallLaws.{small}
 use Rattle.exports.proofs.ToldLaws.{no-room, in-room}
-use Rattle.exports.specs.Told.{told, noRoom, front, beBytes}
+use Rattle.rows.specs.Bytes.{beBytes}
+use Rattle.exports.specs.Told.{told, noRoom, front}
 use Rattle.exports.specs.State.{stateBytes, stateLength, afterAll, stateBy, stateTold}
-use Rattle.exports.specs.Answers.{checkNumber, checkPlace, checkTold}
+use Rattle.exports.specs.Answers.{checkNumber, checkPlace, checkTold, half, writeTold}
 
 pub short-place : (place : List ℕ) (c : Checked) → length place < 8 → told noRoom place ≡ checkTold c place
 unfolding checkTold
@@ -48,3 +53,14 @@ module _ (day : List ℕ) {state : List ℕ} (room : stateLength ≤ length stat
       (ap (λ x. front state (stateBytes (take end day) x)) (v ∙ ap (afterAll (take end day)) s) ∙
       ap (λ m. front state (stateBytes (take m day) (afterAll (take m day) (drop m day)))) i)) ∙
       ap (λ x. stateBy x day state) (sym q ∙ e))
+
+-- ---- the table writer
+
+module _ (counts rows buffer : List ℕ) {new : List ℕ} {a : Wrote} (e : wrote a new ≡ writing counts rows buffer) where
+  -- its place lies in the low half
+  pub write-small : placeOf a ≤ 3287
+  write-small = rw (ap (λ w. placeOf (w .answer)) e) (small counts rows buffer)
+
+  pub write-told : {n p : ℕ} → n ≡ writer.numberOf a → p ≡ placeOf a → told (n * half + p) new ≡ writeTold (writing counts rows buffer)
+  unfolding writeTold
+  write-told {p = p} f g = ap (λ x. told (x * half + p) new) f ∙ (ap (λ x. told (writer.numberOf a * half + x) new) g ∙ ap writeTold e)

@@ -1,7 +1,7 @@
 -- A state has as many bytes as are asked for it, so none of it is left out. Assumes nothing.
 use mathlib.Core.Path.{_≡_, refl, ap, _∙_}
 use mathlib.Core.List.{List, [], _∷_, _++_}
-use Prim.Native.Nat.{ℕ, zero, suc, _+_, _*_, _/_}
+use Prim.Native.Nat.{ℕ, _+_, _*_}
 use native.Mathlib.Omega.{arith}
 use lib.ListN.{length, length-append}
 use Rattle.lists.specs.Rows.{flat, flat-length}
@@ -16,13 +16,9 @@ use Rattle.scopes.specs.Scopes as scope
 use Rattle.scopes.specs.Scopes.{mostScopes}
 use Rattle.lens.specs.Padded.{padded, padded-length}
 use Rattle.lens.specs.Lens.{scopesFrom, mostReactors}
-use Rattle.exports.specs.Told.{beBytes, wordBytes}
+use Rattle.puts.proofs.NumberLaws.{number-length}
+use Rattle.exports.specs.Told.{wordBytes}
 use Rattle.exports.specs.State.{peekWords, firstWords, modesIn, stateBytes, stateLength}
-
-number-length : (w n : ℕ) → length (beBytes w n) ≡ w
-unfolding beBytes
-number-length zero n = refl
-number-length (suc w) n = rw (length-append, number-length w (n / 256)) (omega arith)
 
 words-length : (ws : List ℕ) → length (wordBytes ws) ≡ 8 * length ws
 unfolding wordBytes

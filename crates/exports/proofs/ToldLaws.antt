@@ -2,16 +2,16 @@
 use mathlib.Core.Bool.{cond}
 use mathlib.Core.Path.{_≡_, refl, ap, _∙_, sym}
 use mathlib.Core.List.{List, [], _∷_, _++_, append-assoc, append-nil}
-use Prim.Native.Nat.{ℕ, suc, _+_, _-_, _/_, _%_, _≤_, _<_}
-use native.Mathlib.Omega.{arith}
+use Prim.Native.Nat.{ℕ, _+_, _-_, _≤_, _<_}
 use native.Mathlib.Numerals.{add-one}
 use lib.ListN.{length, take, getD}
 use lib.Seq.{take-suc, take-all}
 use borrow.Author.Tests.{lt-ltb, le-ltb}
 use Rattle.tags.specs.Tags.{at}
-use Rattle.lines.specs.Written.{Written}
-use Rattle.lines.proofs.WrittenLaws.{written-none, written-then, written-as}
-use Rattle.exports.specs.Told.{Told, told, noRoom, withRoom, beBytes, wordBytes, tagBytes}
+use Rattle.puts.specs.Written.{Written}
+use Rattle.puts.proofs.WrittenLaws.{written-none, written-then, written-as}
+use Rattle.rows.specs.Bytes.{beBytes}
+use Rattle.exports.specs.Told.{Told, told, noRoom, withRoom, wordBytes, tagBytes}
 
 -- ---- room
 
@@ -23,17 +23,6 @@ module _ (n : ℕ) (room : List ℕ) (t : Told) where
   pub in-room : n ≤ length room → {a : Told} → a ≡ t → a ≡ withRoom n room t
   unfolding withRoom
   in-room h e = e ∙ sym (ap (λ b. cond b (told noRoom room) t) (le-ltb (length room) n h))
-
--- ---- a number's bytes
-
-module _ (w n : ℕ) where
-  pub number-none : w ≡ 0 → [] ≡ beBytes w n
-  unfolding beBytes
-  number-none e = sym (ap (λ k. beBytes k n) e)
-
-  pub number-more : (w ≡ 0 → ⊥) → beBytes (w - 1) (n / 256) ++ (n % 256 ∷ []) ≡ beBytes w n
-  unfolding beBytes
-  number-more h = let e : suc (w - 1) ≡ w = omega (arith, h) in ap (λ k. beBytes k n) e
 
 -- ---- a tag's
 

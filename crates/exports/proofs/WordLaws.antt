@@ -24,8 +24,8 @@ use Rattle.pops.proofs.AsMachine.{peek-is, control-is}
 use Rattle.unpacked.specs.Unpacked.{most-scopes, rules-table}
 use Rattle.gate_day.specs.Views.{Kept, viewOf}
 use Rattle.gate_day.specs.declared.Day.{Day}
-use Rattle.lines.specs.Written.{Written}
-use Rattle.lines.proofs.WrittenLaws.{written-then, written-as}
+use Rattle.puts.specs.Written.{Written}
+use Rattle.puts.proofs.WrittenLaws.{written-then, written-as}
 use Rattle.exports.specs.Told.{wordBytes}
 use Rattle.exports.specs.State.{peekWords, flagWord, firstWords, stateBytes}
 

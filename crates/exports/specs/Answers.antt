@@ -1,5 +1,5 @@
--- The table check and the clock maps, as C has them. Assumes nothing.
-use Prim.Native.Nat.{ℕ}
+-- The table check, the table writer and the clock maps, as C has them. Assumes nothing.
+use Prim.Native.Nat.{ℕ, _+_, _*_}
 use mathlib.Core.Bool.{Bool, cond, _&&_}
 use mathlib.Core.List.{List}
 use lib.Dec.{eqb}
@@ -10,9 +10,12 @@ use Rattle.refusals.specs.declared.Refusal.the-variants.{StateRule}
 use Rattle.table.specs.Check as table
 use Rattle.table.specs.declared.Checked.{Checked}
 use Rattle.table.specs.declared.Checked.the-variants.{Accepted, Refused}
+use Rattle.writer.specs.Writer as writer
+use Rattle.writer.specs.Writer.{Writing}
 use Rattle.tags.specs.Tags.{Tag, Clock, Answer}
 use Rattle.records.specs.Records.{tagAt, isBit, isOne}
-use Rattle.exports.specs.Told.{Told, told, front, withRoom, beBytes, tagBytes}
+use Rattle.rows.specs.Bytes.{beBytes}
+use Rattle.exports.specs.Told.{Told, told, front, withRoom, tagBytes}
 
 -- ---- the table check: 0 for a table, or the refusal's number; its place in eight bytes, 0 for a table
 
@@ -26,6 +29,14 @@ checkPlace (Refused n) = table.placeOf n
 
 unfoldable pub checkTold : Checked → List ℕ → Told
 checkTold c place = withRoom 8 place (told (checkNumber c) (front place (beBytes 8 (checkPlace c))))
+
+-- ---- the table writer: the refusal's number, or 0, in the high half; its place, or how many bytes the image has, in the low half
+
+abbrev pub half : ℕ
+half = 4294967296
+
+unfoldable pub writeTold : Writing → Told
+writeTold w = told (writer.numberOf (w .answer) * half + writer.placeOf (w .answer)) (w .buffer)
 
 -- ---- the clock maps
 

@@ -1,10 +1,11 @@
 -- What a function for C answers: a number, and what the lent bytes are then. Assumes nothing.
-use Prim.Native.Nat.{ℕ, zero, suc, _/_, _%_}
+use Prim.Native.Nat.{ℕ}
 use mathlib.Core.Bool.{cond}
 use mathlib.Core.List.{List, [], _∷_, _++_}
 use lib.Dec.{ltb}
 use lib.ListN.{length}
 use lib.Seq.{sets}
+use Rattle.rows.specs.Bytes.{beBytes}
 use Rattle.tags.specs.Tags.{Tag}
 
 pub record Told : Type 0 where
@@ -27,11 +28,6 @@ unfoldable pub withRoom : ℕ → List ℕ → Told → Told
 withRoom n room t = cond (ltb (length room) n) (told noRoom room) t
 
 -- ---- numbers as bytes
-
--- the w low bytes of a number, the highest first
-unfoldable pub beBytes : ℕ → ℕ → List ℕ
-beBytes zero n = []
-beBytes (suc w) n = beBytes w (n / 256) ++ (n % 256 ∷ [])
 
 -- numbers of eight bytes, one behind the other
 unfoldable pub wordBytes : List ℕ → List ℕ

@@ -6,14 +6,15 @@ ghost use Prim.Native.Nat.{_+_, _≤_};
 ghost use lib.ListN.{length};
 ghost use Rattle.table.specs.Check.{isTable, check};
 ghost use Rattle.pops.specs.Pops.{replyOf};
-ghost use Rattle.lines.specs.Written.{Written};
+ghost use Rattle.puts.specs.Written.{Written};
 ghost use Rattle.gate_day.specs.Days.{fitting, dayAnswers};
 ghost use Rattle.gate_day.specs.Views.{Kept, viewOf};
 ghost use Rattle.tags.specs.Tags.{at, globalToLocal, localToGlobal};
 ghost use Rattle.tags.specs.Views.{ofClock, mappedLocal, mappedGlobal};
-ghost use Rattle.exports.specs.Told.{beBytes, wordBytes, tagBytes, told};
+ghost use Rattle.exports.specs.Told.{wordBytes, tagBytes, told};
 ghost use Rattle.exports.specs.State.{peekWords, flagWord, firstWords, stateBytes, afterAll, stateTold};
-ghost use Rattle.exports.specs.Answers.{checkNumber, checkPlace, checkTold, clockIn, isClock, mapped, mapTold};
+ghost use Rattle.writer.specs.Writer.{writing};
+ghost use Rattle.exports.specs.Answers.{checkNumber, checkPlace, checkTold, writeTold, clockIn, isClock, mapped, mapTold};
 use gate_day::Day;
 use pops::Peeked;
 use refusals::Refusal;
@@ -29,19 +30,6 @@ use tags::ScopeClock;
 // A lent slice is too short for what it is lent for; no refusal has this number.
 const NO_ROOM: u8 = 255;
 
-// The low bytes of a number, so many, the highest first; the place behind them.
-fn put_number(bytes: &mut [u8], at: usize, width: u8, n: u64) -> usize
-    requires { ⌜ at ≤ length (now bytes) ⌝ }
-    ensures { λ r. ⌜ Written (now (bytes .entry)) at (beBytes width n) (now (bytes .exit)) r ⌝ }
-{
-    if width == 0 {
-        return at;
-    }
-    let next = put_number(bytes, at, width - 1, n / 256);
-    let low = (n % 256) as u8;
-    lines::put(bytes, next, low)
-}
-
 // Numbers of eight bytes.
 fn put_words(bytes: &mut [u8], at: usize, words: &[u64]) -> usize
     requires { ⌜ at ≤ length (now bytes) ⌝ }
@@ -51,7 +39,7 @@ fn put_words(bytes: &mut [u8], at: usize, words: &[u64]) -> usize
     let mut i: usize = 0;
     while i < words.len() {
         let word = words[i];
-        end = put_number(bytes, end, 8, word);
+        end = puts::put_number(bytes, end, 8, word);
         i += 1;
     }
     end
@@ -72,7 +60,7 @@ fn put_keys(bytes: &mut [u8], at: usize, keys: &[u16]) -> usize
     let mut i: usize = 0;
     while i < keys.len() {
         let word = wide(keys[i]);
-        end = put_number(bytes, end, 8, word);
+        end = puts::put_number(bytes, end, 8, word);
         i += 1;
     }
     end
@@ -265,8 +253,24 @@ pub extern "C" fn barnshiver_check_table(image: &[u8], place: &mut [u8]) -> u8
     }
     let checked = table::check(image);
     let at = place_in(checked);
-    put_number(place, 0, 8, at);
+    puts::put_number(place, 0, 8, at);
     number_in(checked)
+}
+
+// ---- the table writer
+
+// The high half of the answer is the refusal's number, or 0; the low half its place, or how many bytes the image has.
+const HALF: u64 = 4294967296;
+
+// The image of counts and rows over the front of the buffer; or the refusal, and the buffer stays as it was.
+#[no_mangle]
+pub extern "C" fn barnshiver_write_table(counts: &[u8], rows: &[u8], buffer: &mut [u8]) -> u64
+    ensures { λ r. ⌜ told r (now (buffer .exit)) ≡ writeTold (writing (now (counts .entry)) (now (rows .entry)) (now (buffer .entry))) ⌝ }
+{
+    let answer = writer::write(counts, rows, buffer);
+    let number = writer::number_of(answer) as u64;
+    let place = writer::place_of(answer) as u64;
+    number * HALF + place
 }
 
 // ---- the clock maps
@@ -324,8 +328,8 @@ fn mapped_global(clock: &[u8], tag: LocalTag) -> MappedGlobal
 fn put_tag(tag: &mut [u8], offset: u64, microstep: u32) -> usize
     ensures { λ r. ⌜ Written (now (tag .entry)) 0 (tagBytes (at offset microstep)) (now (tag .exit)) r ⌝ }
 {
-    let next = put_number(tag, 0, 8, offset);
-    put_number(tag, next, 4, microstep as u64)
+    let next = puts::put_number(tag, 0, 8, offset);
+    puts::put_number(tag, next, 4, microstep as u64)
 }
 
 // A global tag on the scope's local scale: 0, or the refusal's number, and the bytes stay as they were.

@@ -14,8 +14,8 @@ use Rattle.machine.specs.State.{root}
 use Rattle.scopes.specs.Scopes.{Scope, blank}
 use Rattle.rows.specs.Kinds.{reaction}
 use Rattle.lines.specs.Text.{text, decimal}
-use Rattle.lines.specs.Written.{Written}
-use Rattle.lines.proofs.WrittenLaws.{written-then, written-as}
+use Rattle.puts.specs.Written.{Written}
+use Rattle.puts.proofs.WrittenLaws.{written-then, written-as}
 use Rattle.facts.specs.Facts.{yes, found, offsetIn, microstepIn, scopePlace, placeWords, scopeWords, localWords, lack, noLack, lackingReaction, wordsText, factText}
 
 -- ---- tags on the two scales

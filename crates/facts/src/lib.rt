@@ -6,7 +6,7 @@ ghost use lib.ListN.{length, getD};
 ghost use Rattle.rows.specs.Kinds.{count, reaction};
 ghost use Rattle.tags.specs.Views.{ofGlobal, ofLocal, ofQueue, ofClock, mappedGlobal, mappedLocal};
 ghost use Rattle.scopes.specs.Scopes.{scopesOf, scopeOf, blank};
-ghost use Rattle.lines.specs.Written.{Written};
+ghost use Rattle.puts.specs.Written.{Written};
 ghost use Rattle.facts.specs.Facts.{yes, timeWords, found, offsetIn, microstepIn, scopePlace, placeWords, scopeWords, localWords, callWords, lackingReaction, lackingOf, wordsText, factText};
 use records::Parsed;
 use scopes::Scope;
@@ -256,7 +256,7 @@ fn write_words(buffer: &mut [u8], at: usize, words: &[u64]) -> usize
     let mut i: usize = 0;
     while i < words.len() {
         let word = words[i];
-        let space = lines::put(buffer, end, b' ');
+        let space = puts::put(buffer, end, b' ');
         end = lines::write_decimal(buffer, space, word);
         i += 1;
     }
@@ -267,7 +267,7 @@ fn write_words(buffer: &mut [u8], at: usize, words: &[u64]) -> usize
 pub fn write_fact(buffer: &mut [u8], name: &[u8], words: &[u64]) -> usize
     ensures { λ r. ⌜ Written (now (buffer .entry)) 0 (factText (now (name .entry)) (now (words .entry))) (now (buffer .exit)) r ⌝ }
 {
-    let named = lines::write_text(buffer, 0, name);
+    let named = puts::write_text(buffer, 0, name);
     let end = write_words(buffer, named, words);
-    lines::put(buffer, end, b'\n')
+    puts::put(buffer, end, b'\n')
 }

@@ -1,21 +1,20 @@
 -- Chains of tests that choose a rule, in the form that the code meets them: `search` applies a law and finds the facts by itself. Assumes nothing.
 use Prim.Native.Nat.{ℕ, _≤_, _<_}
-use mathlib.Core.Path.{_≡_, refl, sym, ap, _∙_}
-use mathlib.Core.Bool.{Bool, true, false, cond, not, _||_}
-use mathlib.Core.List.{List, [], _∷_}
-use lib.Dec.{ltb, leb, eqb}
-use borrow.Author.Tests.{le-leb, lt-leb, eq-eqb, ne-eqb}
-use Rattle.lists.specs.Steps.{chains, is-same, is-below, is-other, is-not-same, or-stop, or-pass}
-use Rattle.lists.specs.Tests.{or-neither}
-use Rattle.rows.specs.Kinds.{count, scope, mode, reaction, action, startup, timer}
+use mathlib.Core.Path.{_≡_, refl, sym, _∙_}
+use mathlib.Core.Bool.{Bool, true, false, cond}
+use mathlib.Core.List.{[], _∷_}
+use lib.Dec.{leb}
+use borrow.Author.Tests.{le-leb, lt-leb}
+use Rattle.lists.specs.Steps.{chains, is-same, is-below, is-other, is-not-same}
+use Rattle.rows.specs.Kinds.{count, mode, action, timer}
 use Rattle.rows.specs.Bytes.{Image}
-use Rattle.rows.specs.Rows.{none, field, modeReactor, rootScope, modeScope, scopeMode, initialMode, timerOffset, timerMicrostep, parent, scopeReactor}
+use Rattle.rows.specs.Rows.{none, modeReactor, rootScope, modeScope, scopeMode, initialMode, timerOffset, timerMicrostep, parent, scopeReactor}
 use Rattle.rows.specs.Lineage.{under}
 use Rattle.tags.specs.Tags.{at, within}
 use Rattle.table.specs.declared.KeyField.{KeyField}
 use Rattle.faults.specs.declared.Rule.{Rule}
 use Rattle.faults.specs.declared.Rule.the-variants.{Kept, NotUnder, NotNamedBack}
-use Rattle.faults.specs.Faults.{modeFault, initialFault, modeRowFault, logicalFault, timerFault, ownFault, brokenRule, ruleNumber, fieldOf, fieldAt, faultWords, rowWords}
+use Rattle.faults.specs.Faults.{modeFault, initialFault, modeRowFault, logicalFault, timerFault, ownFault, brokenRule, ruleNumber, fieldOf, fieldAt, faultWords}
 
 pub if-yes : {A : Type 0} {b : Bool} {x r : A} (y : A) → b ≡ true → r ≡ x → r ≡ cond b x y
 if-yes y e h = rw e h
@@ -86,30 +85,3 @@ pub fault-words-are :
     (k ∷ i ∷ n ∷ f .offset ∷ f .names ∷ []) ≡ faultWords s k i
 unfolding faultWords
 fault-words-are s k i e f g h = rw (h, g, f, e)
-
-module _ (s : Image) (k i : ℕ) where
-  pub row-timer : {a b d : ℕ} → k ≡ timer → a ≡ field 2 s k i 0 → b ≡ field 8 s k i 2 → d ≡ field 4 s k i 10 → (k ∷ i ∷ a ∷ b ∷ d ∷ []) ≡ rowWords s k i
-  unfolding rowWords
-  row-timer e f g h = if-yes _ (eq-eqb k timer e) (rw (f, g, h))
-
-  module _ (t : k ≡ timer → ⊥) where
-    pub row-reaction : {a : ℕ} → k ≡ reaction → a ≡ field 1 s k i 0 → (k ∷ i ∷ a ∷ 0 ∷ 0 ∷ []) ≡ rowWords s k i
-    unfolding rowWords
-    row-reaction e f = if-no _ (ne-eqb k timer t) (if-yes _ (eq-eqb k reaction e) (rw f))
-
-    module _ (n : k ≡ reaction → ⊥) {a : ℕ} (f : a ≡ field 2 s k i 0) where
-      pub row-action : {b : ℕ} → k ≡ action → b ≡ field 1 s k i 2 → (k ∷ i ∷ a ∷ b ∷ 0 ∷ []) ≡ rowWords s k i
-      unfolding rowWords
-      row-action e g = if-no _ (ne-eqb k timer t) (if-no _ (ne-eqb k reaction n) (if-yes _ (eq-eqb k action e) (rw (f, g))))
-
-      module _ (o : k ≡ action → ⊥) {b : ℕ} (g : b ≡ field 2 s k i 2) where
-        pub row-three : {d : ℕ} → (eqb k scope || eqb k startup) ≡ true → d ≡ field 2 s k i 4 → (k ∷ i ∷ a ∷ b ∷ d ∷ []) ≡ rowWords s k i
-        unfolding rowWords
-        row-three e h = if-no _ (ne-eqb k timer t) (if-no _ (ne-eqb k reaction n) (if-no _ (ne-eqb k action o) (if-yes _ e (rw (f, g, h)))))
-
-        pub row-two : (k ≡ scope → ⊥) → (k ≡ startup → ⊥) → (k ∷ i ∷ a ∷ b ∷ 0 ∷ []) ≡ rowWords s k i
-        unfolding rowWords
-        row-two p q =
-            if-no _ (ne-eqb k timer t)
-            (if-no _ (ne-eqb k reaction n)
-            (if-no _ (ne-eqb k action o) (if-no _ (or-neither (eqb k scope) (eqb k startup) (ne-eqb k scope p) (ne-eqb k startup q)) (rw (f, g)))))

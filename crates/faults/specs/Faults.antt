@@ -1,13 +1,14 @@
 -- Which rule of document 01's list a row breaks: the first that fails, in the order of "Every other key must exist. Also: ..". Assumes nothing.
 use Prim.Native.Nat.{ℕ}
-use mathlib.Core.Bool.{Bool, true, false, cond, not, _&&_, _||_}
+use mathlib.Core.Bool.{Bool, cond, not}
 use mathlib.Core.List.{List, [], _∷_}
-use lib.Dec.{ltb, leb, eqb}
+use lib.Dec.{ltb, eqb}
 use lib.ListN.{getD}
 use Rattle.lists.specs.Scan.{scan}
 use Rattle.rows.specs.Bytes.{Image}
-use Rattle.rows.specs.Kinds.{count, scope, reactor, mode, reaction, action, startup, timer}
-use Rattle.rows.specs.Rows.{none, field, parent, scopeReactor, scopeMode, rootScope, initialMode, modeScope, modeReactor}
+use Rattle.rows.specs.Kinds.{count, scope, reactor, mode, reaction, action, timer}
+use Rattle.rows.specs.Rows.{none, parent, scopeReactor, scopeMode, rootScope, initialMode, modeScope, modeReactor}
+use Rattle.rows.specs.Fields as fields
 use Rattle.rows.specs.Lineage.{under}
 use Rattle.table.specs.declared.KeyField.{KeyField}
 use Rattle.table.specs.Rules.{key, keyFields, keyCount, keyExists, parentRule, reactionRule, actionRule, timerRule}
@@ -116,10 +117,5 @@ faultWords s k i =
     k ∷ i ∷ ruleNumber rule ∷ fieldAt (fieldOf rule) .offset ∷ fieldAt (fieldOf rule) .names ∷ []
 
 -- the row and its fields; 0 for a field that the kind does not have
-unfoldable pub rowWords : Image → ℕ → ℕ → List ℕ
-rowWords s k i =
-    cond (eqb k timer) (k ∷ i ∷ field 2 s k i 0 ∷ field 8 s k i 2 ∷ field 4 s k i 10 ∷ [])
-    (cond (eqb k reaction) (k ∷ i ∷ field 1 s k i 0 ∷ 0 ∷ 0 ∷ [])
-    (cond (eqb k action) (k ∷ i ∷ field 2 s k i 0 ∷ field 1 s k i 2 ∷ 0 ∷ [])
-    (cond (eqb k scope || eqb k startup) (k ∷ i ∷ field 2 s k i 0 ∷ field 2 s k i 2 ∷ field 2 s k i 4 ∷ [])
-    (k ∷ i ∷ field 2 s k i 0 ∷ field 2 s k i 2 ∷ 0 ∷ []))))
+abbrev pub rowWords : Image → ℕ → ℕ → List ℕ
+rowWords s k i = k ∷ i ∷ fields.fieldOf s k i 0 ∷ fields.fieldOf s k i 1 ∷ fields.fieldOf s k i 2 ∷ []

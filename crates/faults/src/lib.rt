@@ -289,41 +289,8 @@ pub fn fault_words(image: &[u8], k: u8, i: u16) -> [u64; 5]
 pub fn row_words(image: &[u8], k: u8, i: u16) -> [u64; 5]
     ensures { λ r. ⌜ r ≡ rowWords (now (image .entry)) k i ⌝ }
 {
-    if k == rows::TIMER {
-        let action = rows::field16(image, k, i, 0);
-        let offset = rows::field64(image, k, i, 2);
-        let microstep = rows::field32(image, k, i, 10);
-        return [k as u64, i as u64, action as u64, offset, microstep as u64];
-    }
-    if k == rows::REACTION {
-        let level = rows::field8(image, k, i, 0);
-        return [k as u64, i as u64, level as u64, 0, 0];
-    }
-    let first = rows::field16(image, k, i, 0);
-    if k == rows::ACTION {
-        let logical = rows::field8(image, k, i, 2);
-        return [k as u64, i as u64, first as u64, logical as u64, 0];
-    }
-    let second = rows::field16(image, k, i, 2);
-    if k == rows::SCOPE {
-        let third = rows::field16(image, k, i, 4);
-        return [
-            k as u64,
-            i as u64,
-            first as u64,
-            second as u64,
-            third as u64,
-        ];
-    }
-    if k == rows::STARTUP {
-        let third = rows::field16(image, k, i, 4);
-        return [
-            k as u64,
-            i as u64,
-            first as u64,
-            second as u64,
-            third as u64,
-        ];
-    }
-    [k as u64, i as u64, first as u64, second as u64, 0]
+    let first = rows::field_of(image, k, i, 0);
+    let second = rows::field_of(image, k, i, 1);
+    let third = rows::field_of(image, k, i, 2);
+    [k as u64, i as u64, first, second, third]
 }

@@ -16,8 +16,8 @@ use Rattle.kept.specs.Kept.{step-keeps}
 use Rattle.lens.specs.declared.Counts.{Counts}
 use Rattle.unpacked.specs.Unpacked.{Unpacked}
 use Rattle.records.specs.Records.{Record, call, malformed, cut, over, mostBytes}
-use Rattle.lines.specs.Written.{Written}
-use Rattle.lines.proofs.WrittenLaws.{written-none, written-then, written-long, written-room}
+use Rattle.puts.specs.Written.{Written}
+use Rattle.puts.proofs.WrittenLaws.{written-none, written-then, written-long, written-room}
 use Rattle.gate_day.specs.Days.{Next, pending, broken, whole, nextAt, bytesLeft, bodyAt, Ran, stopped, endedAt, behind, longest, malformedLine, lineAt, stateAt, ranIn, ranOn, ran}
 
 pub record Running (img : Image) (bytes : List ℕ) (first : State) (old : List ℕ) (modes ss events values buckets : List ℕ) (c : Counts) (h : store.Counts)

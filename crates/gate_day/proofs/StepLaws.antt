@@ -34,9 +34,9 @@ use Rattle.pops.specs.declared.Popped.{Popped}
 use Rattle.records.specs.Records.{mostKeys}
 use Rattle.records.specs.Views.{ofParsed, keyCount, Parses}
 use Rattle.records.specs.declared.Parsed.{Parsed}
-use Rattle.lines.specs.Written.{Written}
+use Rattle.puts.specs.Written.{Written}
 use Rattle.lines.specs.Lines.{lineOf, refusedLine}
-use Rattle.lines.proofs.WrittenLaws.{written-then, written-as, written-long}
+use Rattle.puts.proofs.WrittenLaws.{written-then, written-as, written-long}
 use Rattle.gate_day.specs.Days.{Next, pending, broken, whole, nextAt, bodyAt, Ran, stopped, endedAt, behind, longest, malformedLine, lineAt, stateAt, ran}
 use Rattle.gate_day.specs.Views.{ofNext, opOf, pushBy, popReplyOf, viewOf, UnpackedDay, Kept, Pieced}
 use Rattle.gate_day.specs.declared.Day.{Day}

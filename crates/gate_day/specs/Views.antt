@@ -15,7 +15,7 @@ use Rattle.scopes.specs.Scopes.{Scope, scopesOf}
 use Rattle.store_calls.specs.Lent.{storeOf}
 use Rattle.lens.specs.Lens.{stateIn}
 use Rattle.unpacked.specs.Unpacked.{Unpacked}
-use Rattle.lines.specs.Written.{Written}
+use Rattle.puts.specs.Written.{Written}
 use Rattle.ready.specs.Gathering.{gatheringOf, readyAt}
 use Rattle.pops.specs.declared.Popped.{Popped}
 use Rattle.pushes.specs.Pushes.{Push, rootMade, actionMade, pushOf}

@@ -15,7 +15,7 @@ ghost use Rattle.records.specs.Views.{keyCount, Parses};
 ghost use Rattle.machine.specs.State.{mostWaiting, fresh as freshState};
 ghost use Rattle.table.specs.Check.{isTable};
 ghost use mathlib.Core.Bool.{true};
-ghost use Rattle.lines.specs.Written.{Written};
+ghost use Rattle.puts.specs.Written.{Written};
 ghost use Rattle.lines.specs.Lines.{lineOf};
 ghost use Rattle.transition.specs.Transiting as transition;
 ghost use Rattle.gate_day.specs.Days.{nextAt, bodyAt, ran, answersOf, fitting, imageEnd, opened, dayAnswers};

@@ -1,3 +1,3 @@
-pub mod WrittenLaws
+pub mod DecimalLaws
 pub mod ListLaws
 pub mod FitLaws

@@ -1,4 +1,4 @@
 pub mod Text
-pub mod Written
+pub mod Listed
 pub mod Lines
 pub mod Examples

@@ -14,7 +14,8 @@ ghost use Rattle.machine.specs.Machine as M;
 ghost use Rattle.tags.specs.Views.{ofGlobal};
 ghost use Rattle.ready.specs.Gathering.{gatheringOf, readyAt};
 ghost use Rattle.lines.specs.Text.{text, digit, decimal};
-ghost use Rattle.lines.specs.Written.{Written, Listed};
+ghost use Rattle.puts.specs.Written.{Written};
+ghost use Rattle.lines.specs.Listed.{Listed};
 ghost use Rattle.lines.specs.Lines.{levelIn, levelCount, byLevel, entryOf, reactionList, actionList, yes, tagText, headText, refusedLine, tableRefused, tableLine, lineOf};
 use key_set::Found;
 use key_set::KeySet;
@@ -32,56 +33,6 @@ struct Pen {
     started: bool,
 }
 
-pub fn put(buffer: &mut [u8], at: usize, byte: u8) -> usize
-    requires { ⌜ at ≤ length (now buffer) ⌝ }
-    ensures { λ r. ⌜ Written (now (buffer .entry)) at (byte ∷ []) (now (buffer .exit)) r ⌝ }
-{
-    if at < buffer.len() {
-        buffer[at] = byte;
-        return at + 1;
-    }
-    at
-}
-
-// As much of it as there is room for.
-fn write_some(buffer: &mut [u8], at: usize, text: &[u8]) -> usize
-    requires { ⌜ at ≤ length (now buffer) ⌝ }
-    ensures { λ r. ⌜ Written (now (buffer .entry)) at (now (text .entry)) (now (buffer .exit)) r ⌝ }
-{
-    let mut end = at;
-    let mut i: usize = 0;
-    while i < text.len() {
-        let byte = text[i];
-        end = put(buffer, end, byte);
-        i += 1;
-    }
-    end
-}
-
-// A text for which there is room.
-fn copy_text(buffer: &mut [u8], at: usize, text: &[u8]) -> usize
-    requires { ⌜ at + length (now text) ≤ length (now buffer) ⌝ }
-    ensures { λ r. ⌜ Written (now (buffer .entry)) at (now (text .entry)) (now (buffer .exit)) r ⌝ }
-{
-    let mut i: usize = 0;
-    while i < text.len() {
-        buffer[at + i] = text[i];
-        i += 1;
-    }
-    at + i
-}
-
-// The room is tested once.
-pub fn write_text(buffer: &mut [u8], at: usize, text: &[u8]) -> usize
-    requires { ⌜ at ≤ length (now buffer) ⌝ }
-    ensures { λ r. ⌜ Written (now (buffer .entry)) at (now (text .entry)) (now (buffer .exit)) r ⌝ }
-{
-    if text.len() <= buffer.len() - at {
-        return copy_text(buffer, at, text);
-    }
-    write_some(buffer, at, text)
-}
-
 // The byte of a number's last digit.
 fn last_digit(n: u64) -> u8
     ensures { λ r. ⌜ r ≡ digit (n % 10) ⌝ }
@@ -95,9 +46,9 @@ fn write_two(buffer: &mut [u8], at: usize, n: u64) -> usize
     ensures { λ r. ⌜ Written (now (buffer .entry)) at (digit (n / 10 % 10) ∷ (digit (n % 10) ∷ [])) (now (buffer .exit)) r ⌝ }
 {
     let tens = last_digit(n / 10);
-    let next = put(buffer, at, tens);
+    let next = puts::put(buffer, at, tens);
     let ones = last_digit(n);
-    put(buffer, next, ones)
+    puts::put(buffer, next, ones)
 }
 
 // Two digits a turn.
@@ -107,7 +58,7 @@ fn write_digits(buffer: &mut [u8], at: usize, n: u64) -> usize
 {
     if n < 10 {
         let digit = last_digit(n);
-        return put(buffer, at, digit);
+        return puts::put(buffer, at, digit);
     }
     if n < 100 {
         return write_two(buffer, at, n);
@@ -123,7 +74,7 @@ pub fn write_decimal(buffer: &mut [u8], at: usize, n: u64) -> usize
 {
     if n < 10 {
         let digit = last_digit(n);
-        return put(buffer, at, digit);
+        return puts::put(buffer, at, digit);
     }
     write_digits(buffer, at, n)
 }
@@ -137,7 +88,7 @@ fn separate(buffer: &mut [u8], pen: Pen) -> usize
 {
     let at = pen.at;
     if pen.started {
-        return put(buffer, at, b',');
+        return puts::put(buffer, at, b',');
     }
     at
 }
@@ -151,7 +102,7 @@ fn finish(buffer: &mut [u8], pen: Pen) -> usize
     if pen.started {
         return at;
     }
-    put(buffer, at, b'-')
+    puts::put(buffer, at, b'-')
 }
 
 fn write_key(buffer: &mut [u8], pen: Pen, key: u16) -> Pen
@@ -172,7 +123,7 @@ fn write_reaction(buffer: &mut [u8], pen: Pen, level: u8, key: u16) -> Pen
 {
     let at = separate(buffer, pen);
     let colon = write_decimal(buffer, at, level as u64);
-    let next = put(buffer, colon, b':');
+    let next = puts::put(buffer, colon, b':');
     let end = write_decimal(buffer, next, key as u64);
     Pen {
         at: end,
@@ -311,7 +262,7 @@ fn write_flag(buffer: &mut [u8], at: usize, name: &[u8], flag: bool) -> usize
     requires { ⌜ at ≤ length (now buffer) ⌝ }
     ensures { λ r. ⌜ Written (now (buffer .entry)) at (now (name .entry) ++ decimal (yes flag)) (now (buffer .exit)) r ⌝ }
 {
-    let end = write_text(buffer, at, name);
+    let end = puts::write_text(buffer, at, name);
     let n = bit(flag);
     write_decimal(buffer, end, n)
 }
@@ -321,7 +272,7 @@ fn write_tag(buffer: &mut [u8], at: usize, tag: GlobalTag) -> usize
     ensures { λ r. ⌜ Written (now (buffer .entry)) at (tagText (ofGlobal tag)) (now (buffer .exit)) r ⌝ }
 {
     let end = write_decimal(buffer, at, tag.0);
-    let next = put(buffer, end, b' ');
+    let next = puts::put(buffer, end, b' ');
     write_decimal(buffer, next, tag.1 as u64)
 }
 
@@ -337,7 +288,7 @@ fn write_head(
     requires { ⌜ at ≤ length (now buffer) ⌝ }
     ensures { λ r. ⌜ Written (now (buffer .entry)) at (headText (ofGlobal tag) terminal work network) (now (buffer .exit)) r ⌝ }
 {
-    let name = write_text(buffer, at, b"ready ");
+    let name = puts::write_text(buffer, at, b"ready ");
     let tagged = write_tag(buffer, name, tag);
     let first = write_flag(buffer, tagged, b" terminal ", terminal);
     let second = write_flag(buffer, first, b" work ", work);
@@ -359,7 +310,7 @@ fn write_reacted(buffer: &mut [u8], at: usize, image: &[u8], set: KeySet) -> usi
     requires { ⌜ at ≤ length (now buffer) ⌝ }
     ensures { λ r. ⌜ Written (now (buffer .entry)) at (text " reactions " ++ reactionList (R.level (now (image .entry))) (keysOf (set .words))) (now (buffer .exit)) r ⌝ }
 {
-    let next = write_text(buffer, at, b" reactions ");
+    let next = puts::write_text(buffer, at, b" reactions ");
     let start = first_level(image);
     write_reactions(buffer, next, &image[start..], set)
 }
@@ -368,9 +319,9 @@ fn write_acted(buffer: &mut [u8], at: usize, keys: &[u16], n: usize) -> usize
     requires { ⌜ (at ≤ length (now buffer)) × (n ≤ length (now keys)) ⌝ }
     ensures { λ r. ⌜ Written (now (buffer .entry)) at (text " actions " ++ (actionList (take n (now (keys .entry))) ++ text "\n")) (now (buffer .exit)) r ⌝ }
 {
-    let next = write_text(buffer, at, b" actions ");
+    let next = puts::write_text(buffer, at, b" actions ");
     let end = write_actions(buffer, next, keys, n);
-    put(buffer, end, b'\n')
+    puts::put(buffer, end, b'\n')
 }
 
 // ---- the lines
@@ -399,14 +350,14 @@ pub fn write_ok(buffer: &mut [u8], at: usize) -> usize
     requires { ⌜ at ≤ length (now buffer) ⌝ }
     ensures { λ r. ⌜ Written (now (buffer .entry)) at (lineOf [] M.ok) (now (buffer .exit)) r ⌝ }
 {
-    write_text(buffer, at, b"ok\n")
+    puts::write_text(buffer, at, b"ok\n")
 }
 
 pub fn write_nothing(buffer: &mut [u8], at: usize) -> usize
     requires { ⌜ at ≤ length (now buffer) ⌝ }
     ensures { λ r. ⌜ Written (now (buffer .entry)) at (lineOf [] M.nothing) (now (buffer .exit)) r ⌝ }
 {
-    write_text(buffer, at, b"nothing\n")
+    puts::write_text(buffer, at, b"nothing\n")
 }
 
 // By the refusal's number; 1 for a record that is malformed or cut off.
@@ -414,9 +365,9 @@ pub fn write_refused(buffer: &mut [u8], at: usize, number: u8) -> usize
     requires { ⌜ at ≤ length (now buffer) ⌝ }
     ensures { λ r. ⌜ Written (now (buffer .entry)) at (refusedLine number) (now (buffer .exit)) r ⌝ }
 {
-    let name = write_text(buffer, at, b"refused ");
+    let name = puts::write_text(buffer, at, b"refused ");
     let end = write_decimal(buffer, name, number as u64);
-    put(buffer, end, b'\n')
+    puts::put(buffer, end, b'\n')
 }
 
 fn write_table_refused(buffer: &mut [u8], at: usize, refusal: ImageRefusal) -> usize
@@ -425,11 +376,11 @@ fn write_table_refused(buffer: &mut [u8], at: usize, refusal: ImageRefusal) -> u
 {
     let number = table::number_of(refusal);
     let place = table::place_of(refusal);
-    let name = write_text(buffer, at, b"table refused ");
+    let name = puts::write_text(buffer, at, b"table refused ");
     let counted = write_decimal(buffer, name, number as u64);
-    let space = put(buffer, counted, b' ');
+    let space = puts::put(buffer, counted, b' ');
     let end = write_decimal(buffer, space, place as u64);
-    put(buffer, end, b'\n')
+    puts::put(buffer, end, b'\n')
 }
 
 // Of the image's check.
@@ -438,7 +389,7 @@ pub fn write_table(buffer: &mut [u8], at: usize, checked: Checked) -> usize
     ensures { λ r. ⌜ Written (now (buffer .entry)) at (tableLine checked) (now (buffer .exit)) r ⌝ }
 {
     match checked {
-        Checked::Accepted => write_text(buffer, at, b"table ok\n"),
+        Checked::Accepted => puts::write_text(buffer, at, b"table ok\n"),
         Checked::Refused(refusal) => write_table_refused(buffer, at, refusal),
     }
 }

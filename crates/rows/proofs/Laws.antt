@@ -1,16 +1,19 @@
 -- Laws of the image's bytes, kinds and rows, in the form that the code meets them. Assumes nothing.
 use mathlib.Core.Path.{_≡_, sym}
-use mathlib.Core.Bool.{Bool}
-use Prim.Native.Nat.{ℕ, _+_, _-_, _*_, _^_, _≤_, _<_}
+use mathlib.Core.Bool.{Bool, _&&_}
+use Prim.Native.Nat.{ℕ, suc, _+_, _-_, _*_, _^_, _≤_, _<_}
 use native.Mathlib.Numerals.{add-one}
 use native.Mathlib.Nat.{mul-le-mul, le-of-lt, pow-le-pow-right}
 use native.Mathlib.Omega.{arith}
-use lib.Dec.{leb, leb→le, lit<}
+use lib.Dec.{T, leb, leb→le, lit<}
 use lib.ListN.{length, getD, List·getD-eq-default}
+use Rattle.lists.specs.Tests.{T-left, T-right}
 use Rattle.lists.specs.Lists.{every, entry-at}
 use Rattle.rows.specs.Bytes.{Image, be, be-room}
 use Rattle.rows.specs.Kinds.{kind, kinds, widest, kindOf, count, place}
 use Rattle.rows.specs.Rows.{rowPlace, field}
+use Rattle.rows.specs.Fields.{fields, fieldTable, fieldsOf, fieldOf}
+use Rattle.rows.specs.declared.Fields.{Fields}
 use Rattle.rows.specs.declared.Kind.{Kind}
 
 -- past the end stand zeros
@@ -36,6 +39,50 @@ width-le k = leb→le (kindOf k .width) widest (entry-at thin kinds (kind 0 0 0)
 pub kind-past : (k : ℕ) → length kinds ≤ k → kind 0 0 0 ≡ kindOf k
 unfolding kindOf
 kind-past k h = sym (List·getD-eq-default kinds (kind 0 0 0) h)
+
+pub fields-past : (k : ℕ) → length fieldTable ≤ k → fields 0 0 0 ≡ fieldsOf k
+unfolding fieldsOf
+fields-past k h = sym (List·getD-eq-default fieldTable (fields 0 0 0) h)
+
+-- no field has more than eight bytes
+slim : Fields → Bool
+slim q = leb (q .first) 8 && (leb (q .second) 8 && leb (q .third) 8)
+
+module _ (k : ℕ) where
+  abbrev q : Fields
+  q = fieldsOf k
+
+  all-slim : T (slim q)
+  unfolding fieldTable fieldsOf slim every
+  all-slim = entry-at slim fieldTable (fields 0 0 0) tt tt k
+
+  pub first-le : q .first ≤ 8
+  unfolding slim
+  first-le = leb→le (q .first) 8 (T-left (leb (q .first) 8) _ all-slim)
+
+  others-slim : T (leb (q .second) 8 && leb (q .third) 8)
+  unfolding slim
+  others-slim = T-right (leb (q .first) 8) _ all-slim
+
+  pub second-le : q .second ≤ 8
+  second-le = leb→le (q .second) 8 (T-left (leb (q .second) 8) _ others-slim)
+
+  pub third-le : q .third ≤ 8
+  third-le = leb→le (q .third) 8 (T-right (leb (q .second) 8) _ others-slim)
+
+-- field f, read at its row's place
+module _ (s : Image) (k i f : ℕ) {q : Fields} (e : q ≡ fieldsOf k) {at r : ℕ} where
+  pub field-first : f ≡ 0 → at ≡ rowPlace s k i + 0 → r ≡ be (q .first) s at → r ≡ fieldOf s k i f
+  unfolding fieldOf field
+  field-first h p g = rw (h, ← e, ← p) g
+
+  pub field-second : f ≡ 1 → at ≡ rowPlace s k i + q .first → r ≡ be (q .second) s at → r ≡ fieldOf s k i f
+  unfolding fieldOf field
+  field-second h p g = rw (h, ← e, ← p) g
+
+  pub field-third : (f ≡ 0 → ⊥) → (f ≡ 1 → ⊥) → at ≡ rowPlace s k i + (q .first + q .second) → r ≡ be (q .third) s at → r ≡ fieldOf s k i f
+  unfolding fieldOf field
+  field-third h l p g = let z : f ≡ suc (suc (f - 2)) = omega (arith, h, l) in rw (z, ← e, ← p) g
 
 -- the rows of one kind, of which a count of two bytes says how many
 pub rows-le : (n w : ℕ) → n < 2 ^ 16 → w ≤ widest → n * w ≤ 2 ^ 16 * widest

@@ -17,6 +17,8 @@ rowPlace s k i = place s k + i * kindOf k .width
 unfoldable pub field : ℕ → Image → ℕ → ℕ → ℕ → ℕ
 field w s k i off = be w s (rowPlace s k i + off)
 
+-- ---- the fields by their names
+
 -- "scope | parent 2, reactor 2, mode 2"
 abbrev pub parent : Image → ℕ → ℕ
 parent s i = field 2 s scope i 0

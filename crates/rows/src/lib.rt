@@ -6,6 +6,7 @@ ghost use lib.ListN.{getD};
 ghost use Rattle.rows.specs.Bytes.{be};
 ghost use Rattle.rows.specs.Kinds.{widest, kindOf, countPlace, count as countOf, place as placeOf};
 ghost use Rattle.rows.specs.Rows.{rowPlace, field, isLogical};
+ghost use Rattle.rows.specs.Fields.{fieldsOf, fieldOf};
 ghost use Rattle.rows.specs.Rows as fields;
 ghost use Rattle.rows.specs.Lineage.{inSubtree, under as underOf};
 
@@ -92,6 +93,61 @@ const TABLE: [Kind; KINDS as usize] = [
     },
 ];
 
+// The bytes of a row's first, second and third field, 0 for one that the kind does not have.
+pub struct Fields {
+    pub first: u8,
+    pub second: u8,
+    pub third: u8,
+}
+
+const FIELDS: [Fields; KINDS as usize] = [
+    Fields {
+        first: 2,
+        second: 2,
+        third: 2,
+    },
+    Fields {
+        first: 2,
+        second: 2,
+        third: 0,
+    },
+    Fields {
+        first: 2,
+        second: 2,
+        third: 0,
+    },
+    Fields {
+        first: 1,
+        second: 0,
+        third: 0,
+    },
+    Fields {
+        first: 2,
+        second: 1,
+        third: 0,
+    },
+    Fields {
+        first: 2,
+        second: 2,
+        third: 0,
+    },
+    Fields {
+        first: 2,
+        second: 2,
+        third: 2,
+    },
+    Fields {
+        first: 2,
+        second: 2,
+        third: 0,
+    },
+    Fields {
+        first: 2,
+        second: 8,
+        third: 4,
+    },
+];
+
 fn wide(x: u8) -> u64
     ensures { λ r. ⌜ r ≡ x ⌝ }
 {
@@ -167,6 +223,21 @@ pub fn kind_at(k: u8) -> Kind
     }
 }
 
+// The bytes of each field of a row of the kind k; a kind past the nine has none.
+pub fn fields_at(k: u8) -> Fields
+    ensures { λ r. ⌜ (r ≡ fieldsOf k) × (r .first ≤ 8) × (r .second ≤ 8) × (r .third ≤ 8) ⌝ }
+{
+    let j = k as usize;
+    if k < KINDS {
+        return FIELDS[j];
+    }
+    Fields {
+        first: 0,
+        second: 0,
+        third: 0,
+    }
+}
+
 // Where the count of the kind k stands.
 pub fn count_place(k: u8) -> usize
     ensures { λ r. ⌜ r ≡ countPlace k ⌝ }
@@ -237,6 +308,23 @@ pub fn field64(image: &[u8], k: u8, i: u16, offset: u8) -> u64
     ensures { λ r. ⌜ r ≡ field 8 (now (image .entry)) k i offset ⌝ }
 {
     eight_bytes(image, field_place(image, k, i, offset))
+}
+
+// Field f of row i of the kind k, counted from 0; 0 for one that it does not have.
+pub fn field_of(image: &[u8], k: u8, i: u16, f: u8) -> u64
+    ensures { λ r. ⌜ r ≡ fieldOf (now (image .entry)) k i f ⌝ }
+{
+    let fields = fields_at(k);
+    if f == 0 {
+        let at = field_place(image, k, i, 0);
+        return number(image, at, fields.first as usize);
+    }
+    if f == 1 {
+        let at = field_place(image, k, i, fields.first);
+        return number(image, at, fields.second as usize);
+    }
+    let at = field_place(image, k, i, fields.first + fields.second);
+    number(image, at, fields.third as usize)
 }
 
 // ---- the fields by their names

@@ -31,10 +31,14 @@ unfolding placeBy place
 by-counts s zero = refl
 by-counts s (suc k) = rw (by-counts s k)
 
+-- where the rows end, with no more of a kind than the most
+pub rows-end : (s : Image) → ((k : ℕ) → k < kindCount → count s k ≤ kindOf k .most) → place s kindCount ≤ 3287
+unfolding placeBy kindOf kinds
+rows-end s h = omega (arith, by-counts s kindCount, more-rows (count s) (λ k. kindOf k .most) kindCount h)
+
 module _ (s : Image) (t : Table s) where
   pub no-larger : length s ≤ 3287
-  unfolding placeBy kindOf kinds
-  no-larger = omega (arith, t .filled, by-counts s kindCount, more-rows (count s) (λ k. kindOf k .most) kindCount (count-most s t))
+  no-larger = omega (arith, t .filled, rows-end s (count-most s t))
 
   pub no-smaller : 33 ≤ length s
   unfolding placeBy kindOf kinds

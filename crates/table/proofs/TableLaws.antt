@@ -30,7 +30,7 @@ refused : {P : Type 0} (r : ImageRefusal) → Refused r ≡ Accepted → P
 refused r e = absurd (let z : _≡_ {A = ℕ} 0 1 = cc in omega arith)
 
 -- a test that did not refuse
-passed : {P : Type 0} (b : Bool) (r : ImageRefusal) (a : Checked) → cond b (Refused r) a ≡ Accepted → (b ≡ false → a ≡ Accepted → P) → P
+pub passed : {P : Type 0} (b : Bool) (r : ImageRefusal) (a : Checked) → cond b (Refused r) a ≡ Accepted → (b ≡ false → a ≡ Accepted → P) → P
 passed true r a e k = refused r e
 passed false r a e k = k refl e
 

@@ -61,16 +61,20 @@ badKind s = scan (kindFits s) 0 kindCount
 unfoldable pub checkRows : Image → Checked
 checkRows s = cond (ltb (badKind s) kindCount) (Refused (Row (rowPlace s (badKind s) (badRow s (badKind s))))) Accepted
 
--- "under 5 bytes or wrong length (1); version (2); under 23 bytes (1); counts in order (3, also for no scope or no reactor);
--- rows don't fill it exactly (1); rows in order (4)"
+-- "counts in order (3, also for no scope or no reactor); rows don't fill it exactly (1); rows in order (4)": reader and writer
+abbrev pub checkBody : Image → Checked
+checkBody s =
+    cond (ltb (badCount s) kindCount) (Refused (Count (countPlace (badCount s))))
+    (cond (not (eqb (place s kindCount) (length s))) (Refused Unfilled)
+    (checkRows s))
+
+-- "under 5 bytes or wrong length (1); version (2); under 23 bytes (1)", then these
 unfoldable pub check : Image → Checked
 check s =
     cond (wrongLength s) (Refused Length)
     (cond (not (eqb (be 1 s 4) version)) (Refused Version)
     (cond (ltb (length s) headBytes) (Refused Short)
-    (cond (ltb (badCount s) kindCount) (Refused (Count (countPlace (badCount s))))
-    (cond (not (eqb (place s kindCount) (length s))) (Refused Unfilled)
-    (checkRows s)))))
+    (checkBody s)))
 
 -- "the table passes the rules above"
 abbrev pub accepts : Checked → Bool

@@ -6,7 +6,7 @@ ghost use Rattle.table.specs.Rules.{key, keyFields, keyCount, keyExists,
 ghost use Rattle.table.specs.Check.{numberOf, placeOf, wrongLength, countFits, badCount, badRow, checkRows, isTable, check as checkOf};
 use tags::LocalTag;
 
-const VERSION: u8 = 1;
+pub const VERSION: u8 = 1;
 
 const MAX_LEVEL: u8 = 15;
 
@@ -336,7 +336,7 @@ pub fn bad_row(image: &[u8], k: u8) -> u16
 }
 
 // The rows, in order.
-fn check_rows(image: &[u8]) -> Checked
+pub fn check_rows(image: &[u8]) -> Checked
     ensures { λ r. ⌜ r ≡ checkRows (now (image .entry)) ⌝ }
 {
     let mut k: u8 = 0;
@@ -364,7 +364,7 @@ fn count_fits(image: &[u8], k: u8) -> bool
 }
 
 // The first kind whose count does not fit, or how many kinds there are.
-fn bad_count(image: &[u8]) -> u8
+pub fn bad_count(image: &[u8]) -> u8
     ensures { λ r. ⌜ r ≡ badCount (now (image .entry)) ⌝ }
 {
     let mut k: u8 = 0;

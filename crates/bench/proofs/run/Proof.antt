@@ -4,7 +4,7 @@ use mathlib.Core.Path.{_≡_, refl, sym, _∙_}
 use native.Mathlib.Omega.{arith}
 use lib.ListN.{length}
 use lib.Seq.{length-take-le}
-use Rattle.lines.proofs.WrittenLaws.{written-room, written-long}
+use Rattle.puts.proofs.WrittenLaws.{written-room, written-long}
 use Rattle.gate_day.specs.Views.{Kept}
 use borrow.Author.Needs.{needs}
 use Rattle.bench.proofs.run.Statement.{statement}

@@ -1,7 +1,7 @@
 -- `bench::say_cut` is safe: the line lies within the buffer. Assumes nothing.
 use mathlib.Core.Path.{sym}
 use lib.Seq.{length-take-le}
-use Rattle.lines.proofs.WrittenLaws.{written-room}
+use Rattle.puts.proofs.WrittenLaws.{written-room}
 use borrow.Author.Needs.{needs}
 use Rattle.bench.proofs.say_cut.Statement.{statement}
 use Rattle.bench.proofs.say_cut.Tie as tie

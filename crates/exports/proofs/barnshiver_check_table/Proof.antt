@@ -6,7 +6,7 @@ use Rattle.exports.proofs.barnshiver_check_table.Reads as reads
 use Rattle.exports.proofs.barnshiver_check_table.Lts as lts
 use Rattle.exports.proofs.number_in.Reads as number-in-reads
 use Rattle.exports.proofs.place_in.Reads as place-in-reads
-use Rattle.exports.proofs.put_number.Reads as put-number-reads
+use Rattle.puts.proofs.put_number.Reads as put-number-reads
 use Rattle.table.proofs.check.Reads as check-reads
 
 returns : tie.Need-returns

@@ -1,15 +1,15 @@
 use Prim.Native.Nat.{_-_, _≤_}
 use lib.ListN.{length, take}
 use borrow.Author.Needs.{needs}
-use Rattle.lines.specs.Written.{Written}
-use Rattle.lines.proofs.WrittenLaws.{written-room, written-long}
+use Rattle.puts.specs.Written.{Written}
+use Rattle.puts.proofs.WrittenLaws.{written-room, written-long}
 use Rattle.exports.specs.Told.{wordBytes}
 use Rattle.exports.proofs.ToldLaws.{words-none, words-on, words-all}
 use Rattle.exports.proofs.put_keys.Statement.{statement}
 use Rattle.exports.proofs.put_keys.Tie as tie
 use Rattle.exports.proofs.put_keys.Reads as reads
 use Rattle.exports.proofs.put_keys.Lts as lts
-use Rattle.exports.proofs.put_number.Reads as put-number-reads
+use Rattle.puts.proofs.put_number.Reads as put-number-reads
 use Rattle.exports.proofs.wide.Reads as wide-reads
 
 abbrev Inv-loop : tie.InvT-loop

@@ -1,5 +1,5 @@
 use mathlib.Core.Path.{sym}
-use Rattle.lines.proofs.WrittenLaws.{written-room}
+use Rattle.puts.proofs.WrittenLaws.{written-room}
 use Rattle.exports.proofs.WordLaws.{events-long, values-long, buckets-long, state-are}
 use borrow.Author.Needs.{needs}
 use Rattle.exports.proofs.put_state.Statement.{statement}

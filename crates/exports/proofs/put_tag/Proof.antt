@@ -1,11 +1,11 @@
-use Rattle.lines.proofs.WrittenLaws.{written-room}
+use Rattle.puts.proofs.WrittenLaws.{written-room}
 use Rattle.exports.proofs.ToldLaws.{tag-written}
 use borrow.Author.Needs.{needs}
 use Rattle.exports.proofs.put_tag.Statement.{statement}
 use Rattle.exports.proofs.put_tag.Tie as tie
 use Rattle.exports.proofs.put_tag.Reads as reads
 use Rattle.exports.proofs.put_tag.Lts as lts
-use Rattle.exports.proofs.put_number.Reads as put-number-reads
+use Rattle.puts.proofs.put_number.Reads as put-number-reads
 
 put-number-requires : tie.Need-put-number-requires
 put-number-requires c κs = search needs

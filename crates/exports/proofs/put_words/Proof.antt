@@ -1,8 +1,8 @@
 use Prim.Native.Nat.{_-_, _≤_}
 use lib.ListN.{length, take}
 use borrow.Author.Needs.{needs}
-use Rattle.lines.specs.Written.{Written}
-use Rattle.lines.proofs.WrittenLaws.{written-room, written-long}
+use Rattle.puts.specs.Written.{Written}
+use Rattle.puts.proofs.WrittenLaws.{written-room, written-long}
 use Rattle.exports.specs.Told.{wordBytes}
 use Rattle.exports.proofs.ToldLaws.{words-none, words-on, words-all}
 use mathlib.Core.Path.{refl}
@@ -10,7 +10,7 @@ use Rattle.exports.proofs.put_words.Statement.{statement}
 use Rattle.exports.proofs.put_words.Tie as tie
 use Rattle.exports.proofs.put_words.Reads as reads
 use Rattle.exports.proofs.put_words.Lts as lts
-use Rattle.exports.proofs.put_number.Reads as put-number-reads
+use Rattle.puts.proofs.put_number.Reads as put-number-reads
 
 abbrev Inv-loop : tie.InvT-loop
 Inv-loop bytes₀ at words end₀ i₀ bytes end i = (i ≤ length words) × Written bytes₀ end₀ (wordBytes (take i words)) bytes end

@@ -1,4 +1,4 @@
-use Rattle.lines.proofs.WrittenLaws.{written-long}
+use Rattle.puts.proofs.WrittenLaws.{written-long}
 use Rattle.exports.proofs.AfterLaws.{all-ends, all-rests, all-on, all-inside, all-over}
 use Rattle.exports.proofs.AfterLaws.{after-begins}
 use Rattle.exports.proofs.AfterLaws.{scratch, afterIn}

@@ -2,8 +2,8 @@
 use borrow.Author.Needs.{needs}
 use Prim.Native.Nat.{_-_, _≤_}
 use lib.ListN.{length, take}
-use Rattle.lines.specs.Written.{Written}
-use Rattle.lines.proofs.WrittenLaws.{written-none, written-room, written-long}
+use Rattle.puts.specs.Written.{Written}
+use Rattle.puts.proofs.WrittenLaws.{written-none, written-room, written-long}
 use Rattle.facts.specs.Facts.{wordsText}
 use Rattle.facts.proofs.Laws.{written-word, words-all}
 use Rattle.facts.proofs.write_words.Statement.{statement}

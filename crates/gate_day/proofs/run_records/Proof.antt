@@ -16,7 +16,7 @@ use Rattle.gate_day.specs.Days.{whole, nextAt}
 use Rattle.gate_day.proofs.RunLaws.{Running, running-begins, room-left, stops-turns, stops-room, stops-pending, stops-broken}
 use Rattle.gate_day.proofs.StepLaws.{kept-few, pred-suc, pred-less, told-pending, told-broken, is-table, few-scopes, waits, scoped, good, same-long, fits, pushed-on, popped-on, transited-few, transited-on, malformed-on, ends-here, ends-broken}
 use Rattle.gate_day.specs.declared.Day.{Day}
-use Rattle.lines.proofs.WrittenLaws.{written-long}
+use Rattle.puts.proofs.WrittenLaws.{written-long}
 use borrow.Author.Needs.{needs}
 use Rattle.gate_day.proofs.run_records.Statement.{statement}
 use Rattle.gate_day.proofs.run_records.Tie as tie

@@ -1,7 +1,8 @@
 -- `lines::write_digits` meets its contract: each step goes to the hundredth part. Assumes nothing.
 use borrow.Author.Needs.{needs}
 use native.Mathlib.Omega.{arith}
-use Rattle.lines.proofs.WrittenLaws.{written-room, written-long, written-then, written-as, decimal-one, decimal-two, decimal-hundred}
+use Rattle.puts.proofs.WrittenLaws.{written-room, written-long, written-then, written-as}
+use Rattle.lines.proofs.DecimalLaws.{decimal-one, decimal-two, decimal-hundred}
 use Prim.Native.Nat.{ℕ, _<_}
 use borrow.Fn.Kinds.{In}
 use borrow.Fn.PlainCycle.{Measures, is, falls, and}
@@ -9,7 +10,7 @@ use Rattle.lines.proofs.write_digits.Reads as write-digits
 use Rattle.lines.proofs.write_digits.Kinds as write-digits-kinds
 use Rattle.lines.proofs.+write_digits.Lts-write_digits as write-digits-lts
 use Rattle.lines.proofs.last_digit.Reads as last-digit-reads
-use Rattle.lines.proofs.put.Reads as put-reads
+use Rattle.puts.proofs.put.Reads as put-reads
 use Rattle.lines.proofs.write_two.Reads as write-two-reads
 use Rattle.lines.proofs.+write_digits.{statement}
 use Rattle.lines.proofs.+write_digits.Tie.{close}

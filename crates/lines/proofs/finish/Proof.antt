@@ -1,5 +1,5 @@
 -- `lines::finish` meets its contract. Assumes nothing.
-use Rattle.lines.proofs.WrittenLaws.{written-none}
+use Rattle.puts.proofs.WrittenLaws.{written-none}
 use borrow.Author.Needs.{needs}
 use Rattle.lines.proofs.finish.Statement.{statement}
 use Rattle.lines.proofs.finish.Tie as tie

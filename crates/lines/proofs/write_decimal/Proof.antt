@@ -1,6 +1,7 @@
 -- `lines::write_decimal` meets its contract. Assumes nothing.
 use borrow.Author.Needs.{needs}
-use Rattle.lines.proofs.WrittenLaws.{written-as, decimal-one}
+use Rattle.puts.proofs.WrittenLaws.{written-as}
+use Rattle.lines.proofs.DecimalLaws.{decimal-one}
 use Rattle.lines.proofs.write_decimal.Statement.{statement}
 use Rattle.lines.proofs.write_decimal.Tie as tie
 

@@ -1,7 +1,7 @@
 -- `lines::write_head` meets its contract. Assumes nothing.
 use mathlib.Core.List.{append-assoc}
 use Rattle.lines.specs.Lines.{headText}
-use Rattle.lines.proofs.WrittenLaws.{written-then, written-as}
+use Rattle.puts.proofs.WrittenLaws.{written-then, written-as}
 use borrow.Author.Needs.{needs}
 use Rattle.lines.proofs.write_head.Statement.{statement}
 use Rattle.lines.proofs.write_head.Tie as tie

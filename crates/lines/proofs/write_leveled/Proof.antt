@@ -6,7 +6,7 @@ use lib.ListN.{take}
 use native.Mathlib.Omega.{arith}
 use borrow.Author.Needs.{needs}
 use Rattle.lines.specs.Lines.{levelIn, entryOf}
-use Rattle.lines.specs.Written.{Listed}
+use Rattle.lines.specs.Listed.{Listed}
 use Rattle.lines.proofs.ListLaws.{listed-none, keys-next, keys-stop, entry-listed, listed-room, listed-long}
 use Rattle.lines.proofs.write_leveled.Statement.{statement}
 use Rattle.lines.proofs.write_leveled.Tie as tie

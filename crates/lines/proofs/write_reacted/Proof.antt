@@ -1,5 +1,5 @@
 -- `lines::write_reacted` meets its contract. Assumes nothing.
-use Rattle.lines.proofs.WrittenLaws.{written-then, written-as}
+use Rattle.puts.proofs.WrittenLaws.{written-then, written-as}
 use Rattle.lines.proofs.ListLaws.{same-levels}
 use borrow.Author.Needs.{needs}
 use Rattle.lines.proofs.write_reacted.Statement.{statement}

@@ -1,5 +1,5 @@
 -- `lines::write_reaction` meets its contract. Assumes nothing.
-use Rattle.lines.proofs.WrittenLaws.{written-then}
+use Rattle.puts.proofs.WrittenLaws.{written-then}
 use Rattle.lines.proofs.ListLaws.{listed-one}
 use borrow.Author.Needs.{needs}
 use Rattle.lines.proofs.write_reaction.Statement.{statement}

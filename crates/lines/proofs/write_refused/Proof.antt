@@ -1,6 +1,6 @@
 -- `lines::write_refused` meets its contract. Assumes nothing.
 use Rattle.lines.specs.Lines.{refusedLine}
-use Rattle.lines.proofs.WrittenLaws.{written-then}
+use Rattle.puts.proofs.WrittenLaws.{written-then}
 use borrow.Author.Needs.{needs}
 use Rattle.lines.proofs.write_refused.Statement.{statement}
 use Rattle.lines.proofs.write_refused.Tie as tie

@@ -1,6 +1,6 @@
 -- `lines::write_tag` meets its contract. Assumes nothing.
 use Rattle.lines.specs.Lines.{tagText}
-use Rattle.lines.proofs.WrittenLaws.{written-then}
+use Rattle.puts.proofs.WrittenLaws.{written-then}
 use borrow.Author.Needs.{needs}
 use Rattle.lines.proofs.write_tag.Statement.{statement}
 use Rattle.lines.proofs.write_tag.Tie as tie

@@ -2,7 +2,7 @@
 use mathlib.Core.Path.{ap₂}
 use mathlib.Core.List.{[], _∷_}
 use borrow.Author.Needs.{needs}
-use Rattle.lines.proofs.WrittenLaws.{written-then, written-as}
+use Rattle.puts.proofs.WrittenLaws.{written-then, written-as}
 use Rattle.lines.proofs.write_two.Statement.{statement}
 use Rattle.lines.proofs.write_two.Tie as tie
 

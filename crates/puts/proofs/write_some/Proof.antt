@@ -1,13 +1,12 @@
--- `lines::write_some` meets its contract: one byte more a turn. Assumes nothing.
+-- `puts::write_some` meets its contract: one byte more a turn. Assumes nothing.
 use mathlib.Core.Path.{refl}
 use Prim.Native.Nat.{_-_, _≤_}
 use lib.ListN.{length, take}
 use borrow.Author.Needs.{needs}
-use native.Mathlib.Omega.{arith}
-use Rattle.lines.specs.Written.{Written}
-use Rattle.lines.proofs.WrittenLaws.{written-none, written-room, written-long, written-next, written-whole}
-use Rattle.lines.proofs.write_some.Statement.{statement}
-use Rattle.lines.proofs.write_some.Tie as tie
+use Rattle.puts.specs.Written.{Written}
+use Rattle.puts.proofs.WrittenLaws.{written-none, written-room, written-long, written-next, written-whole}
+use Rattle.puts.proofs.write_some.Statement.{statement}
+use Rattle.puts.proofs.write_some.Tie as tie
 
 abbrev Inv-loop : tie.InvT-loop
 Inv-loop buffer₀ at text end₀ i₀ buffer end i = (i ≤ length text) × Written buffer₀ end₀ (take i text) buffer end

@@ -1,19 +1,17 @@
--- Laws of what is written one behind the other, and of decimal numbers. Assumes nothing.
-use mathlib.Core.Path.{_≡_, refl, sym, ap, _∙_}
-use mathlib.Core.Logic.{_⊎_, inl, inr, ⊎-elim}
-use mathlib.Core.Bool.{Bool, true, false, cond, _||_}
-use mathlib.Core.List.{List, [], _∷_, _++_, append-assoc, append-nil}
-use Prim.Native.Nat.{ℕ, zero, suc, _+_, _-_, _/_, _%_, _≤_, _<_, min}
+-- Laws of what is written one behind the other. Assumes nothing.
+use mathlib.Core.Path.{_≡_, refl, sym, _∙_}
+use mathlib.Core.Logic.{_⊎_, inl, inr}
+use mathlib.Core.List.{List, [], _∷_, _++_}
+use Prim.Native.Nat.{ℕ, suc, _+_, _≤_, _<_}
 use native.Mathlib.Omega.{arith}
 use native.Mathlib.Numerals.{add-one}
-use lib.ListN.{length, take, drop, getD, set, length-append, length-set}
+use lib.ListN.{length, take, getD, set, length-append}
 use lib.Seq.{sets, length-sets, set-out, take-suc, take-all}
 use Rattle.lists.specs.Tests.{below?}
 use Rattle.lists.specs.Rows.{sets-out}
-use Rattle.lines.specs.Text.{text, digit, rest, decimalIn, decimal, joined, some}
-use Rattle.lines.specs.Written.{Written, Listed}
+use Rattle.puts.specs.Written.{Written}
 
-sets-append : (l : List ℕ) (i : ℕ) (x y : List ℕ) → sets l i (x ++ y) ≡ sets (sets l i x) (i + length x) y
+pub sets-append : (l : List ℕ) (i : ℕ) (x y : List ℕ) → sets l i (x ++ y) ≡ sets (sets l i x) (i + length x) y
 sets-append l i [] y = let e : i + 0 ≡ i = omega arith in rw e
 sets-append l i (a ∷ x) y =
     let e : i + suc (length x) ≡ suc i + length x = omega arith in
@@ -77,42 +75,3 @@ copied-next {old} {at} {mid} t i r h w =
 
 pub written-whole : {old : List ℕ} {at : ℕ} {new : List ℕ} {end : ℕ} (t : List ℕ) (i : ℕ) → length t ≤ i → Written old at (take i t) new end → Written old at t new end
 written-whole t i h w = written-as w (take-all i t h)
-
--- ---- decimal numbers
-
-decimal-enough : (f g n : ℕ) → n < f → n < g → decimalIn f n ≡ decimalIn g n
-unfolding decimalIn
-decimal-enough zero g n h k = absurd (omega arith)
-decimal-enough (suc f) zero n h k = absurd (omega arith)
-decimal-enough (suc f) (suc g) n h k = ap (λ l. l ++ (digit (n % 10) ∷ [])) (go (n / 10) refl λ q e. decimal-enough f g (suc q) (omega arith) (omega arith))
-  where
-    go : (q : ℕ) → n / 10 ≡ q → ((p : ℕ) → n / 10 ≡ suc p → decimalIn f (suc p) ≡ decimalIn g (suc p)) → rest (decimalIn f) q ≡ rest (decimalIn g) q
-    go zero e r = refl
-    go (suc q) e r = r q e
-
-module _ (n : ℕ) where
-  pub decimal-one : {a : ℕ} → n < 10 → a ≡ digit (n % 10) → a ∷ [] ≡ decimal n
-  unfolding decimal decimalIn
-  decimal-one h e = let z : n / 10 ≡ 0 = omega arith in rw (e, z)
-
-  pub decimal-more : {a : ℕ} → 10 ≤ n → a ≡ digit (n % 10) → decimal (n / 10) ++ (a ∷ []) ≡ decimal n
-  unfolding decimal decimalIn
-  decimal-more h e = rw e (ap (λ l. l ++ (digit (n % 10) ∷ [])) (go (n / 10) refl))
-    where
-      go : (q : ℕ) → n / 10 ≡ q → decimalIn (suc q) q ≡ rest (decimalIn n) q
-      go zero z = absurd (omega arith)
-      go (suc q) z = decimal-enough (suc (suc q)) n (suc q) (omega arith) (omega arith)
-
--- two digits at once
-module _ (n : ℕ) where
-  pub decimal-two : 10 ≤ n → n < 100 → digit (n / 10 % 10) ∷ (digit (n % 10) ∷ []) ≡ decimal n
-  decimal-two h k = ap (λ l. l ++ (digit (n % 10) ∷ [])) (decimal-one (n / 10) (omega arith) refl) ∙ decimal-more n h refl
-
-  pub decimal-hundred : 100 ≤ n → decimal (n / 100) ++ (digit (n % 100 / 10 % 10) ∷ (digit (n % 100 % 10) ∷ [])) ≡ decimal n
-  decimal-hundred h =
-      let a : n / 100 ≡ n / 10 / 10 = omega arith in
-      let b : n % 100 / 10 % 10 ≡ n / 10 % 10 = omega arith in
-      let c : n % 100 % 10 ≡ n % 10 = omega arith in
-      rw (a, b, c)
-      (sym (append-assoc (decimal (n / 10 / 10)) (digit (n / 10 % 10) ∷ []) (digit (n % 10) ∷ []))
-      ∙ ap (λ l. l ++ (digit (n % 10) ∷ [])) (decimal-more (n / 10) (omega arith) refl) ∙ decimal-more n (omega arith) refl)

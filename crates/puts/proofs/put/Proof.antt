@@ -1,8 +1,8 @@
--- `lines::put` meets its contract. Assumes nothing.
-use Rattle.lines.proofs.WrittenLaws.{put-past}
+-- `puts::put` meets its contract. Assumes nothing.
+use Rattle.puts.proofs.WrittenLaws.{put-past}
 use borrow.Author.Needs.{needs}
-use Rattle.lines.proofs.put.Statement.{statement}
-use Rattle.lines.proofs.put.Tie as tie
+use Rattle.puts.proofs.put.Statement.{statement}
+use Rattle.puts.proofs.put.Tie as tie
 
 slice-write-buffer : tie.Need-slice-write-buffer
 slice-write-buffer c = search needs

@@ -1,16 +1,16 @@
-use Rattle.lines.proofs.WrittenLaws.{written-none, written-room, written-long, written-then, written-as}
-use Rattle.exports.proofs.ToldLaws.{number-none, number-more}
+use Rattle.puts.proofs.WrittenLaws.{written-none, written-room, written-long, written-then, written-as}
+use Rattle.puts.proofs.NumberLaws.{number-none, number-more}
 use native.Mathlib.Omega.{arith}
 use borrow.Author.Needs.{needs}
 use Prim.Native.Nat.{ℕ, _<_}
 use borrow.Fn.Kinds.{In}
 use borrow.Fn.PlainCycle.{Measures, is, falls, and}
-use Rattle.exports.proofs.put_number.Reads as put-number
-use Rattle.exports.proofs.put_number.Kinds as put-number-kinds
-use Rattle.exports.proofs.+put_number.Lts-put_number as put-number-lts
-use Rattle.lines.proofs.put.Reads as put-reads
-use Rattle.exports.proofs.+put_number.{statement}
-use Rattle.exports.proofs.+put_number.Tie.{close}
+use Rattle.puts.proofs.put_number.Reads as put-number
+use Rattle.puts.proofs.put_number.Kinds as put-number-kinds
+use Rattle.puts.proofs.+put_number.Lts-put_number as put-number-lts
+use Rattle.puts.proofs.put.Reads as put-reads
+use Rattle.puts.proofs.+put_number.{statement}
+use Rattle.puts.proofs.+put_number.Tie.{close}
 
 abbrev μ-put-number : Measures 1 put-number-kinds.ps ℕ
 μ-put-number κs a = a .1 .1 .0

@@ -1,12 +1,12 @@
--- `lines::copy_text` meets its contract: one byte more a turn. Assumes nothing.
+-- `puts::copy_text` meets its contract: one byte more a turn. Assumes nothing.
 use Prim.Native.Nat.{_+_, _-_, _≤_}
 use lib.ListN.{length, take}
 use borrow.Author.Needs.{needs}
 use native.Mathlib.Omega.{arith}
-use Rattle.lines.specs.Written.{Written}
-use Rattle.lines.proofs.WrittenLaws.{written-long, copied-none, copied-next, written-whole}
-use Rattle.lines.proofs.copy_text.Statement.{statement}
-use Rattle.lines.proofs.copy_text.Tie as tie
+use Rattle.puts.specs.Written.{Written}
+use Rattle.puts.proofs.WrittenLaws.{written-long, copied-none, copied-next, written-whole}
+use Rattle.puts.proofs.copy_text.Statement.{statement}
+use Rattle.puts.proofs.copy_text.Tie as tie
 
 abbrev Inv-loop : tie.InvT-loop
 Inv-loop buffer₀ at text i₀ buffer i = (i ≤ length text) × Written buffer₀ at (take i text) buffer (at + i)

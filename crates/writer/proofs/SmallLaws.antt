@@ -1,0 +1,91 @@
+-- No place that the writer answers lies behind the largest image, and no image is larger. Assumes nothing.
+use mathlib.Core.Path.{_≡_, refl}
+use mathlib.Core.Bool.{Bool, true, false, cond, not}
+use mathlib.Core.List.{List}
+use mathlib.Core.Logic.{_⊎_, inl, inr}
+use Prim.Native.Nat.{ℕ, zero, suc, _+_, _*_, _≤_, _<_}
+use native.Mathlib.Nat.{le-refl, mul-le-mul-right}
+use native.Mathlib.Omega.{arith}
+use lib.Dec.{ltb, eqb}
+use lib.ListN.{length}
+use borrow.Author.Tests.{ltb-true, ltb-false, eqb-true, leb-false}
+use lib.Seq.{sets}
+use Rattle.lists.specs.Tests.{below?}
+use Rattle.lists.specs.Scan.{scan}
+use Rattle.rows.specs.Bytes.{Image}
+use Rattle.rows.specs.Kinds.{kindOf, kindCount, count, countPlace, place}
+use Rattle.rows.specs.Rows.{rowPlace}
+use Rattle.table.specs.Check.{badCount, badRow, kindFits, badKind, checkRows, checkBody}
+use Rattle.table.specs.declared.Checked.the-variants.{Accepted, Refused}
+use Rattle.table.specs.declared.ImageRefusal.the-variants.{Short, Count, Unfilled, Row}
+use Rattle.writer.specs.Writer.{imageOf, countBytes, Writing, wrote, placed, writing, placeOf}
+use Rattle.writer.specs.declared.Wrote.the-variants as answers
+use Rattle.writer.proofs.HeadLaws.{end-fits}
+
+-- a search that stopped before the end stopped at an index that fails
+stopped : (ok : ℕ → Bool) (n i : ℕ) → scan ok i n < i + n → ok (scan ok i n) ≡ false
+unfolding scan
+stopped ok zero i h = absurd (omega arith)
+stopped ok (suc n) i h = go (ok i) refl h (λ l. stopped ok n (suc i) l)
+  where
+    go : (b : Bool) → ok i ≡ b → cond b (scan ok (suc i) n) i < i + suc n → (scan ok (suc i) n < suc i + n → ok (scan ok (suc i) n) ≡ false) →
+        ok (cond b (scan ok (suc i) n) i) ≡ false
+    go true e l r = r (omega arith)
+    go false e l r = e
+
+-- a row lies before the end of all rows
+module _ (s : Image) where
+  later : (k m : ℕ) → k ≤ m → place s k ≤ place s m
+  unfolding place
+  later k zero l = let e : k ≡ 0 = omega arith in rw e (le-refl (place s 0))
+  later k (suc m) l = go (below? k (suc m)) λ g. later k m g
+    where
+      go : (k < suc m) ⊎ (suc m ≤ k) → (k ≤ m → place s k ≤ place s m) → place s k ≤ place s m + count s m * kindOf m .width
+      go (inl g) r = let z = r (omega arith) in omega (arith, z)
+      go (inr g) r = let e : k ≡ suc m = omega arith in rw e (le-refl (place s (suc m)))
+
+  row-inside : (k i : ℕ) → k < kindCount → i < count s k → rowPlace s k i ≤ place s kindCount
+  unfolding rowPlace place
+  row-inside k i l h =
+      let z : place s (suc k) ≤ place s kindCount = later (suc k) kindCount l in
+      let y : suc i * kindOf k .width ≤ count s k * kindOf k .width = mul-le-mul-right (kindOf k .width) h in
+      omega (arith, z, y)
+
+  bad-inside : badKind s < kindCount → rowPlace s (badKind s) (badRow s (badKind s)) ≤ place s kindCount
+  unfolding badKind kindFits
+  bad-inside h = row-inside (badKind s) (badRow s (badKind s)) h (leb-false _ _ (stopped (kindFits s) kindCount 0 h))
+
+  -- what is answered of an image whose counts fit, and whose rows fill it
+  abbrev Small : Writing → Type 0
+  Small w = placeOf (w .answer) ≤ 3287
+
+  rows-small : (buffer : List ℕ) → place s kindCount ≤ 3287 → place s kindCount ≡ length s → Small (placed (checkRows s) s buffer)
+  unfolding checkRows
+  rows-small buffer h f = go (ltb (badKind s) kindCount) refl
+    where
+      room : (b : Bool) → Small (cond b (wrote answers.NoRoom buffer) (wrote (answers.Image (length s)) (sets buffer 0 s)))
+      room true = omega arith
+      room false = omega (arith, h, f)
+
+      go : (b : Bool) → ltb (badKind s) kindCount ≡ b → Small (placed (cond b (Refused (Row (rowPlace s (badKind s) (badRow s (badKind s))))) Accepted) s buffer)
+      go true e = let z = bad-inside (ltb-true _ _ e) in omega (arith, z, h)
+      go false e = room (ltb (length buffer) (length s))
+
+  filled-small : (buffer : List ℕ) → place s kindCount ≤ 3287 → (b : Bool) → eqb (place s kindCount) (length s) ≡ b →
+      Small (placed (cond (not b) (Refused Unfilled) (checkRows s)) s buffer)
+  filled-small buffer h true e = rows-small buffer h (eqb-true _ _ e)
+  filled-small buffer h false e = omega arith
+
+  body-small : (buffer : List ℕ) (b : Bool) → ltb (badCount s) kindCount ≡ b →
+      Small (placed (cond b (Refused (Count (countPlace (badCount s)))) (cond (not (eqb (place s kindCount) (length s))) (Refused Unfilled) (checkRows s))) s buffer)
+  unfolding countPlace
+  body-small buffer true e = let z : badCount s < kindCount = ltb-true _ _ e in omega (arith, z)
+  body-small buffer false e = filled-small buffer (end-fits s (ltb-false _ _ e)) (eqb (place s kindCount) (length s)) refl
+
+pub small : (counts rows buffer : List ℕ) → placeOf (writing counts rows buffer .answer) ≤ 3287
+unfolding writing
+small counts rows buffer = go (eqb (length counts) countBytes)
+  where
+    go : (b : Bool) → placeOf (cond b (placed (checkBody (imageOf counts rows)) (imageOf counts rows) buffer) (wrote (answers.Refused Short) buffer) .answer) ≤ 3287
+    go true = body-small (imageOf counts rows) buffer (ltb (badCount (imageOf counts rows)) kindCount) refl
+    go false = omega arith

@@ -1,0 +1,109 @@
+-- `writer::write` meets its contract: step by step. Assumes nothing.
+use Rattle.writer.proofs.WriterLaws.{not-nine, refused-count, refused-unfilled, refused-row, no-room, all-written, in-room, taken-long}
+use mathlib.Core.Path.{_≡_}
+use Prim.Native.Nat.{ℕ}
+use lib.ListN.{length, replicate, length-replicate}
+use borrow.Author.Needs.{needs}
+use Rattle.writer.proofs.write.Statement.{statement}
+use Rattle.writer.proofs.write.Tie as tie
+
+-- the room
+long : length {A = ℕ} (replicate 3287 0) ≡ 3287
+long = length-replicate {A = ℕ} 3287 0
+
+returns : tie.Need-returns
+returns c = not-nine _ _ _ (c .if1 .taken)
+
+slice-aggregate-put-image : tie.Need-slice-aggregate-put-image
+slice-aggregate-put-image c = search needs
+
+put-image-requires : tie.Need-put-image-requires
+put-image-requires c κs = search needs
+
+slice-aggregate-bad-count : tie.Need-slice-aggregate-bad-count
+slice-aggregate-bad-count c = search needs
+
+bad-count-requires : tie.Need-bad-count-requires
+bad-count-requires c κs = search needs
+
+count-place-requires : tie.Need-count-place-requires
+count-place-requires c κs = search needs
+
+returns-2 : tie.Need-returns-2
+returns-2 c = refused-count _ _ (c .before .before .before .before .before .before .before .if1 .left) long (c .before .before .before .before .before .put-image .ensures) (c .before .before .bad-count .ensures) (c .before .if2 .taken) (c .count-place .ensures) _
+
+slice-aggregate-place : tie.Need-slice-aggregate-place
+slice-aggregate-place c = search needs
+
+place-requires : tie.Need-place-requires
+place-requires c κs = search needs
+
+add-if3 : tie.Need-add-if3
+add-if3 c = search needs
+
+returns-3 : tie.Need-returns-3
+returns-3 c = refused-unfilled _ _ (c .before .before .before .before .before .before .before .before .before .if1 .left) long (c .before .before .before .before .before .before .before .put-image .ensures) (c .before .before .before .before .bad-count .ensures) (c .before .before .before .if2 .left) (c .before .place .ensures .0) (c .if3 .taken) _
+
+array-share-prefix-image : tie.Need-array-share-prefix-image
+array-share-prefix-image c = in-room _ _ (c .before .before .before .before .before .before .before .before .before .if1 .left) long (c .before .before .before .before .before .before .before .put-image .ensures) (c .before .before .before .before .bad-count .ensures) (c .before .before .before .if2 .left) (c .before .place .ensures .0)
+
+slice-aggregate-check-rows : tie.Need-slice-aggregate-check-rows
+slice-aggregate-check-rows c = taken-long _ _ (c .before .before .before .before .before .before .before .before .before .before .if1 .left) long (c .before .before .before .before .before .before .before .before .put-image .ensures) (c .before .before .before .before .before .bad-count .ensures) (c .before .before .before .before .if2 .left) (c .before .before .place .ensures .0)
+
+check-rows-requires : tie.Need-check-rows-requires
+check-rows-requires c κs = search needs
+
+enum-known-why : tie.Need-enum-known-why
+enum-known-why c = search needs
+
+enum-told : tie.Need-enum-told
+enum-told c = search needs
+
+returns-4 : tie.Need-returns-4
+returns-4 c = no-room _ _ (c .before .before .before .before .before .before .before .before .before .before .before .before .before .before .if1 .left) long (c .before .before .before .before .before .before .before .before .before .before .before .before .put-image .ensures) (c .before .before .before .before .before .before .before .before .before .bad-count .ensures) (c .before .before .before .before .before .before .before .before .if2 .left) (c .before .before .before .before .before .before .place .ensures .0) (c .before .before .before .before .before .if3 .left) (c .before .before .before .check-rows .ensures) (c .before .enum-told .given .1) _ (c .if4 .taken)
+
+array-share-prefix-image-2 : tie.Need-array-share-prefix-image-2
+array-share-prefix-image-2 c = in-room _ _ (c .before .before .before .before .before .before .before .before .before .before .before .before .before .before .before .if1 .left) long (c .before .before .before .before .before .before .before .before .before .before .before .before .before .put-image .ensures) (c .before .before .before .before .before .before .before .before .before .before .bad-count .ensures) (c .before .before .before .before .before .before .before .before .before .if2 .left) (c .before .before .before .before .before .before .before .place .ensures .0)
+
+slice-aggregate-write-text : tie.Need-slice-aggregate-write-text
+slice-aggregate-write-text c = taken-long _ _ (c .before .before .before .before .before .before .before .before .before .before .before .before .before .before .before .before .if1 .left) long (c .before .before .before .before .before .before .before .before .before .before .before .before .before .before .put-image .ensures) (c .before .before .before .before .before .before .before .before .before .before .before .bad-count .ensures) (c .before .before .before .before .before .before .before .before .before .before .if2 .left) (c .before .before .before .before .before .before .before .before .place .ensures .0)
+
+write-text-requires : tie.Need-write-text-requires
+write-text-requires c κs = search needs
+
+returns-5 : tie.Need-returns-5
+returns-5 c = refused-row _ _ (c .before .before .before .before .before .before .before .before .before .before .before .before .before .before .if1 .left) long (c .before .before .before .before .before .before .before .before .before .before .before .before .put-image .ensures) (c .before .before .before .before .before .before .before .before .before .bad-count .ensures) (c .before .before .before .before .before .before .before .before .if2 .left) (c .before .before .before .before .before .before .place .ensures .0) (c .before .before .before .before .before .if3 .left) (c .before .before .before .check-rows .ensures) (c .before .why .given .1) _
+
+same-length : tie.Need-same-length
+same-length c = search needs
+
+returns-6 : tie.Need-returns-6
+returns-6 c = all-written _ _ (c .before .before .before .before .before .before .before .before .before .before .before .before .before .before .before .before .before .before .before .if1 .left) long (c .before .before .before .before .before .before .before .before .before .before .before .before .before .before .before .before .before .put-image .ensures) (c .before .before .before .before .before .before .before .before .before .before .before .before .before .before .bad-count .ensures) (c .before .before .before .before .before .before .before .before .before .before .before .before .before .if2 .left) (c .before .before .before .before .before .before .before .before .before .before .before .place .ensures .0) (c .before .before .before .before .before .before .before .before .before .before .if3 .left) (c .before .before .before .before .before .before .before .before .check-rows .ensures) (c .before .before .before .before .before .before .enum-told .given .1) (c .before .before .before .before .before .if4 .left) (c .before .before .write-text .ensures)
+
+pub write-spec : {M : Type 1} → statement M
+write-spec =
+    tie.close
+    (tie.spec
+    returns
+    slice-aggregate-put-image
+    put-image-requires
+    slice-aggregate-bad-count
+    bad-count-requires
+    count-place-requires
+    returns-2
+    slice-aggregate-place
+    place-requires
+    add-if3
+    returns-3
+    array-share-prefix-image
+    slice-aggregate-check-rows
+    check-rows-requires
+    enum-known-why
+    enum-told
+    returns-4
+    array-share-prefix-image-2
+    slice-aggregate-write-text
+    write-text-requires
+    returns-5
+    same-length
+    returns-6)
