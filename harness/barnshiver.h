@@ -2,7 +2,8 @@
  * barnshiver.h: the functions of libexports.a (`rt staticlib exports`), for x86-64 Linux.
  *
  * Each is proved to meet its contract. They keep nothing between calls, allocate nothing, and answer on any input. Of the C
- * library the archive needs memcpy and memset, and nothing else. "01" is the scope's document; numbers of refusal are its own.
+ * library the archive needs memcpy and memset, and nothing else. "01" is the scope's document and "02" that of the changes;
+ * numbers of refusal are theirs.
  *
  * All that is handed over is numbers and bytes. A slice is a pointer and a length in bytes, as two parameters one after the
  * other. A pointer is never null (an empty slice may point at anything that is not null). Slices that are written to must not
@@ -10,7 +11,7 @@
  *
  * What a function tells besides its answer stands at the front of a lent slice; bytes behind that stay as they were. A lent
  * slice that is too short is answered BARNSHIVER_NO_ROOM before anything else is looked at, and stays as it was (but for
- * barnshiver_run_day, which takes any room).
+ * barnshiver_run_day, which takes any room, and barnshiver_write_table, for which 02 has a number).
  */
 #ifndef BARNSHIVER_H
 #define BARNSHIVER_H
@@ -30,6 +31,10 @@ extern "C" {
 #define BARNSHIVER_CLOCK_BYTES 37
 /* Bytes of a place. */
 #define BARNSHIVER_PLACE_BYTES 8
+/* Bytes of a table's counts: how many rows of each of the nine kinds, two bytes each. */
+#define BARNSHIVER_COUNTS_BYTES 18
+/* Bytes of the largest image, its four length bytes too: room in which every image fits. */
+#define BARNSHIVER_LARGEST_IMAGE 3287
 /* Room in which every line fits. */
 #define BARNSHIVER_LINE_ROOM 4096
 /* Bytes of a state; what they are stands at barnshiver_state_after. */
@@ -68,6 +73,28 @@ uint8_t barnshiver_local_to_global(const uint8_t *clock, size_t clock_length, ui
  *   255     `place` has fewer than 8 bytes and stays as it was
  */
 uint8_t barnshiver_check_table(const uint8_t *image, size_t image_length, uint8_t *place, size_t place_length);
+
+/*
+ * Writes the image of counts and rows (02, C-11) over the front of `buffer`; bytes behind it stay as they were.
+ *
+ *   counts  BARNSHIVER_COUNTS_BYTES
+ *   rows    the bytes of all rows, in the image's order
+ *   buffer  room for the image, which has 23 bytes more than `rows`
+ *
+ * The answer's high 32 bits are 0, and the low ones say how many bytes were written. Or the high ones are the refusal's
+ * number and the low ones its place, and `buffer` stays as it was; the first of these that holds:
+ *
+ *   1, at 0  `counts` is not of 18 bytes
+ *   3        a count is past its limits, or there is no scope or no reactor: the count's place in the image
+ *   1, at 0  the rows don't fit the counts
+ *   4        a row breaks a rule of 01's: the place of its first byte in the image
+ *   1, at 0  `buffer` is too short
+ *
+ * barnshiver_check_table answers 0 to what was written. Counts and rows of an image that it answers 0 to begin at its bytes
+ * 5 and 23, and give the same bytes again.
+ */
+uint64_t barnshiver_write_table(const uint8_t *counts, size_t counts_length, const uint8_t *rows, size_t rows_length,
+                                uint8_t *buffer, size_t buffer_length);
 
 /*
  * Runs a gate day, an image and its records (01, "The bench program"), and writes the lines of its answers over the front

@@ -12,6 +12,7 @@ struct bytes {
 uint8_t inner_barnshiver_global_to_local(const struct bytes *clock, uint64_t offset, uint32_t microstep, const struct bytes *tag);
 uint8_t inner_barnshiver_local_to_global(const struct bytes *clock, uint64_t offset, uint32_t microstep, const struct bytes *tag);
 uint8_t inner_barnshiver_check_table(const struct bytes *image, const struct bytes *place);
+uint64_t inner_barnshiver_write_table(const struct bytes *counts, const struct bytes *rows, const struct bytes *buffer);
 size_t inner_barnshiver_run_day(const struct bytes *day, const struct bytes *lines);
 uint8_t inner_barnshiver_state_after(const struct bytes *day, const struct bytes *state);
 
@@ -28,6 +29,11 @@ uint8_t barnshiver_local_to_global(const uint8_t *clock, size_t clock_length, ui
 uint8_t barnshiver_check_table(const uint8_t *image, size_t image_length, uint8_t *place, size_t place_length) {
     struct bytes from = {image, image_length}, to = {place, place_length};
     return inner_barnshiver_check_table(&from, &to);
+}
+
+uint64_t barnshiver_write_table(const uint8_t *counts, size_t counts_length, const uint8_t *rows, size_t rows_length, uint8_t *buffer, size_t buffer_length) {
+    struct bytes numbers = {counts, counts_length}, from = {rows, rows_length}, to = {buffer, buffer_length};
+    return inner_barnshiver_write_table(&numbers, &from, &to);
 }
 
 size_t barnshiver_run_day(const uint8_t *day, size_t day_length, uint8_t *lines, size_t lines_length) {

@@ -1,5 +1,6 @@
 /* The day of 01's worked example from C: one scope, one reactor, one reaction at level 0; plain (5,0), pop, pop. */
 #include <stdio.h>
+#include <string.h>
 
 #include "../barnshiver.h"
 
@@ -33,6 +34,19 @@ int main(void) {
     static uint8_t state[BARNSHIVER_STATE_BYTES];
     uint8_t tag[BARNSHIVER_TAG_BYTES];
     uint8_t place[BARNSHIVER_PLACE_BYTES];
+    uint8_t image[BARNSHIVER_LARGEST_IMAGE];
+    uint8_t rows[11];
+    uint64_t wrote;
+
+    /* the image from its counts and rows; then with the reaction, the last row, at a level that there isn't */
+    memcpy(rows, day + 23, sizeof rows);
+    wrote = barnshiver_write_table(day + 5, BARNSHIVER_COUNTS_BYTES, rows, sizeof rows, image, sizeof image);
+    if (wrote != 34 || memcmp(image, day, 34) != 0)
+        return 1;
+    printf("written: %llu bytes\n", (unsigned long long)wrote);
+    rows[10] = 16;
+    wrote = barnshiver_write_table(day + 5, BARNSHIVER_COUNTS_BYTES, rows, sizeof rows, image, sizeof image);
+    printf("level 16: refused %u at byte %u\n", (unsigned)(wrote >> 32), (unsigned)(wrote & 0xffffffff));
 
     if (barnshiver_check_table(day, 34, place, sizeof place) != 0)
         return 1;

@@ -58,7 +58,7 @@ fn told(what: &str, ready: Option<Ready>) {
 }
 
 fn main() -> Result<(), Box<dyn std::error::Error>> {
-    let mut gate = Gate::new(&table().image())?;
+    let mut gate = Gate::new(&table().written()?)?;
     println!(
         "the table is accepted; {} events wait",
         gate.state().events.len()

@@ -1,5 +1,5 @@
-//! Barnshiver's proved functions for a Rust program: clock maps, the table check, runs of gate days, and a [`Gate`] over
-//! them. `barnshiver.h` has the same for C.
+//! Barnshiver's proved functions for a Rust program: clock maps, the table check, the writer of tables, runs of gate days,
+//! and a [`Gate`] over them. `barnshiver.h` has the same for C.
 //!
 //! The archive `target/staticlib/libexports.a` (`rt staticlib exports`) is linked; it has code for x86-64 alone. Nothing in
 //! this wrapper is proved; it hands slices over and takes answers apart. "01" is the scope's document.
@@ -13,7 +13,7 @@
 //!     levels: vec![0],
 //!     ..Table::default()
 //! };
-//! let mut gate = Gate::new(&table.image()).unwrap();
+//! let mut gate = Gate::new(&table.written().unwrap()).unwrap();
 //! gate.push_event(Tag::new(5, 0), &[0], false).unwrap();
 //! assert_eq!(gate.pop_next_event().unwrap().tag, Tag::new(5, 0));
 //! assert_eq!(gate.pop_next_event(), None);
@@ -112,6 +112,29 @@ impl fmt::Display for TableRefused {
 
 impl std::error::Error for TableRefused {}
 
+/// Why counts and rows were not written: number 1, 3 or 4, and the byte of the image at which 02 finds it.
+#[derive(Debug, Clone, Copy, PartialEq, Eq)]
+pub struct NotWritten {
+    pub number: u8,
+    pub place: u64,
+}
+
+impl fmt::Display for NotWritten {
+    fn fmt(&self, f: &mut fmt::Formatter<'_>) -> fmt::Result {
+        let (number, place) = (self.number, self.place);
+        let why = match number {
+            1 => "the rows do not fit the counts, or the buffer is too short",
+            number => why(number),
+        };
+        write!(
+            f,
+            "table not written, refused {number} at byte {place}: {why}"
+        )
+    }
+}
+
+impl std::error::Error for NotWritten {}
+
 /// Why a day's image is no table: number 1 to 4, 1 also if it is cut short or longer than any table. `check_table` has the
 /// place.
 #[derive(Debug, Clone, Copy, PartialEq, Eq)]
@@ -143,6 +166,17 @@ pub fn check_table(image: &[u8]) -> Result<(), TableRefused> {
             number,
             place: u64::from_be_bytes(place),
         }),
+    }
+}
+
+/// Writes the image of counts and rows (the bytes of all rows, in the image's order) over the front of a buffer; how many
+/// bytes it has. Bytes behind it stay, and all of them if it is refused. `Table::written` is the same without bytes.
+pub fn write_table(counts: &[u16; 9], rows: &[u8], buffer: &mut [u8]) -> Result<usize, NotWritten> {
+    let counts = counts.map(u16::to_be_bytes).concat();
+    let answer = slices::write_table(&counts, rows, buffer);
+    match ((answer >> 32) as u8, answer & u64::from(u32::MAX)) {
+        (0, length) => Ok(length as usize),
+        (number, place) => Err(NotWritten { number, place }),
     }
 }
 

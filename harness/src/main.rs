@@ -1,4 +1,4 @@
-//! The library beside the oracle: clock maps, images, runs of days, and the state after every record.
+//! The library beside the oracle: clock maps, images read and written, runs of days, and the state after every record.
 
 use std::io::Write;
 use std::path::{Path, PathBuf};
@@ -18,18 +18,23 @@ use oracle::{deep, scripts, shrink};
 mod beside;
 mod seen;
 mod selftest;
+mod writes;
+mod wrong;
 
 const USAGE: &str = "\
 harness maps SEED COUNT      clock maps against the published clock's and 01's answers
 harness tables SEED COUNT    the table check on images, valid and damaged
 harness tables days FOLDER   the same on the images of recorded days
+harness writes SEED COUNT    the writer of tables on made counts and rows, a third of them refused, and on images taken apart;
+                             it says how many inputs show what, and fails where something is shown by none (COUNT 3000 or more)
+harness writes days FOLDER   the images of recorded days taken apart and written
 harness days FROM TO         made days of every kind, seeds FROM to TO - 1: the lines, and the state after every record
                              against the Rust's and the plain machine's
 harness days recorded FOLDER the same on recorded days
 harness beside FROM TO DAMAGED FOLDER [SEEDS PROGRAM [WORD..]]
                              the lines of the days that `oracle beside` has, all in this process; and PROGRAM's on the recorded, long and
                              damaged ones and on the made ones of the first so many SEEDS
-harness selftest             wrong answers and wrong states in the library's place, each of which must be found
+harness selftest             wrong answers, states and writers in the library's place, each of which must be found
 harness help                 these lines
 
 Exit status: 0 all agrees, 1 a difference, 2 the arguments are at fault.";
@@ -41,6 +46,8 @@ fn main() -> ExitCode {
         ["tables", "days", folder] => {
             scripts::table::write_days(Path::new(folder)).and_then(tables)
         }
+        ["writes", "days", folder] => scripts::table::write_days(Path::new(folder))
+            .and_then(|written| writes::taken_apart(&slices::write_table, &written)),
         ["days", "recorded", folder] => recorded(Path::new(folder)),
         ["beside", from, to, damaged, folder, ref program @ ..] => {
             let (seeds, words) = match program.split_first() {
@@ -62,6 +69,7 @@ fn main() -> ExitCode {
             ("tables", Ok(seed), Ok(count)) => {
                 scripts::table::write(seed, count as usize).and_then(tables)
             }
+            ("writes", Ok(seed), Ok(count)) => writes::writes(seed, count as usize),
             ("days", Ok(from), Ok(to)) => days(from, to),
             _ => return usage(),
         },
@@ -158,16 +166,24 @@ fn maps(seed: u64, count: u64) -> Result<String, String> {
     ))
 }
 
-fn tables(written: scripts::Written) -> Result<String, String> {
+/// The images of a script, each with what 01 answers of it.
+fn images(written: &scripts::Written) -> Result<Vec<(&[u8], (u8, u64))>, String> {
     let mut script = &written.script[..];
     let mut answers = written.answers.chunks(5);
-    let (mut images, mut accepted) = (0, 0);
+    let mut images = Vec::new();
     while !script.is_empty() {
         let (length, rest) = script.split_at(4);
         let (image, rest) = rest.split_at(number(length) as usize);
         script = rest;
         let answer = answers.next().ok_or("an answer is missing")?;
-        let expected = (answer[0], number(&answer[1..]));
+        images.push((image, (answer[0], number(&answer[1..]))));
+    }
+    Ok(images)
+}
+
+fn tables(written: scripts::Written) -> Result<String, String> {
+    let (mut images, mut accepted) = (0, 0);
+    for (image, expected) in self::images(&written)? {
         images += 1;
         accepted += usize::from(expected.0 == 0);
         if let Some(words) = one_table(image, expected) {

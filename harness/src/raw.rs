@@ -26,6 +26,15 @@ extern "C" {
         place_length: usize,
     ) -> u8;
 
+    pub fn barnshiver_write_table(
+        counts: *const u8,
+        counts_length: usize,
+        rows: *const u8,
+        rows_length: usize,
+        buffer: *mut u8,
+        buffer_length: usize,
+    ) -> u64;
+
     pub fn barnshiver_run_day(
         day: *const u8,
         day_length: usize,

@@ -1,4 +1,4 @@
-//! Wrong answers and wrong states in the library's place, on a few days: each must be found.
+//! Wrong answers and wrong states in the library's place, on a few days, and wrong writers: each must be found.
 
 use std::path::Path;
 use std::time::Duration;
@@ -8,7 +8,7 @@ use oracle::beside::{beside, Runner, Side};
 use oracle::make::make;
 
 use crate::beside::answered;
-use crate::states;
+use crate::{states, wrong};
 
 /// The days of a run here.
 const SEEDS: (u64, u64) = (0, 5);
@@ -87,8 +87,9 @@ pub fn selftest() -> Result<String, String> {
         }
     }
     Ok(format!(
-        "{} sides with a lost flag found, each on a day of four lines; {} kinds of wrong states found",
+        "{} sides with a lost flag found, each on a day of four lines; {} kinds of wrong states found\n{}",
         reports.len(),
-        WRONG_STATES.len()
+        WRONG_STATES.len(),
+        wrong::found()?
     ))
 }

@@ -11,6 +11,10 @@ pub const TAG_BYTES: usize = 12;
 pub const CLOCK_BYTES: usize = 37;
 /// Bytes of a place.
 pub const PLACE_BYTES: usize = 8;
+/// Bytes of a table's counts: nine of two.
+pub const COUNTS_BYTES: usize = 18;
+/// Bytes of the largest image.
+pub const LARGEST_IMAGE: usize = 3287;
 
 /// Global to local, or local to global, on a clock's bytes: 0, or the refusal and `tag` as it was.
 pub fn map(to_local: bool, clock: &[u8], offset: u64, microstep: u32, tag: &mut [u8]) -> u8 {
@@ -37,6 +41,22 @@ pub fn check_table(image: &[u8], place: &mut [u8]) -> u8 {
     // SAFETY: as above.
     unsafe {
         raw::barnshiver_check_table(image.as_ptr(), image.len(), place.as_mut_ptr(), place.len())
+    }
+}
+
+/// The image of counts and rows over the front of `buffer`: how many bytes; or the refusal, its number times 2^32 and its
+/// place, and `buffer` as it was.
+pub fn write_table(counts: &[u8], rows: &[u8], buffer: &mut [u8]) -> u64 {
+    // SAFETY: as above.
+    unsafe {
+        raw::barnshiver_write_table(
+            counts.as_ptr(),
+            counts.len(),
+            rows.as_ptr(),
+            rows.len(),
+            buffer.as_mut_ptr(),
+            buffer.len(),
+        )
     }
 }
 

@@ -105,6 +105,24 @@ unsafe extern "C" fn barnshiver_check_table(
 }
 
 #[no_mangle]
+unsafe extern "C" fn barnshiver_write_table(
+    counts: *const u8,
+    counts_length: usize,
+    rows: *const u8,
+    rows_length: usize,
+    buffer: *mut u8,
+    buffer_length: usize,
+) -> u64 {
+    let counts = slice::from_raw_parts(counts, counts_length);
+    let rows = slice::from_raw_parts(rows, rows_length);
+    let buffer = slice::from_raw_parts_mut(buffer, buffer_length);
+    match image::write(counts, rows, buffer) {
+        Ok(length) => length as u64,
+        Err(refused) => u64::from(refused.number) << 32 | refused.place as u64,
+    }
+}
+
+#[no_mangle]
 unsafe extern "C" fn barnshiver_run_day(
     day: *const u8,
     day_length: usize,

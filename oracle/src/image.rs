@@ -1,4 +1,5 @@
-//! The table image: check with number and place, and the rows decoded once (01, "The table image").
+//! The table image: check with number and place, the rows decoded once (01, "The table image"), and the writer of images
+//! (02, C-11). The rules of counts and rows stand here once, for both.
 
 /// Most bytes of an image, its length field included.
 pub const LARGEST: usize = 3287;
@@ -9,10 +10,10 @@ pub const MAX_MICROSTEP: u32 = u32::MAX;
 
 const NONE: u16 = 65535;
 /// Place of the first count and of the first row.
-const COUNTS_AT: usize = 5;
-const ROWS_AT: usize = 23;
+pub const COUNTS_AT: usize = 5;
+pub const ROWS_AT: usize = 23;
 /// Most rows and bytes a row of the nine kinds, in the image's order.
-const KINDS: [(usize, usize); 9] = [
+pub const KINDS: [(usize, usize); 9] = [
     (32, 6),
     (16, 4),
     (32, 4),
@@ -159,35 +160,71 @@ pub fn check(image: &[u8]) -> Result<Table, Refused> {
     if image.len() < ROWS_AT {
         return refused(1, 0);
     }
-    let mut counts = [0; 9];
-    for (kind, &(most, _)) in KINDS.iter().enumerate() {
-        let place = COUNTS_AT + 2 * kind;
-        counts[kind] = usize::from(short(image, place));
-        let needed = kind < 2;
-        if counts[kind] > most || (needed && counts[kind] == 0) {
-            return refused(3, place);
-        }
+    if let Some(place) = past_limits(&image[COUNTS_AT..ROWS_AT]).next() {
+        return refused(3, place);
     }
-    let mut starts = [ROWS_AT; 10];
-    for (kind, &(_, width)) in KINDS.iter().enumerate() {
-        starts[kind + 1] = starts[kind] + counts[kind] * width;
-    }
-    if starts[9] != image.len() {
+    let rows = RawRows::new(image);
+    if rows.end() != image.len() {
         return refused(1, 0);
     }
-    let rows = RawRows {
-        image,
-        counts,
-        starts,
-    };
-    for (kind, &count) in counts.iter().enumerate() {
-        for row in 0..count {
-            if !rows.row_holds(kind, row) {
-                return refused(4, rows.place(kind, row));
-            }
-        }
+    if let Some(broken) = rows.broken().next() {
+        return refused(4, broken.place);
     }
     Ok(rows.decode())
+}
+
+/// Fills the front of a buffer with the image of these counts (nine of two bytes) and rows (the bytes of all, in the image's
+/// order), and says how many bytes it used; bytes past them stay. Refusals in 02's order; the buffer then keeps every byte.
+pub fn write(counts: &[u8], rows: &[u8], buffer: &mut [u8]) -> Result<usize, Refused> {
+    // An image that ends before its counts do, or has more of them, is refused before any of them is looked at.
+    if counts.len() != ROWS_AT - COUNTS_AT {
+        return refused(1, 0);
+    }
+    // The reader's 3.
+    if let Some(place) = past_limits(counts).next() {
+        return refused(3, place);
+    }
+    // 1 for rows that don't fit the counts.
+    if ROWS_AT + rows.len() != starts(counts)[9] {
+        return refused(1, 0);
+    }
+    // The reader's 4, at the place where the row stands in the image.
+    let follows = (1 + counts.len() + rows.len()) as u32;
+    let image = [&follows.to_be_bytes()[..], &[1], counts, rows].concat();
+    if let Some(broken) = RawRows::new(&image).broken().next() {
+        return refused(4, broken.place);
+    }
+    // 1 for a buffer too short.
+    let Some(front) = buffer.get_mut(..image.len()) else {
+        return refused(1, 0);
+    };
+    front.copy_from_slice(&image);
+    Ok(image.len())
+}
+
+/// The counts in these bytes.
+fn numbers(counts: &[u8]) -> impl Iterator<Item = usize> + '_ {
+    counts.chunks_exact(2).map(|count| number(count) as usize)
+}
+
+/// The places in an image of those counts that are past their limits: too many, or no scope or no reactor.
+pub fn past_limits(counts: &[u8]) -> impl Iterator<Item = usize> + '_ {
+    let past = |(kind, count): (usize, usize)| {
+        count > KINDS[kind].0 || ((kind == SCOPE || kind == REACTOR) && count == 0)
+    };
+    (0..KINDS.len())
+        .zip(numbers(counts))
+        .filter(move |&row| past(row))
+        .map(|(kind, _)| COUNTS_AT + 2 * kind)
+}
+
+/// Places of each kind's first row in an image with these counts, and the end.
+pub fn starts(counts: &[u8]) -> [usize; 10] {
+    let mut starts = [ROWS_AT; 10];
+    for (kind, count) in numbers(counts).take(KINDS.len()).enumerate() {
+        starts[kind + 1] = starts[kind] + count * KINDS[kind].1;
+    }
+    starts
 }
 
 const SCOPE: usize = 0;
@@ -201,14 +238,60 @@ const RESET: usize = 7;
 const TIMER: usize = 8;
 
 /// The rows while they are being checked.
-struct RawRows<'a> {
+pub struct RawRows<'a> {
     image: &'a [u8],
     counts: [usize; 9],
     /// Place of each kind's first row, and the end.
     starts: [usize; 10],
 }
 
-impl RawRows<'_> {
+/// A row that breaks a rule: its place, its kind, its number in it, and which of the kind's `RULES`.
+#[derive(Debug, Clone, Copy, PartialEq, Eq)]
+pub struct Broken {
+    pub place: usize,
+    pub kind: usize,
+    pub row: usize,
+    pub rule: usize,
+}
+
+impl<'a> RawRows<'a> {
+    /// Of an image that has its counts at least.
+    pub fn new(image: &'a [u8]) -> Self {
+        let counted = &image[COUNTS_AT..ROWS_AT];
+        let mut counts = [0; 9];
+        counts
+            .iter_mut()
+            .zip(numbers(counted))
+            .for_each(|(at, count)| *at = count);
+        Self {
+            image,
+            counts,
+            starts: starts(counted),
+        }
+    }
+
+    /// Where the rows end.
+    pub fn end(&self) -> usize {
+        self.starts[9]
+    }
+
+    /// The rows that break a rule, in order. All of them stand in the image.
+    pub fn broken(&self) -> impl Iterator<Item = Broken> + '_ {
+        let rows = (0..9).flat_map(|kind| (0..self.counts[kind]).map(move |row| (kind, row)));
+        rows.filter_map(move |(kind, row)| {
+            let rows = self;
+            let breaks = |(_, keeps): &Rule| !keeps(Row { rows, kind, row });
+            let rule = RULES[kind].iter().position(breaks)?;
+            let place = self.place(kind, row);
+            Some(Broken {
+                place,
+                kind,
+                row,
+                rule,
+            })
+        })
+    }
+
     fn place(&self, kind: usize, row: usize) -> usize {
         self.starts[kind] + row * KINDS[kind].1
     }
@@ -221,81 +304,12 @@ impl RawRows<'_> {
         short(self.image, self.place(kind, row) + at)
     }
 
-    fn has(&self, kind: usize, key: u16) -> bool {
-        usize::from(key) < self.counts[kind]
-    }
-
     fn tag(&self, kind: usize, row: usize, at: usize) -> RawTag {
         let place = self.place(kind, row) + at;
         RawTag {
             offset: number(&self.image[place..place + 8]),
             microstep: number(&self.image[place + 8..place + 12]) as u32,
         }
-    }
-
-    /// Whether a row keeps its rules; all rows before it do.
-    fn row_holds(&self, kind: usize, row: usize) -> bool {
-        let key = |at| self.key(kind, row, at);
-        match kind {
-            SCOPE => self.scope_holds(row),
-            REACTOR => {
-                let initial = key(2);
-                self.has(SCOPE, key(0))
-                    && (initial == NONE
-                        || (self.has(MODE, initial)
-                            && usize::from(self.key(MODE, usize::from(initial), 2)) == row))
-            }
-            MODE => {
-                self.has(SCOPE, key(0))
-                    && self.has(REACTOR, key(2))
-                    && usize::from(self.key(SCOPE, usize::from(key(0)), 4)) == row
-            }
-            REACTION => self.byte(kind, row, 0) <= 15,
-            ACTION => self.has(SCOPE, key(0)) && self.byte(kind, row, 2) <= 1,
-            TRIGGER => self.has(ACTION, key(0)) && self.has(REACTION, key(2)),
-            STARTUP => {
-                self.has(SCOPE, key(0)) && self.has(ACTION, key(2)) && self.has(REACTION, key(4))
-            }
-            RESET => self.has(SCOPE, key(0)) && self.has(REACTION, key(2)),
-            _ => self.has(ACTION, key(0)) && self.tag(kind, row, 2).within_limits(),
-        }
-    }
-
-    /// A scope row answers also for the mode it names: agreement, and lying under the reactor's root scope.
-    fn scope_holds(&self, row: usize) -> bool {
-        let (parent, reactor, mode) = (
-            self.key(SCOPE, row, 0),
-            self.key(SCOPE, row, 2),
-            self.key(SCOPE, row, 4),
-        );
-        if parent != NONE && usize::from(parent) >= row {
-            return false;
-        }
-        if !self.has(REACTOR, reactor) {
-            return false;
-        }
-        if mode == NONE {
-            return true;
-        }
-        if parent == NONE || !self.has(MODE, mode) {
-            return false;
-        }
-        let mode = usize::from(mode);
-        usize::from(self.key(MODE, mode, 0)) == row
-            && self.key(MODE, mode, 2) == reactor
-            && self.lies_under(row, self.key(REACTOR, usize::from(reactor), 0))
-    }
-
-    /// Whether a scope lies strictly under another. Parents up to here are lower than their scopes.
-    fn lies_under(&self, scope: usize, above: u16) -> bool {
-        let mut parent = self.key(SCOPE, scope, 0);
-        while parent != NONE {
-            if parent == above {
-                return true;
-            }
-            parent = self.key(SCOPE, usize::from(parent), 0);
-        }
-        false
     }
 
     fn decode(&self) -> Table {
@@ -353,6 +367,118 @@ impl RawRows<'_> {
         }
     }
 }
+
+/// One row while it is being checked.
+#[derive(Clone, Copy)]
+pub struct Row<'r> {
+    rows: &'r RawRows<'r>,
+    kind: usize,
+    row: usize,
+}
+
+impl Row<'_> {
+    fn byte(self, at: usize) -> u8 {
+        self.rows.byte(self.kind, self.row, at)
+    }
+
+    fn key(self, at: usize) -> u16 {
+        self.rows.key(self.kind, self.row, at)
+    }
+
+    fn is_none(self, at: usize) -> bool {
+        self.key(at) == NONE
+    }
+
+    /// Whether the key there is one of that kind.
+    fn has(self, at: usize, kind: usize) -> bool {
+        usize::from(self.key(at)) < self.rows.counts[kind]
+    }
+
+    /// The row of that kind that the key there names.
+    fn named(self, at: usize, kind: usize) -> Self {
+        let row = usize::from(self.key(at));
+        Self { kind, row, ..self }
+    }
+
+    /// Whether the key there is this row's number.
+    fn is(self, at: usize, row: Self) -> bool {
+        usize::from(self.key(at)) == row.row
+    }
+
+    /// Whether a scope lies strictly under another. A parent that is not lower, or none, ends the walk.
+    fn lies_under(self, above: u16) -> bool {
+        let parent = self.key(0);
+        usize::from(parent) < self.row
+            && (parent == above || self.named(0, SCOPE).lies_under(above))
+    }
+}
+
+/// What is wrong with a row that breaks a rule, and whether a row keeps it; it keeps those before it.
+type Rule = (&'static str, fn(Row<'_>) -> bool);
+
+/// The rules of each kind's rows, in order. A scope row answers also for the mode it names: agreement, and lying under the
+/// reactor's root scope.
+pub const RULES: [&[Rule]; 9] = [
+    &[
+        ("a parent that is not lower", |row| {
+            row.is_none(0) || usize::from(row.key(0)) < row.row
+        }),
+        ("no such reactor", |row| row.has(2, REACTOR)),
+        ("no such mode", |row| row.is_none(4) || row.has(4, MODE)),
+        ("a mode and no parent", |row| {
+            row.is_none(4) || !row.is_none(0)
+        }),
+        ("a mode of another scope", |row| {
+            row.is_none(4) || row.named(4, MODE).is(0, row)
+        }),
+        ("a mode of another reactor", |row| {
+            row.is_none(4) || row.named(4, MODE).key(2) == row.key(2)
+        }),
+        ("a mode not under its reactor's root", |row| {
+            row.is_none(4) || row.lies_under(row.named(2, REACTOR).key(0))
+        }),
+    ],
+    &[
+        ("no such root scope", |row| row.has(0, SCOPE)),
+        ("no such initial mode", |row| {
+            row.is_none(2) || row.has(2, MODE)
+        }),
+        ("an initial mode of another reactor", |row| {
+            row.is_none(2) || row.named(2, MODE).is(2, row)
+        }),
+    ],
+    &[
+        ("no such scope", |row| row.has(0, SCOPE)),
+        ("no such reactor", |row| row.has(2, REACTOR)),
+        ("a scope that doesn't name it back", |row| {
+            row.named(0, SCOPE).is(4, row)
+        }),
+    ],
+    &[("a level over 15", |row| row.byte(0) <= 15)],
+    &[
+        ("no such scope", |row| row.has(0, SCOPE)),
+        ("logical neither 0 nor 1", |row| row.byte(2) <= 1),
+    ],
+    &[
+        ("no such action", |row| row.has(0, ACTION)),
+        ("no such reaction", |row| row.has(2, REACTION)),
+    ],
+    &[
+        ("no such scope", |row| row.has(0, SCOPE)),
+        ("no such action", |row| row.has(2, ACTION)),
+        ("no such reaction", |row| row.has(4, REACTION)),
+    ],
+    &[
+        ("no such scope", |row| row.has(0, SCOPE)),
+        ("no such reaction", |row| row.has(2, REACTION)),
+    ],
+    &[
+        ("no such action", |row| row.has(0, ACTION)),
+        ("a tag beyond the limits", |row| {
+            row.rows.tag(row.kind, row.row, 2).within_limits()
+        }),
+    ],
+];
 
 impl Table {
     /// Whether some scope names a mode.

@@ -1,5 +1,6 @@
 //! The oracle: the published Rust, unchanged over stand-ins, and a plain reading of 01, to hold gate days against.
 
+use std::collections::HashSet;
 use std::io::{self, BufWriter, Read, Write};
 use std::path::Path;
 use std::process::ExitCode;
@@ -7,7 +8,9 @@ use std::time::Duration;
 
 use oracle::compare::{self, Outcome};
 use oracle::scripts::{self, Written};
-use oracle::{antt, beside, deep, judge, make, picture, plain, selftest, sweep, text, timing};
+use oracle::{
+    antt, beside, deep, image, judge, make, picture, plain, selftest, sweep, text, timing,
+};
 
 const USAGE: &str = "\
 oracle compare DAY ANSWERS          the answers against the published Rust and what the bytes alone decide
@@ -16,6 +19,7 @@ oracle answer DAY                   the lines that 01 demands
 oracle deep DAY [ANSWERS]           the Rust's state after every record
 oracle deep-plain DAY               the same from the plain machine
 oracle make SEED KIND               a made day
+oracle images SEED COUNT FOLDER     images of accepted tables, no two alike, as files N.image
 oracle asm TEXT DAY                 a day from its text; a file - is standard input or output, here and with text
 oracle text DAY TEXT                a day as its text, every byte of it
 oracle aside DAY ANSWERS            the answers beside the Rust's, record by record, the first difference first
@@ -93,6 +97,10 @@ fn run(words: &[&str]) -> Result<ExitCode, Failure> {
         ["deep-plain", day] => deep::print_plain(&read(day)?, &mut out)?,
         ["make", seed, kind] => {
             out.write_all(&made(number(seed)?, kind)?)?;
+        }
+        ["images", seed, count, folder] => {
+            let words = images(number(seed)?, number(count)?, Path::new(folder))?;
+            writeln!(out, "{words}")?;
         }
         ["asm", text, day] => {
             let words = String::from_utf8(read(text)?).map_err(|error| Fault(error.to_string()))?;
@@ -248,6 +256,26 @@ fn made(seed: u64, kind: &str) -> Result<Vec<u8>, Failure> {
         let kinds = [make::KINDS, make::LONG_KINDS].concat().join(", ");
         Fault(format!("no kind \"{kind}\"; there are {kinds}"))
     })
+}
+
+/// So many accepted images into a folder, and how long they are.
+fn images(seed: u64, count: u64, folder: &Path) -> Result<String, Failure> {
+    let mut written = HashSet::new();
+    let mut seeds = seed..;
+    while (written.len() as u64) < count {
+        let image = make::accepted_image(seeds.next().unwrap_or(seed));
+        image::check(&image).map_err(|refused| Difference(format!("a made image: {refused}")))?;
+        let path = folder.join(format!("{}.image", written.len()));
+        if written.insert(image.clone()) {
+            std::fs::write(&path, image)
+                .map_err(|error| Fault(format!("cannot write {}: {error}", path.display())))?;
+        }
+    }
+    let lengths = || written.iter().map(Vec::len);
+    let (least, most) = (lengths().min().unwrap_or(0), lengths().max().unwrap_or(0));
+    Ok(format!(
+        "{count} accepted images of {least} to {most} bytes"
+    ))
 }
 
 /// Says how a comparison ended.

@@ -1657,8 +1657,8 @@ fn spoil(rec: &mut Rec, t: &Table, rng: &mut Rng) {
     }
 }
 
-/// Tables at full counts: wide, as a chain, or nested; records with up to 128 reactions.
-fn edge_tables(mut rng: Rng) -> Vec<u8> {
+/// A table at full counts: wide, as a chain, or nested.
+fn full_table(rng: &mut Rng) -> Table {
     let mut t = Table::default();
     t.scopes.push([NONE, 0, NONE]);
     t.reactors.push([0, NONE]);
@@ -1695,7 +1695,7 @@ fn edge_tables(mut rng: Rng) -> Vec<u8> {
         }
         _ => {
             // Nested, filled up with plain scopes and reactors.
-            t = nested_scopes(&mut rng, 4);
+            t = nested_scopes(rng, 4);
             while t.scopes.len() < 32 {
                 let (parent, reactor) = (rng.key(t.scopes.len()), rng.key(t.reactors.len()));
                 t.add_scope(parent, reactor);
@@ -1706,8 +1706,8 @@ fn edge_tables(mut rng: Rng) -> Vec<u8> {
             }
         }
     }
-    t.shuffle(&mut rng);
-    t.set_initials(&mut rng, 5);
+    t.shuffle(rng);
+    t.set_initials(rng, 5);
     // Each later kind full, or nearly, or anything.
     let all = rng.chance(40);
     let mut upto = |most: u64| {
@@ -1724,7 +1724,13 @@ fn edge_tables(mut rng: Rng) -> Vec<u8> {
         logical: 80,
         unit: 1,
     };
-    fill(&mut t, &mut rng, &f);
+    fill(&mut t, rng, &f);
+    t
+}
+
+/// Tables at full counts; records with up to 128 reactions.
+fn edge_tables(mut rng: Rng) -> Vec<u8> {
+    let t = full_table(&mut rng);
     let mut day = Day::new(t, rng, 1);
     for _ in 0..day.rng.range(20, 60) {
         let many = day.rng.chance(40);
@@ -2020,6 +2026,20 @@ fn rich_table(rng: &mut Rng) -> Table {
     t
 }
 
+/// A good table with rows of every kind.
+pub fn table(seed: u64) -> Table {
+    rich_table(&mut Rng::new(seed, "table"))
+}
+
+/// A table with rows of every kind in which so many rules are broken.
+pub fn broken(table: &Table, seed: u64, breaks: usize) -> Table {
+    let (mut t, mut rng) = (table.clone(), Rng::new(seed, "broken"));
+    for _ in 0..breaks {
+        break_row(&mut t, &mut rng);
+    }
+    t
+}
+
 /// Breaks one rule of one row. (On a table broken before, at times no further one.)
 fn break_row(t: &mut Table, rng: &mut Rng) {
     let scopes = t.scopes.len();
@@ -2199,7 +2219,7 @@ fn bad_counts(rng: &mut Rng) -> Vec<u8> {
 }
 
 /// Every kind at its most: 3,287 bytes that nobody can accept, or 3,283 that are good (31 modes).
-fn largest(modes: u16) -> Table {
+pub fn largest(modes: u16) -> Table {
     let mut t = Table::default();
     t.scopes.push([NONE, 0, NONE]);
     t.reactors.push([0, NONE]);
@@ -2217,6 +2237,25 @@ fn largest(modes: u16) -> Table {
     t.resets.resize(64, [31, 127]);
     t.timers.resize(64, (63, tag(OFF_MAX, MICRO_MAX)));
     t
+}
+
+/// The image of an accepted table by number: small, nested, with rows of every kind, or at full counts. Its timers' tags lie anywhere within the
+/// limits, at times at whole hours, minutes and so on.
+pub fn accepted_image(seed: u64) -> Vec<u8> {
+    let mut rng = Rng::new(seed, "image");
+    let mut t = match rng.below(16) {
+        0..=4 => small_table(&mut rng, 1),
+        5..=9 => nested_table(&mut rng, 1),
+        10..=13 => rich_table(&mut rng),
+        14 => full_table(&mut rng),
+        _ => largest(31),
+    };
+    for (_, at) in &mut t.timers {
+        let unit = rng.pick(&[1, 1000, 1_000_000, 1_000_000_000, 60_000_000_000, HOUR, OFF_MAX]);
+        let off = if rng.chance(50) { unit * rng.below((OFF_MAX / unit).min(100) + 1) } else { rng.below(OFF_MAX + 1) >> rng.below(62) };
+        *at = tag(off, rng.pick(&[0, 0, 1, 7, MICRO_MAX]));
+    }
+    t.encode()
 }
 
 /// Damage that no table row tells: version, length, cuts, extra and changed bytes, noise.

@@ -4,7 +4,7 @@ use crate::compare::{aside, compare, table, Outcome};
 use crate::judge::judge;
 use crate::make::{make, KINDS};
 use crate::text::{assemble, numbered_lines_of};
-use crate::{antt, deep, plain};
+use crate::{antt, deep, image, plain};
 
 /// The day of a text.
 fn day(text: &str) -> Vec<u8> {
@@ -193,4 +193,42 @@ fn only_calls_that_the_rust_agrees_on_become_theorems() {
         .unwrap_err()
         .contains("is no call"));
     assert!(theorems("pop").unwrap_err().contains("table refused"));
+}
+
+/// What the writer answers to the counts and rows of T2, each changed as said, into a buffer of so many bytes; number and
+/// place, or 0 and how many bytes. The buffer is seen to be the image in front of what it was, or all of what it was.
+fn written(change: impl Fn(&mut Vec<u8>, &mut Vec<u8>), room: usize) -> (u8, usize) {
+    let image = day(T2);
+    let (mut counts, mut rows) = (image[5..23].to_vec(), image[23..].to_vec());
+    change(&mut counts, &mut rows);
+    let mut buffer = vec![0xa5; room];
+    let answer = image::write(&counts, &rows, &mut buffer);
+    let length = answer.unwrap_or(0);
+    assert_eq!(buffer[..length], image[..length]);
+    assert!(buffer[length..].iter().all(|&byte| byte == 0xa5));
+    answer.map_or_else(
+        |refused| (refused.number, refused.place),
+        |length| (0, length),
+    )
+}
+
+#[test]
+fn the_writer_gives_the_image_or_the_first_refusal_in_order() {
+    // Three scopes, one reactor, two modes: 23 + 18 + 4 + 8 bytes.
+    assert_eq!(written(|_, _| (), 53), (0, 53));
+    assert_eq!(written(|_, _| (), 99), (0, 53));
+    assert_eq!(written(|_, _| (), 52), (1, 0));
+    assert_eq!(written(|counts, _| drop(counts.pop()), 99), (1, 0));
+    assert_eq!(written(|_, rows| drop(rows.pop()), 99), (1, 0));
+    assert_eq!(written(|_, rows| rows.push(0), 99), (1, 0));
+    // No scope; 17 reactors; 65 timers, and no rows for them.
+    assert_eq!(written(|counts, _| counts[1] = 0, 99), (3, 5));
+    assert_eq!(written(|counts, _| counts[3] = 17, 0), (3, 7));
+    assert_eq!(written(|counts, _| counts[17] = 65, 99), (3, 21));
+    // The second scope's reactor; the reactor's root scope, for which the second scope answers, as its mode is not under it;
+    // the initial mode; the second mode's scope, for which the third scope answers, as it names that mode.
+    assert_eq!(written(|_, rows| rows[9] = 1, 0), (4, 29));
+    assert_eq!(written(|_, rows| rows[19] = 9, 0), (4, 29));
+    assert_eq!(written(|_, rows| rows[21] = 9, 0), (4, 41));
+    assert_eq!(written(|_, rows| rows[27] = 0, 0), (4, 35));
 }

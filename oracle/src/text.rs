@@ -20,7 +20,7 @@ use crate::image::number;
 use crate::records::{split, Op};
 
 /// Bytes a field of each kind of row, in the image's order.
-const ROWS: [(&str, &[usize]); 9] = [
+pub const ROWS: [(&str, &[usize]); 9] = [
     ("scope", &[2, 2, 2]),
     ("reactor", &[2, 2]),
     ("mode", &[2, 2]),

@@ -1,11 +1,12 @@
-//! Scripts of single functions with the Rust's answers, for the harness: clock maps, stores, level walks and images.
-//! Each module says its format at its top. All numbers are big-endian.
+//! Scripts of single functions with the Rust's answers, for the harness: clock maps, stores, level walks and images; and
+//! what the writer of images is handed. Each module says its format at its top. All numbers are big-endian.
 
 pub mod map;
 pub mod store;
 pub mod store_compare;
 pub mod table;
 pub mod walk;
+pub mod writes;
 
 use crate::image::RawTag;
 

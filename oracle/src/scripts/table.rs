@@ -17,7 +17,7 @@ use crate::make;
 use crate::rng::Rng;
 
 /// The image that a day begins with, or what there is of it.
-fn image_of(day: &[u8]) -> Vec<u8> {
+pub fn image_of(day: &[u8]) -> Vec<u8> {
     let end = match day.get(..4) {
         Some(length) => (image::number(length) as usize).saturating_add(4),
         None => day.len(),
