@@ -114,6 +114,10 @@ pub struct Table {
 }
 
 impl Table {
+    pub fn accepted(&self) -> bool {
+        self.answer == "table ok"
+    }
+
     pub fn row(&self, kind: u64, i: u64) -> [u64; 3] {
         self.rows
             .iter()

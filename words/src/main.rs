@@ -1,10 +1,16 @@
 //! words tell [CHOICE..]: the facts on standard input as words, line by line as they come. words draw OUT [CHOICE..]: the same as a picture.
-//! A choice is --from N, --to N (records), --action N or --scope N. The facts come from the proved program `explained`; nothing but words and pixels
-//! is made here. Exit status: 0 told to the end; 1 the table is refused or the day stops early; 2 something cannot be read or written.
+//! words check: the table alone in words. words list: the table as a sheet.
+//! words make MAKER.. -- EXPLAINED..: the sheet on standard input as an image on standard output, by these two proved programs.
+//! A choice is --from N, --to N (records), --action N or --scope N. The facts come from the proved program `explained`; nothing but words, pixels
+//! and cells is made here. Exit status: 0 told to the end; 1 the table is refused, the sheet wrong, or the day stops early; 2 something cannot be
+//! read or written.
 
 mod chosen;
 mod facts;
 mod picture;
+mod sheet;
+mod table;
+mod units;
 mod words;
 
 use chosen::Chosen;
@@ -100,7 +106,7 @@ fn tell(facts: &mut Input, chosen: &Chosen) -> Result<u8, String> {
     for line in words::Teller::new(&table).table_words() {
         written(out.line(Record::default(), line))?;
     }
-    if table.answer != "table ok" {
+    if !table.accepted() {
         written(out.pause())?;
         return Ok(1);
     }
@@ -146,7 +152,7 @@ fn draw(facts: &mut Input, chosen: &Chosen, out: &str) -> Result<u8, String> {
     let head = words::Teller::new(&table).table_words();
     let mut status = 1;
     let mut left_out = None;
-    if table.answer == "table ok" {
+    if table.accepted() {
         let ran = run(facts, &table, chosen, &mut drawn)?;
         let (records, stopped) = ran.map_or((0, false), |ran| (ran.records, ran.stopped));
         left_out = chosen.left_out(drawn.records.len(), records);
@@ -176,23 +182,41 @@ fn draw(facts: &mut Input, chosen: &Chosen, out: &str) -> Result<u8, String> {
     Ok(status)
 }
 
+fn facts() -> Input {
+    Facts::new(BufReader::with_capacity(1 << 16, std::io::stdin().lock()))
+}
+
 fn main() -> ExitCode {
     let args: Vec<String> = std::env::args().skip(1).collect();
     let words: Vec<&str> = args.iter().map(String::as_str).collect();
-    let mut facts = Facts::new(BufReader::with_capacity(1 << 16, std::io::stdin().lock()));
-    let told = match words[..] {
-        ["tell", ref choices @ ..] => {
-            Chosen::read(choices).and_then(|chosen| tell(&mut facts, &chosen))
+    let mut command = "table";
+    let done = match words[..] {
+        ["check"] => table::check(&mut facts()),
+        ["list"] => table::list(&mut facts()),
+        ["make", ref programs @ ..] => {
+            let end = programs.iter().position(|word| *word == "--");
+            let (maker, explained) = programs.split_at(end.unwrap_or(programs.len()));
+            table::make(maker, explained.get(1..).unwrap_or(&[]))
         }
-        ["draw", out, ref choices @ ..] => {
-            Chosen::read(choices).and_then(|chosen| draw(&mut facts, &chosen, out))
+        _ => {
+            command = "explain";
+            match words[..] {
+                ["tell", ref choices @ ..] => {
+                    Chosen::read(choices).and_then(|chosen| tell(&mut facts(), &chosen))
+                }
+                ["draw", out, ref choices @ ..] => {
+                    Chosen::read(choices).and_then(|chosen| draw(&mut facts(), &chosen, out))
+                }
+                _ => Err(
+                    "give tell, draw OUT, check, list, or make MAKER.. -- EXPLAINED..".to_string(),
+                ),
+            }
         }
-        _ => Err("give tell, or draw OUT".to_string()),
     };
-    match told {
+    match done {
         Ok(status) => ExitCode::from(status),
         Err(why) => {
-            eprintln!("explain: {why}");
+            eprintln!("{command}: {why}");
             ExitCode::from(2)
         }
     }

@@ -380,7 +380,7 @@ pub fn drawn(shown: &Shown, head: &[String], left_out: Option<String>) -> String
         "<rect width=\"100%\" height=\"100%\" fill=\"#ffffff\"/>"
     );
     let first = head.first().map_or("", String::as_str);
-    if shown.table.answer != "table ok" {
+    if !shown.table.accepted() {
         for (i, line) in wrapped(first).iter().enumerate() {
             let y = 24.0 + 20.0 * i as f64;
             picture.text(8.0, y, &format!("font-size=\"13\" fill=\"{ALARM}\""), line);

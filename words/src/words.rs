@@ -110,6 +110,15 @@ impl<'a> Teller<'a> {
         self.telling(&self.table.times).table_words()
     }
 
+    /// Where the check of an accepted table has something to look at: the timer's number and the words.
+    pub fn warnings(&self) -> Vec<(u64, String)> {
+        let telling = self.telling(&self.table.times);
+        let timers = self.table.rows.iter().filter(|row| row.0 == 8);
+        timers
+            .filter_map(|(_, i, fields)| Some((*i, telling.warning(*i, fields[1])?)))
+            .collect()
+    }
+
     /// One line for the n-th record.
     pub fn record_words(&self, n: usize, record: &Record) -> String {
         let telling = self.telling(&record.times);
@@ -168,7 +177,7 @@ impl Telling<'_> {
 
     fn table_words(&self) -> Vec<String> {
         let table = self.table;
-        if table.answer != "table ok" {
+        if !table.accepted() {
             return vec![self.refused_table(), HEAD.to_string()];
         }
         let counts: Vec<String> = table
@@ -182,7 +191,10 @@ impl Telling<'_> {
         for (k, i, fields) in &table.rows {
             if *k == 8 {
                 lines.push(self.timer_words(*i, *fields));
-                lines.extend(self.warning(*i, fields[1]));
+                lines.extend(
+                    self.warning(*i, fields[1])
+                        .map(|words| format!("  {words}")),
+                );
             }
         }
         lines
@@ -229,7 +241,7 @@ impl Telling<'_> {
             }
             _ => String::new(),
         };
-        Some(format!("  look: timer {i} is longer than a day{rounder}"))
+        Some(format!("look: timer {i} is longer than a day{rounder}"))
     }
 
     fn refused_table(&self) -> String {
