@@ -102,6 +102,16 @@ const KINDS: [Kind; 9] = [
 ];
 
 impl Kind {
+    /// "an action row", "a mode row".
+    fn row(&self) -> String {
+        let article = if self.name.starts_with('a') {
+            "an"
+        } else {
+            "a"
+        };
+        format!("{article} {} row", self.name)
+    }
+
     /// "scope,PARENT,REACTOR,MODE".
     fn form(&self) -> String {
         let names = self.fields.iter().map(|field| field.name);
@@ -299,9 +309,9 @@ fn rows_of(bytes: &[u8]) -> Result<([Vec<Line>; 9], Names), Vec<Wrong>> {
         let mut further = cells.iter().enumerate().skip(width + 1);
         if let Some((i, cell)) = further.find(|(_, cell)| !cell.is_empty()) {
             let words = format!(
-                "{} is a cell too many: a {} row is {} and perhaps a name",
+                "{} is a cell too many: {} is {} and perhaps a name",
                 shown(cell),
-                KINDS[k].name,
+                KINDS[k].row(),
                 KINDS[k].form()
             );
             say(i + 2, words);
@@ -339,9 +349,13 @@ fn shown(text: &str) -> String {
 fn value(kind: &Kind, field: &Field, text: &str, names: &Names) -> Result<u64, String> {
     let name = field.name;
     if text.is_empty() {
+        let none = match field.holds {
+            Holds::Key(_, true) => "; none is -",
+            _ => "",
+        };
         return Err(format!(
-            "{name} is missing: a {} row is {}",
-            kind.name,
+            "{name} is missing: {} is {}{none}",
+            kind.row(),
             kind.form()
         ));
     }
@@ -356,8 +370,12 @@ fn value(kind: &Kind, field: &Field, text: &str, names: &Names) -> Result<u64, S
                 shown(text)
             ))
         }),
-        Holds::Number(most) => whole(name, text, most)
-            .unwrap_or_else(|| Err(format!("{} is no number; {name} is one", shown(text)))),
+        Holds::Number(most) => whole(name, text, most).unwrap_or_else(|| {
+            Err(format!(
+                "{} is no number, and {name} has to be a number",
+                shown(text)
+            ))
+        }),
         Holds::Time => units::nanoseconds(text),
     }
 }
@@ -385,12 +403,14 @@ fn whole(name: &str, text: &str, most: u64) -> Option<Result<u64, String>> {
         return None;
     }
     let fits = text.parse().ok().filter(|number| *number <= most);
-    Some(fits.ok_or_else(|| {
-        format!(
-            "{} does not fit: the most that {name} holds is {most}",
-            text.trim_start_matches('0')
-        )
-    }))
+    Some(fits.ok_or_else(|| no_room(text.trim_start_matches('0'), name, most)))
+}
+
+/// A number whose field has fewer bytes than it needs; what the table allows is the writer's to say.
+pub fn no_room(text: &str, name: &str, most: u64) -> String {
+    let bytes = (64 - most.leading_zeros()) / 8;
+    let s = if bytes == 1 { "" } else { "s" };
+    format!("{text} does not fit into the {bytes} byte{s} of {name}")
 }
 
 // ---- the text
@@ -408,6 +428,12 @@ fn text_of(bytes: &[u8]) -> Result<&[u8], Wrong> {
     if bytes.starts_with(b"\xff\xfe") || bytes.starts_with(b"\xfe\xff") {
         return Err(wrong(
             "this is text in UTF-16: save the sheet as CSV in UTF-8",
+        ));
+    }
+    // the length of every table has these two bytes in front, and no text has
+    if bytes.starts_with(b"\0\0") {
+        return Err(wrong(
+            "this is a table image or a gate day, and no sheet: ./table list makes a sheet of it",
         ));
     }
     if bytes.starts_with(b"PK\x03\x04") {

@@ -3,6 +3,7 @@
 
 use crate::facts::{Facts, Table};
 use crate::sheet::{self, Sheet, TIMER};
+use crate::units;
 use crate::words::Teller;
 use std::io::{BufRead, ErrorKind, Read, Write};
 use std::process::{Command, Stdio};
@@ -43,7 +44,7 @@ pub fn list(facts: &mut Facts<impl BufRead>) -> Result<u8, String> {
 }
 
 /// The image of the sheet on standard input, to standard output. Nothing is written where the sheet is wrong, the table refused, or the image
-/// does not read back as the sheet.
+/// does not read back as the sheet. What was made is told with the time of each timer, since a time without a unit is nanoseconds.
 pub fn make(maker: &[&str], explained: &[&str]) -> Result<u8, String> {
     let mut bytes = Vec::new();
     std::io::stdin()
@@ -87,6 +88,10 @@ pub fn make(maker: &[&str], explained: &[&str]) -> Result<u8, String> {
     }
     put(image)?;
     eprintln!("{}; {} bytes", teller.table_words()[0], image.len());
+    for (i, row) in sheet.rows[TIMER].iter().enumerate() {
+        let time = units::in_units(row.fields[1]);
+        eprintln!("line {}: timer {i}: {time}", row.line);
+    }
     Ok(0)
 }
 

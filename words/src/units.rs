@@ -1,5 +1,7 @@
 //! A time as a fitter writes it: whole nanoseconds, or whole numbers with units, from the largest to the smallest.
 
+use crate::sheet::no_room;
+
 /// Each unit with its nanoseconds.
 const UNITS: [(&str, u64); 6] = [
     ("h", 3_600_000_000_000),
@@ -12,12 +14,7 @@ const UNITS: [(&str, u64); 6] = [
 
 /// The nanoseconds of "3600000000000", "1h" or "1h30min"; blanks may stand between the parts.
 pub fn nanoseconds(text: &str) -> Result<u64, String> {
-    let most = || {
-        format!(
-            "{text} does not fit: the most that TIME holds is {} nanoseconds",
-            u64::MAX
-        )
-    };
+    let most = || no_room(text, "TIME", u64::MAX);
     if text.bytes().all(|byte| byte.is_ascii_digit()) {
         return text.parse().map_err(|_| most());
     }

@@ -138,6 +138,15 @@ impl<'a> Teller<'a> {
     }
 }
 
+/// Whether the four bytes of a length are letters, signs, blanks or a byte order mark, as a text begins.
+fn is_text(length: u64) -> bool {
+    let bytes = (length as u32).to_be_bytes();
+    let bytes = bytes.strip_prefix(b"\xef\xbb\xbf").unwrap_or(&bytes);
+    bytes
+        .iter()
+        .all(|byte| matches!(byte, b' '..=b'~' | b'\t' | b'\r' | b'\n'))
+}
+
 impl Telling<'_> {
     fn split(&self, offset: u64) -> Option<Time> {
         self.told.get(offset).or_else(|| self.kept.get(offset))
@@ -250,6 +259,7 @@ impl Telling<'_> {
         let why = match table.refusal {
             (1, _) if there == 0 && said == 0 => "the file is empty".to_string(),
             (1, _) if there < 4 && said == 0 => format!("the file has {}, and a table begins with a length of 4", plural(there, "byte")),
+            (1, _) if is_text(said) => "this is a text, and no table image or gate day: of a sheet ./table make makes an image".to_string(),
             (1, _) if said > 3283 => format!("this does not look like a gate day: by its first four bytes {said} bytes of table follow, and the largest table has 3283 behind its length"),
             (1, _) if said == 0 => "the table's length says that nothing follows it".to_string(),
             (1, _) => format!("the table is cut short: its length says that {said} bytes follow, and {there} are there"),
