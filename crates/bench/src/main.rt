@@ -5,14 +5,14 @@ ghost use mathlib.Core.Bool.{true};
 ghost use Prim.Native.Nat.{_-_, _≤_};
 ghost use lib.ListN.{length};
 ghost use Rattle.table.specs.Check.{isTable, check};
-ghost use Rattle.gate_day.specs.Days.{largest};
+ghost use Rattle.rows.specs.Kinds.{largest};
 use libc::STDIN_FILENO;
 use libc::STDOUT_FILENO;
 use table::Checked;
 use table::ImageRefusal;
 
 // No image is longer.
-const LARGEST: usize = gate_day::LARGEST;
+const LARGEST: usize = rows::LARGEST;
 
 // The bytes of a length.
 const LENGTH: usize = gate_day::IMAGE_LENGTH_BYTES;

@@ -8,7 +8,7 @@ ghost use Rattle.machine.specs.State.{mostWaiting};
 ghost use Rattle.records.specs.Records.{mostKeys};
 ghost use Rattle.slots.specs.Slots.{Whole};
 ghost use Rattle.table.specs.Check.{isTable};
-ghost use Rattle.gate_day.specs.Days.{largest};
+ghost use Rattle.rows.specs.Kinds.{largest};
 ghost use Rattle.gate_day.specs.Views.{Kept};
 use gate_day::Day;
 use heads::Head;
@@ -25,7 +25,7 @@ use tags::GlobalTag;
 use tags::QueueTag;
 
 // No image is longer.
-const LARGEST: usize = gate_day::LARGEST;
+const LARGEST: usize = rows::LARGEST;
 
 // The bytes of a length.
 const LENGTH: usize = gate_day::IMAGE_LENGTH_BYTES;

@@ -3,6 +3,7 @@ use mathlib.Core.Path.{_≡_, ap, _∙_, sym}
 use mathlib.Core.List.{List}
 use Prim.Native.Nat.{ℕ, _+_, _*_, _≤_, _<_}
 use lib.ListN.{length, take, drop}
+use Rattle.rows.specs.Kinds.{largest}
 use Rattle.table.specs.Check.{numberOf}
 use Rattle.table.specs.declared.Checked.{Checked}
 use Rattle.table.specs.declared.Checked.the-variants.{Accepted, Refused}
@@ -58,7 +59,7 @@ module _ (day : List ℕ) {state : List ℕ} (room : stateLength ≤ length stat
 
 module _ (counts rows buffer : List ℕ) {new : List ℕ} {a : Wrote} (e : wrote a new ≡ writing counts rows buffer) where
   -- its place lies in the low half
-  pub write-small : placeOf a ≤ 3287
+  pub write-small : placeOf a ≤ largest
   write-small = rw (ap (λ w. placeOf (w .answer)) e) (small counts rows buffer)
 
   pub write-told : {n p : ℕ} → n ≡ writer.numberOf a → p ≡ placeOf a → told (n * half + p) new ≡ writeTold (writing counts rows buffer)

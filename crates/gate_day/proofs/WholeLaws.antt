@@ -26,7 +26,8 @@ use Rattle.records.proofs.DayLaws.{none-left, record-there, record-short, recor
 use Rattle.lines.specs.Lines.{tableLine}
 use Rattle.puts.specs.Written.{Written}
 use Rattle.puts.proofs.WrittenLaws.{written-none, written-then, written-as, written-long, written-room}
-use Rattle.gate_day.specs.Days.{Next, pending, broken, whole, nextAt, bytesLeft, bodyAt, Ran, stopped, endedAt, behind, longest, malformedLine, lineAt, stateAt, answersOf, together, linesOf, callsOf, fitting, ranIn, ranOn, ran, imageEnd, imageIn, largest, opened, answersBy, dayAnswers, dayLines, recordBytes}
+use Rattle.rows.specs.Kinds.{largest}
+use Rattle.gate_day.specs.Days.{Next, pending, broken, whole, nextAt, bytesLeft, bodyAt, Ran, stopped, endedAt, behind, longest, malformedLine, lineAt, stateAt, answersOf, together, linesOf, callsOf, fitting, ranIn, ranOn, ran, imageEnd, imageIn, opened, answersBy, dayAnswers, dayLines, recordBytes}
 use Rattle.gate_day.specs.Views.{viewOf, Pieced}
 use Rattle.gate_day.specs.declared.Day.{Day}
 use Rattle.gate_day.specs.declared.Pieces.{Pieces}

@@ -5,6 +5,7 @@ use mathlib.Core.List.{List, [], _∷_, _++_}
 use lib.Dec.{ltb, leb}
 use lib.ListN.{length, take, drop}
 use Rattle.rows.specs.Bytes.{Image, be}
+use Rattle.rows.specs.Kinds.{largest}
 use Rattle.table.specs.Check.{check}
 use Rattle.table.specs.declared.Checked.{Checked}
 use Rattle.table.specs.declared.Checked.the-variants.{Accepted, Refused}
@@ -129,10 +130,6 @@ imageIn day = take (imageEnd day) day
 
 abbrev pub recordBytes : List ℕ → List ℕ
 recordBytes day = drop (imageEnd day) day
-
--- "The smallest image has 33 bytes, the largest 3,287."
-abbrev pub largest : ℕ
-largest = 3287
 
 -- "An image cut short or longer than the largest is "table refused 1 0"."
 unfoldable pub opened : List ℕ → Checked

@@ -405,9 +405,6 @@ pub fn run_records(image: &[u8], day: Day, bytes: &[u8], out: &mut [u8]) -> Piec
 
 // ---- a whole day
 
-// No image is longer; `largest` of specs/ says the same.
-pub const LARGEST: usize = 3287;
-
 // The length that an image begins with.
 pub const IMAGE_LENGTH_BYTES: usize = 4;
 
@@ -427,7 +424,7 @@ pub fn open(day: &[u8]) -> Checked
     if day.len() < end {
         return Checked::Refused(ImageRefusal::Length);
     }
-    if LARGEST < end {
+    if rows::LARGEST < end {
         return Checked::Refused(ImageRefusal::Length);
     }
     table::check(&day[..end])

@@ -67,6 +67,10 @@ countPlace k = 5 + 2 * k
 abbrev pub headBytes : ℕ
 headBytes = 23
 
+-- "The smallest image has 33 bytes, the largest 3,287."
+abbrev pub largest : ℕ
+largest = 3287
+
 -- how many rows of the kind k the image says it has
 unfoldable pub count : Image → ℕ → ℕ
 count s k = be 2 s (countPlace k)

@@ -13,6 +13,9 @@ ghost use Rattle.rows.specs.Lineage.{inSubtree, under as underOf};
 // Length, version and nine counts.
 pub const HEAD: usize = 23;
 
+// No image is longer; `largest` of specs/ says the same.
+pub const LARGEST: usize = 3287;
+
 // None, for parent, mode and initial mode.
 pub const NONE: u16 = 65535;
 

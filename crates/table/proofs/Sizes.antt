@@ -8,7 +8,7 @@ use lib.ListN.{length}
 use Rattle.lists.specs.Lists.{every}
 use Rattle.lists.specs.Scan.{scan}
 use Rattle.rows.specs.Bytes.{Image, be}
-use Rattle.rows.specs.Kinds.{kinds, kindOf, kindCount, headBytes, count, countPlace, place}
+use Rattle.rows.specs.Kinds.{kinds, kindOf, kindCount, headBytes, count, countPlace, place, largest}
 use Rattle.rows.specs.Rows.{rowPlace, field}
 use Rattle.table.specs.Rules.{keyFields, keyExists, keysExist, parentRule, scopeRule, initialRule, reactorRule, ownRule, rowRule}
 use Rattle.table.specs.Check.{wrongLength, countFits, badCount, badRow, kindFits, badKind, checkRows, check}
@@ -32,12 +32,12 @@ by-counts s zero = refl
 by-counts s (suc k) = rw (by-counts s k)
 
 -- where the rows end, with no more of a kind than the most
-pub rows-end : (s : Image) → ((k : ℕ) → k < kindCount → count s k ≤ kindOf k .most) → place s kindCount ≤ 3287
+pub rows-end : (s : Image) → ((k : ℕ) → k < kindCount → count s k ≤ kindOf k .most) → place s kindCount ≤ largest
 unfolding placeBy kindOf kinds
 rows-end s h = omega (arith, by-counts s kindCount, more-rows (count s) (λ k. kindOf k .most) kindCount h)
 
 module _ (s : Image) (t : Table s) where
-  pub no-larger : length s ≤ 3287
+  pub no-larger : length s ≤ largest
   no-larger = omega (arith, t .filled, rows-end s (count-most s t))
 
   pub no-smaller : 33 ≤ length s

@@ -10,7 +10,7 @@ use borrow.Author.Tests.{leb-true}
 use Rattle.lists.specs.Scan.{scan, scan-all}
 use Rattle.lists.specs.Tests.{and-right}
 use Rattle.rows.specs.Bytes.{Image, be}
-use Rattle.rows.specs.Kinds.{kindOf, kindCount, headBytes, count, countPlace, place}
+use Rattle.rows.specs.Kinds.{kindOf, kindCount, headBytes, count, countPlace, place, largest}
 use Rattle.table.specs.Check.{countFits, badCount}
 use Rattle.table.proofs.Sizes.{rows-end}
 
@@ -49,6 +49,6 @@ module _ (s t : Image) (h : (i : ℕ) → i < headBytes → getD s i 0 ≡ getD 
   same-end = places kindCount (omega arith)
 
 -- counts that fit name no more rows than the largest image has
-pub end-fits : (s : Image) → kindCount ≤ badCount s → place s kindCount ≤ 3287
+pub end-fits : (s : Image) → kindCount ≤ badCount s → place s kindCount ≤ largest
 unfolding badCount countFits
 end-fits s h = rows-end s λ k l. leb-true _ _ (and-right (leb (kindOf k .least) (count s k)) _ (rw zero-add at (scan-all (countFits s) kindCount 0 h k l)))

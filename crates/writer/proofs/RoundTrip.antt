@@ -12,7 +12,7 @@ use lib.Seq.{sets, sets-eq, take-at, drop-at, drop-drop, drop-cons, length-take-
 use borrow.Author.Tests.{le-ltb, ltb-false, eq-eqb, eqb-true, not-false}
 use Rattle.lists.specs.Changes.{or-no-right}
 use Rattle.rows.specs.Bytes.{Image, be, beBytes}
-use Rattle.rows.specs.Kinds.{kindCount, headBytes, count, countPlace, place}
+use Rattle.rows.specs.Kinds.{kindCount, headBytes, count, countPlace, place, largest}
 use Rattle.rows.specs.Rows.{rowPlace, field}
 use Rattle.puts.proofs.NumberLaws.{number-length, number-read, read-behind, read-among, read-number}
 use Rattle.table.specs.Check.{version, wrongLength, badCount, checkBody, check}
@@ -77,7 +77,7 @@ module _ (counts rows : List ℕ) (nine : length counts ≡ countBytes) where
       (ap (λ n. be w (headOf counts rows ++ rows) (n + p)) (sym h) ∙ read-behind (headOf counts rows) rows w p))
 
   -- its length and its version are right
-  right-length : length S ≤ 3287 → wrongLength S ≡ false
+  right-length : length S ≤ largest → wrongLength S ≡ false
   unfolding wrongLength imageOf
   right-length h =
       let a : 5 ≤ length S = omega (arith, long) in
@@ -92,7 +92,7 @@ module _ (counts rows : List ℕ) (nine : length counts ≡ countBytes) where
       ap (be 1 S) e ∙ read-behind (beBytes 4 (1 + length counts + length rows)) (version ∷ (counts ++ rows)) 1 0
 
   -- so the reader answers what the writer asked
-  pub reader-agrees : length S ≤ 3287 → check S ≡ checkBody S
+  pub reader-agrees : length S ≤ largest → check S ≡ checkBody S
   unfolding check
   reader-agrees h =
       let a : headBytes ≤ length S = omega (arith, long) in
@@ -132,11 +132,11 @@ module _ {P : Type 0} (s : Image) (buffer : List ℕ) {n : ℕ} {new : List ℕ}
   was-placed (Refused why) e k = no-image (answers.Refused why) buffer refl e
 
 -- accepted rows end where the image does, and it is no larger than the largest
-body-fits : (s : Image) → checkBody s ≡ Accepted → length s ≤ 3287
+body-fits : (s : Image) → checkBody s ≡ Accepted → length s ≤ largest
 body-fits s e =
     passed (ltb (badCount s) kindCount) (Count (countPlace (badCount s))) _ e λ a e.
     passed (not (eqb (place s kindCount) (length s))) Unfilled _ e λ b e.
-    let f : place s kindCount ≤ 3287 = end-fits s (ltb-false _ _ a) in
+    let f : place s kindCount ≤ largest = end-fits s (ltb-false _ _ a) in
     let g : place s kindCount ≡ length s = eqb-true _ _ (not-false _ b) in
     omega (arith, f, g)
 

@@ -13,7 +13,7 @@ use lib.Seq.{sets}
 use Rattle.lists.specs.Tests.{below?}
 use Rattle.lists.specs.Scan.{scan}
 use Rattle.rows.specs.Bytes.{Image}
-use Rattle.rows.specs.Kinds.{kindOf, kindCount, count, countPlace, place}
+use Rattle.rows.specs.Kinds.{kindOf, kindCount, count, countPlace, place, largest}
 use Rattle.rows.specs.Rows.{rowPlace}
 use Rattle.table.specs.Check.{badCount, badRow, kindFits, badKind, checkRows, checkBody}
 use Rattle.table.specs.declared.Checked.the-variants.{Accepted, Refused}
@@ -57,9 +57,9 @@ module _ (s : Image) where
 
   -- what is answered of an image whose counts fit, and whose rows fill it
   abbrev Small : Writing → Type 0
-  Small w = placeOf (w .answer) ≤ 3287
+  Small w = placeOf (w .answer) ≤ largest
 
-  rows-small : (buffer : List ℕ) → place s kindCount ≤ 3287 → place s kindCount ≡ length s → Small (placed (checkRows s) s buffer)
+  rows-small : (buffer : List ℕ) → place s kindCount ≤ largest → place s kindCount ≡ length s → Small (placed (checkRows s) s buffer)
   unfolding checkRows
   rows-small buffer h f = go (ltb (badKind s) kindCount) refl
     where
@@ -71,7 +71,7 @@ module _ (s : Image) where
       go true e = let z = bad-inside (ltb-true _ _ e) in omega (arith, z, h)
       go false e = room (ltb (length buffer) (length s))
 
-  filled-small : (buffer : List ℕ) → place s kindCount ≤ 3287 → (b : Bool) → eqb (place s kindCount) (length s) ≡ b →
+  filled-small : (buffer : List ℕ) → place s kindCount ≤ largest → (b : Bool) → eqb (place s kindCount) (length s) ≡ b →
       Small (placed (cond (not b) (Refused Unfilled) (checkRows s)) s buffer)
   filled-small buffer h true e = rows-small buffer h (eqb-true _ _ e)
   filled-small buffer h false e = omega arith
@@ -82,10 +82,10 @@ module _ (s : Image) where
   body-small buffer true e = let z : badCount s < kindCount = ltb-true _ _ e in omega (arith, z)
   body-small buffer false e = filled-small buffer (end-fits s (ltb-false _ _ e)) (eqb (place s kindCount) (length s)) refl
 
-pub small : (counts rows buffer : List ℕ) → placeOf (writing counts rows buffer .answer) ≤ 3287
+pub small : (counts rows buffer : List ℕ) → placeOf (writing counts rows buffer .answer) ≤ largest
 unfolding writing
 small counts rows buffer = go (eqb (length counts) countBytes)
   where
-    go : (b : Bool) → placeOf (cond b (placed (checkBody (imageOf counts rows)) (imageOf counts rows) buffer) (wrote (answers.Refused Short) buffer) .answer) ≤ 3287
+    go : (b : Bool) → placeOf (cond b (placed (checkBody (imageOf counts rows)) (imageOf counts rows) buffer) (wrote (answers.Refused Short) buffer) .answer) ≤ largest
     go true = body-small (imageOf counts rows) buffer (ltb (badCount (imageOf counts rows)) kindCount) refl
     go false = omega arith

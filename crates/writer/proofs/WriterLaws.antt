@@ -10,7 +10,7 @@ use lib.Seq.{sets, sets-eq, take-at, length-take-le}
 use borrow.Author.Tests.{lt-ltb, le-ltb, eq-eqb, ne-eqb}
 use Rattle.lists.specs.Rows.{sets-low, sets-in}
 use Rattle.rows.specs.Bytes.{Image, beBytes}
-use Rattle.rows.specs.Kinds.{kindCount, headBytes, countPlace, place}
+use Rattle.rows.specs.Kinds.{kindCount, headBytes, countPlace, place, largest}
 use Rattle.puts.specs.Written.{Written}
 use Rattle.puts.proofs.NumberLaws.{number-length}
 use Rattle.puts.proofs.WrittenLaws.{sets-append, written-then, written-long}
@@ -48,7 +48,7 @@ module _ (counts rows : List ℕ) where
 
 -- ---- the room: the image, or as much of it as there is room for
 
-module _ (counts rows : List ℕ) (nine : length counts ≡ countBytes) {zeros room : List ℕ} {end : ℕ} (long : length zeros ≡ 3287)
+module _ (counts rows : List ℕ) (nine : length counts ≡ countBytes) {zeros room : List ℕ} {end : ℕ} (long : length zeros ≡ largest)
     (w : Written zeros 0 (imageOf counts rows) room end) where
   abbrev S : Image
   S = imageOf counts rows
@@ -85,7 +85,7 @@ module _ (counts rows : List ℕ) (nine : length counts ≡ countBytes) {zeros r
 
     module _ (l : kindCount ≤ k) {p : ℕ} (q : p ≡ place room kindCount) where
       -- the rows that the counts name end in the room
-      room-for : p ≤ 3287
+      room-for : p ≤ largest
       room-for = let m = end-fits S (rw (← counts-are, ← e) l) in omega (arith, q, end-is, m)
 
       pub in-room : p ≤ length room

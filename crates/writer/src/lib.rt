@@ -12,10 +12,8 @@ use table::ImageRefusal;
 // Bytes of the nine counts.
 pub const COUNT_BYTES: usize = 18;
 
-// No image is longer, and no image's rows are.
-pub const LARGEST: usize = 3287;
-
-pub const LARGEST_ROWS: usize = LARGEST - rows::HEAD;
+// No image has longer rows.
+pub const LARGEST_ROWS: usize = rows::LARGEST - rows::HEAD;
 
 // What the writer answers.
 pub enum Wrote {
@@ -69,7 +67,7 @@ pub fn write(counts: &[u8], rows: &[u8], buffer: &mut [u8]) -> Wrote
     if counts.len() != COUNT_BYTES {
         return Wrote::Refused(ImageRefusal::Short);
     }
-    let mut image = [0u8; LARGEST];
+    let mut image = [0u8; rows::LARGEST];
     put_image(counts, rows, &mut image);
     let k = table::bad_count(&image);
     if k < rows::KINDS {

@@ -1,4 +1,5 @@
 -- `writer::write` meets its contract: step by step. Assumes nothing.
+use Rattle.rows.specs.Kinds.{largest}
 use Rattle.writer.proofs.WriterLaws.{not-nine, refused-count, refused-unfilled, refused-row, no-room, all-written, in-room, taken-long}
 use mathlib.Core.Path.{_≡_}
 use Prim.Native.Nat.{ℕ}
@@ -8,8 +9,8 @@ use Rattle.writer.proofs.write.Statement.{statement}
 use Rattle.writer.proofs.write.Tie as tie
 
 -- the room
-long : length {A = ℕ} (replicate 3287 0) ≡ 3287
-long = length-replicate {A = ℕ} 3287 0
+long : length {A = ℕ} (replicate largest 0) ≡ largest
+long = length-replicate {A = ℕ} largest 0
 
 returns : tie.Need-returns
 returns c = not-nine _ _ _ (c .if1 .taken)
