@@ -1,5 +1,5 @@
 -- The first index that fails a test, with its laws: for a loop that goes over indices and stops at the first that fails. Assumes nothing.
-use mathlib.Core.Path.{_≡_, refl}
+use mathlib.Core.Path.{_≡_, refl, ap, _∙_}
 use mathlib.Core.Bool.{Bool, true, false, cond}
 use Prim.Native.Nat.{ℕ, zero, suc, _+_, _-_, _≤_, _<_}
 use native.Mathlib.Numerals.{add-one}
@@ -61,3 +61,23 @@ module _ (ok : ℕ → Bool) where
           let step : ok (suc i + j) ≡ true = f (omega arith) j (omega arith) in
           rw add-suc (rw suc-add at step)
       go false p f q j m = absurd (omega arith)
+
+-- a search that stops before the end stops at an index that fails
+pub scan-stops : (ok : ℕ → Bool) (n i : ℕ) → scan ok i n < i + n → ok (scan ok i n) ≡ false
+unfolding scan
+scan-stops ok zero i h = absurd (omega arith)
+scan-stops ok (suc n) i h = go (ok i) refl h (λ l. scan-stops ok n (suc i) l)
+  where
+    go : (b : Bool) → ok i ≡ b → cond b (scan ok (suc i) n) i < i + suc n → (scan ok (suc i) n < suc i + n → ok (scan ok (suc i) n) ≡ false) →
+        ok (cond b (scan ok (suc i) n) i) ≡ false
+    go true e l r = r (omega arith)
+    go false e l r = e
+
+-- tests that agree on every index find the same
+pub scan-same : (f g : ℕ → Bool) (n i : ℕ) → ((k : ℕ) → k < n → f (i + k) ≡ g (i + k)) → scan f i n ≡ scan g i n
+unfolding scan
+scan-same f g zero i h = refl
+scan-same f g (suc n) i h =
+    let first : f i ≡ g i = rw add-zero at (h 0 (omega arith)) in
+    let rest : scan f (suc i) n ≡ scan g (suc i) n = scan-same f g n (suc i) (λ k l. rw (add-suc, ← suc-add) at (h (suc k) (omega arith))) in
+    ap (λ b. cond b (scan f (suc i) n) i) first ∙ ap (λ x. cond (g i) x i) rest

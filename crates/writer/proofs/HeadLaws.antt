@@ -1,26 +1,18 @@
 -- Images that begin with the same 23 bytes have the same counts, and the same places for their rows. Assumes nothing.
 use mathlib.Core.Path.{_≡_, refl, ap, _∙_}
-use mathlib.Core.Bool.{Bool, cond, _&&_}
+use mathlib.Core.Bool.{_&&_}
 use Prim.Native.Nat.{ℕ, zero, suc, _+_, _*_, _≤_, _<_}
-use native.Mathlib.Nat.{add-zero, add-suc, suc-add, zero-add}
+use native.Mathlib.Nat.{zero-add}
 use native.Mathlib.Omega.{arith}
 use lib.Dec.{leb}
 use lib.ListN.{getD}
 use borrow.Author.Tests.{leb-true}
-use Rattle.lists.specs.Scan.{scan, scan-all}
+use Rattle.lists.specs.Scan.{scan-all, scan-same}
 use Rattle.lists.specs.Tests.{and-right}
 use Rattle.rows.specs.Bytes.{Image, be}
 use Rattle.rows.specs.Kinds.{kindOf, kindCount, headBytes, count, countPlace, place, largest}
 use Rattle.table.specs.Check.{countFits, badCount}
 use Rattle.table.proofs.Sizes.{rows-end}
-
-scan-same : (f g : ℕ → Bool) (n i : ℕ) → ((k : ℕ) → k < n → f (i + k) ≡ g (i + k)) → scan f i n ≡ scan g i n
-unfolding scan
-scan-same f g zero i h = refl
-scan-same f g (suc n) i h =
-    let first : f i ≡ g i = rw add-zero at (h 0 (omega arith)) in
-    let rest : scan f (suc i) n ≡ scan g (suc i) n = scan-same f g n (suc i) (λ k l. rw (add-suc, ← suc-add) at (h (suc k) (omega arith))) in
-    ap (λ b. cond b (scan f (suc i) n) i) first ∙ ap (λ x. cond (g i) x i) rest
 
 module _ (s t : Image) (h : (i : ℕ) → i < headBytes → getD s i 0 ≡ getD t i 0) where
   same-number : (w at : ℕ) → at + w ≤ headBytes → be w s at ≡ be w t at

@@ -13,8 +13,8 @@ use Rattle.rows.specs.Kinds.{kinds, kindOf, kindCount, headBytes, count, place}
 use Rattle.rows.specs.Rows.{rowPlace}
 use Rattle.rows.specs.Fields.{fieldTable, fieldsOf, widthOf, offsetOf, fieldOf}
 use Rattle.puts.proofs.NumberLaws.{number-length, number-read, read-behind, read-among}
-use Rattle.writer.specs.Writer.{imageOf}
-use Rattle.writer.specs.Numbers.{numberAt, rowNumber, countsIn, countBytes, rowBytes, kindRows, countIn, rowsBefore, rowsIn, allRows}
+use Rattle.writer.specs.Writer.{imageOf, countBytes}
+use Rattle.writer.specs.Numbers.{numberAt, rowNumber, countsIn, allCounts, rowBytes, kindRows, countIn, rowsBefore, rowsIn, allRows}
 use Rattle.writer.proofs.RoundTrip.{count-back, field-back}
 
 -- a place behind the first bytes, and one among them
@@ -150,12 +150,12 @@ module _ (counts ns : List ℕ) where
 
 module _ (ns : List ℕ) where
   abbrev pub counts : List ℕ
-  counts = countBytes ns
+  counts = allCounts ns
 
   abbrev pub imageIn : Image
   imageIn = imageOf counts (allRows counts ns)
 
-  nine : length counts ≡ 18
+  nine : length counts ≡ countBytes
   nine = counts-length ns kindCount
 
   counted : (k : ℕ) → k < kindCount → count imageIn k ≡ countIn counts k

@@ -21,7 +21,7 @@ use Rattle.table.specs.declared.Checked.{Checked}
 use Rattle.table.specs.declared.Checked.the-variants.{Accepted, Refused}
 use Rattle.table.specs.declared.ImageRefusal.the-variants.{Length, Version, Short, Count, Unfilled}
 use Rattle.table.proofs.TableLaws.{table-of, passed}
-use Rattle.writer.specs.Writer.{imageOf, countBytes, wrote, placed, writing}
+use Rattle.writer.specs.Writer.{imageOf, countBytes, wrote, placed, writing, placeOf}
 use Rattle.writer.specs.declared.Wrote.{Wrote}
 use Rattle.writer.specs.declared.Wrote.the-variants as answers
 use Rattle.writer.proofs.HeadLaws.{end-fits}
@@ -112,11 +112,6 @@ isImage (answers.Image n) = 1
 isImage (answers.Refused why) = 0
 isImage answers.NoRoom = 0
 
-abbrev bytesIn : Wrote → ℕ
-bytesIn (answers.Image n) = n
-bytesIn (answers.Refused why) = 0
-bytesIn answers.NoRoom = 0
-
 no-image : {P : Type 0} (a : Wrote) (b : List ℕ) {n : ℕ} {new : List ℕ} → isImage a ≡ 0 → wrote a b ≡ wrote (answers.Image n) new → P
 no-image a b h e = absurd (let z : isImage a ≡ 1 = ap (λ x. isImage (x .answer)) e in omega (arith, h, z))
 
@@ -125,7 +120,7 @@ module _ {P : Type 0} (s : Image) (buffer : List ℕ) {n : ℕ} {new : List ℕ}
   at-front : (b : Bool) → cond b (wrote answers.NoRoom buffer) (wrote (answers.Image (length s)) (sets buffer 0 s)) ≡ wrote (answers.Image n) new →
       (b ≡ false → n ≡ length s → new ≡ sets buffer 0 s → P) → P
   at-front true e k = no-image answers.NoRoom buffer refl e
-  at-front false e k = k refl (sym (ap (λ x. bytesIn (x .answer)) e)) (sym (ap (λ x. x .buffer) e))
+  at-front false e k = k refl (sym (ap (λ x. placeOf (x .answer)) e)) (sym (ap (λ x. x .buffer) e))
 
   was-placed : (c : Checked) → placed c s buffer ≡ wrote (answers.Image n) new → (c ≡ Accepted → length s ≤ length buffer → n ≡ length s → new ≡ sets buffer 0 s → P) → P
   was-placed Accepted e k = at-front (ltb (length buffer) (length s)) e λ h. k refl (ltb-false _ _ h)

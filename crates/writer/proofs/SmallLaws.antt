@@ -11,7 +11,7 @@ use lib.ListN.{length}
 use borrow.Author.Tests.{ltb-true, ltb-false, eqb-true, leb-false}
 use lib.Seq.{sets}
 use Rattle.lists.specs.Tests.{below?}
-use Rattle.lists.specs.Scan.{scan}
+use Rattle.lists.specs.Scan.{scan-stops}
 use Rattle.rows.specs.Bytes.{Image}
 use Rattle.rows.specs.Kinds.{kindOf, kindCount, count, countPlace, place, largest}
 use Rattle.rows.specs.Rows.{rowPlace}
@@ -21,17 +21,6 @@ use Rattle.table.specs.declared.ImageRefusal.the-variants.{Short, Count, Unfill
 use Rattle.writer.specs.Writer.{imageOf, countBytes, Writing, wrote, placed, writing, placeOf}
 use Rattle.writer.specs.declared.Wrote.the-variants as answers
 use Rattle.writer.proofs.HeadLaws.{end-fits}
-
--- a search that stopped before the end stopped at an index that fails
-stopped : (ok : ℕ → Bool) (n i : ℕ) → scan ok i n < i + n → ok (scan ok i n) ≡ false
-unfolding scan
-stopped ok zero i h = absurd (omega arith)
-stopped ok (suc n) i h = go (ok i) refl h (λ l. stopped ok n (suc i) l)
-  where
-    go : (b : Bool) → ok i ≡ b → cond b (scan ok (suc i) n) i < i + suc n → (scan ok (suc i) n < suc i + n → ok (scan ok (suc i) n) ≡ false) →
-        ok (cond b (scan ok (suc i) n) i) ≡ false
-    go true e l r = r (omega arith)
-    go false e l r = e
 
 -- a row lies before the end of all rows
 module _ (s : Image) where
@@ -53,7 +42,7 @@ module _ (s : Image) where
 
   bad-inside : badKind s < kindCount → rowPlace s (badKind s) (badRow s (badKind s)) ≤ place s kindCount
   unfolding badKind kindFits
-  bad-inside h = row-inside (badKind s) (badRow s (badKind s)) h (leb-false _ _ (stopped (kindFits s) kindCount 0 h))
+  bad-inside h = row-inside (badKind s) (badRow s (badKind s)) h (leb-false _ _ (scan-stops (kindFits s) kindCount 0 h))
 
   -- what is answered of an image whose counts fit, and whose rows fill it
   abbrev Small : Writing → Type 0

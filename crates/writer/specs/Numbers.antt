@@ -18,8 +18,8 @@ unfoldable pub countsIn : List ℕ → ℕ → List ℕ
 countsIn ns zero = []
 countsIn ns (suc k) = countsIn ns k ++ beBytes 2 (numberAt ns k)
 
-abbrev pub countBytes : List ℕ → List ℕ
-countBytes ns = countsIn ns kindCount
+abbrev pub allCounts : List ℕ → List ℕ
+allCounts ns = countsIn ns kindCount
 
 -- row j as a row of the kind k: each field in its bytes
 unfoldable pub rowBytes : ℕ → List ℕ → ℕ → List ℕ

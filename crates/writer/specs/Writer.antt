@@ -1,11 +1,12 @@
 -- Document 02, C-11: what the writer answers to counts and rows, and what the lent buffer is then. Assumes nothing.
-use Prim.Native.Nat.{ℕ, _+_}
+use Prim.Native.Nat.{ℕ, _+_, _*_}
 use mathlib.Core.Bool.{cond}
 use mathlib.Core.List.{List, _∷_, _++_}
 use lib.Dec.{ltb, eqb}
 use lib.ListN.{length}
 use lib.Seq.{sets}
 use Rattle.rows.specs.Bytes.{Image, beBytes}
+use Rattle.rows.specs.Kinds.{kindCount}
 use Rattle.table.specs.Check as table
 use Rattle.table.specs.Check.{version, checkBody}
 use Rattle.table.specs.declared.Checked.{Checked}
@@ -18,9 +19,9 @@ use Rattle.writer.specs.declared.Wrote.the-variants as answers
 unfoldable pub imageOf : List ℕ → List ℕ → Image
 imageOf counts rows = beBytes 4 (1 + length counts + length rows) ++ (version ∷ (counts ++ rows))
 
--- nine counts of two bytes
+-- "nine 2-byte counts"
 abbrev pub countBytes : ℕ
-countBytes = 18
+countBytes = 2 * kindCount
 
 -- an answer, and the buffer after it
 pub record Writing : Type 0 where

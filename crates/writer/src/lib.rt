@@ -5,12 +5,12 @@ ghost use Prim.Native.Nat.{_≤_, _^_};
 ghost use lib.ListN.{length};
 ghost use Rattle.puts.specs.Written.{Written};
 ghost use Rattle.writer.specs.Writer.{imageOf, writing, wrote, numberOf, placeOf};
-ghost use Rattle.writer.specs.Numbers.{countBytes, rowBytes, kindRows, allRows};
+ghost use Rattle.writer.specs.Numbers.{allCounts, rowBytes, kindRows, allRows};
 use table::Checked;
 use table::ImageRefusal;
 
 // Bytes of the nine counts.
-pub const COUNT_BYTES: usize = 18;
+pub const COUNT_BYTES: usize = 2 * rows::KINDS as usize;
 
 // No image has longer rows.
 pub const LARGEST_ROWS: usize = rows::LARGEST - rows::HEAD;
@@ -95,13 +95,13 @@ pub fn write(counts: &[u8], rows: &[u8], buffer: &mut [u8]) -> Wrote
 // Bytes of a number, of the counts, and of a row's numbers.
 const NUMBER: usize = 8;
 
-const COUNT_NUMBERS: usize = 72;
+const COUNT_NUMBERS: usize = NUMBER * rows::KINDS as usize;
 
-const ROW_NUMBERS: usize = 24;
+const ROW_NUMBERS: usize = NUMBER * 3;
 
 // The counts of the numbers over the front, two bytes each; how many bytes that are.
 pub fn put_counts(numbers: &[u8], counts: &mut [u8]) -> usize
-    ensures { λ r. ⌜ Written (now (counts .entry)) 0 (countBytes (now (numbers .entry))) (now (counts .exit)) r ⌝ }
+    ensures { λ r. ⌜ Written (now (counts .entry)) 0 (allCounts (now (numbers .entry))) (now (counts .exit)) r ⌝ }
 {
     let mut end: usize = 0;
     let mut k: usize = 0;
