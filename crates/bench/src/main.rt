@@ -2,7 +2,7 @@
 // A day of any length runs in the memory of a small one: records come and lines go through fixed buffers.
 ghost use mathlib.Core.Path.{_≡_};
 ghost use mathlib.Core.Bool.{true};
-ghost use Prim.Native.Nat.{_-_, _≤_};
+ghost use Prim.Native.Nat.{_≤_};
 ghost use lib.ListN.{length};
 ghost use Rattle.table.specs.Check.{isTable, check};
 ghost use Rattle.rows.specs.Kinds.{largest};
@@ -16,22 +16,6 @@ const LARGEST: usize = rows::LARGEST;
 
 // The bytes of a length.
 const LENGTH: usize = gate_day::IMAGE_LENGTH_BYTES;
-
-// The bytes from `from` up to `end` to the front; how many they are.
-fn shift(buffer: &mut [u8], from: usize, end: usize) -> usize
-    requires { ⌜ (from ≤ end) × (end ≤ length (now buffer)) ⌝ }
-    ensures { λ r. ⌜ (r ≡ end - from) × (length (now (buffer .exit)) ≡ length (now (buffer .entry))) ⌝ }
-{
-    let mut i = from;
-    let mut to: usize = 0;
-    while i < end {
-        let byte = buffer[i];
-        buffer[to] = byte;
-        to += 1;
-        i += 1;
-    }
-    end - from
-}
 
 // More of standard input behind what is there; how many bytes are there then.
 fn fill(buffer: &mut [u8], from: usize) -> usize
@@ -79,7 +63,7 @@ fn run(image: &[u8])
             return;
         }
         let before = filled;
-        filled = shift(&mut input, used, total);
+        filled = puts::shift(&mut input, used, total);
         if total == before {
             if used == 0 {
                 if 0 < filled {

@@ -451,7 +451,7 @@ sets-cons : (x : ℕ) (l : List ℕ) (i : ℕ) (vs : List ℕ) → sets (x ∷ l
 sets-cons x l i [] = refl
 sets-cons x l i (v ∷ vs) = sets-cons x (set l i v) (suc i) vs
 
-sets-behind : (l : List ℕ) (m : ℕ) (vs : List ℕ) → m ≤ length l → sets l m vs ≡ take m l ++ sets (drop m l) 0 vs
+pub sets-behind : (l : List ℕ) (m : ℕ) (vs : List ℕ) → m ≤ length l → sets l m vs ≡ take m l ++ sets (drop m l) 0 vs
 sets-behind l zero vs h = refl
 sets-behind [] (suc m) vs h = absurd (omega arith)
 sets-behind (x ∷ l) (suc m) vs h = sets-cons x l m vs ∙ ap (λ t. x ∷ t) (sets-behind l m vs (omega arith))

@@ -1,14 +1,14 @@
 -- Laws of what is written one behind the other. Assumes nothing.
-use mathlib.Core.Path.{_≡_, refl, sym, _∙_}
+use mathlib.Core.Path.{_≡_, refl, sym, ap, _∙_}
 use mathlib.Core.Logic.{_⊎_, inl, inr}
 use mathlib.Core.List.{List, [], _∷_, _++_}
 use Prim.Native.Nat.{ℕ, suc, _+_, _≤_, _<_}
 use native.Mathlib.Omega.{arith}
 use native.Mathlib.Numerals.{add-one}
-use lib.ListN.{length, take, getD, set, length-append}
-use lib.Seq.{sets, length-sets, set-out, take-suc, take-all}
+use lib.ListN.{length, take, drop, getD, set, length-append, length-drop}
+use lib.Seq.{sets, length-sets, set-out, take-suc, take-all, length-take-le, getD-take, getD-drop}
 use Rattle.lists.specs.Tests.{below?}
-use Rattle.lists.specs.Rows.{sets-out}
+use Rattle.lists.specs.Rows.{sets-high, sets-out}
 use Rattle.puts.specs.Written.{Written}
 
 pub sets-append : (l : List ℕ) (i : ℕ) (x y : List ℕ) → sets l i (x ++ y) ≡ sets (sets l i x) (i + length x) y
@@ -75,3 +75,19 @@ copied-next {old} {at} {mid} t i r h w =
 
 pub written-whole : {old : List ℕ} {at : ℕ} {new : List ℕ} {end : ℕ} (t : List ℕ) (i : ℕ) → length t ≤ i → Written old at (take i t) new end → Written old at t new end
 written-whole t i h w = written-as w (take-all i t h)
+
+-- ---- bytes over the front of their own buffer: what is read next lies behind all that is written
+
+module _ {old mid : List ℕ} (from n k : ℕ) (room : from + n ≤ length old) where
+  pub shifted-next : {i : ℕ} → i ≡ from + k → k < n → Written old 0 (take k (take n (drop from old))) mid k → Written old 0 (take (k + 1) (take n (drop from old))) (set mid k (getD mid i 0)) (k + 1)
+  shifted-next q h w =
+      let t = take n (drop from old) in
+      let l : length t ≡ n = length-take-le n (drop from old) (omega (arith, length-drop from old)) in
+      let m : length (take k t) ≡ k = length-take-le k t (omega (arith, l)) in
+      let o = written-long w in
+      let e : getD mid (from + k) 0 ≡ getD t k 0 =
+      ap (λ b. getD b (from + k) 0) (w .all) ∙ (sets-high old 0 (take k t) (from + k) 0 (omega (arith, m)) ∙ sym (getD-take n (drop from old) k 0 h ∙ getD-drop from old k 0)) in
+      rw q (written-next t k (getD mid (from + k) 0) (omega (arith, h, l)) e w (put-in mid k (getD mid (from + k) 0) (omega (arith, o, room))))
+
+  pub shifted-all : n ≤ k → Written old 0 (take k (take n (drop from old))) mid k → Written old 0 (take n (drop from old)) mid k
+  shifted-all h w = written-whole (take n (drop from old)) k (omega (arith, length-take-le n (drop from old) (omega (arith, length-drop from old)))) w

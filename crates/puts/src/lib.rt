@@ -1,7 +1,7 @@
 // Bytes and numbers put into a lent buffer one behind the other. Total: past the buffer's end nothing is written.
 ghost use mathlib.Core.List.{_∷_, []};
-ghost use Prim.Native.Nat.{_+_, _≤_};
-ghost use lib.ListN.{length};
+ghost use Prim.Native.Nat.{_+_, _-_, _≤_};
+ghost use lib.ListN.{length, take, drop};
 ghost use Rattle.rows.specs.Bytes.{beBytes};
 ghost use Rattle.puts.specs.Written.{Written};
 
@@ -67,4 +67,20 @@ pub fn put_number(bytes: &mut [u8], at: usize, width: u8, n: u64) -> usize
     let next = put_number(bytes, at, width - 1, n / 256);
     let low = (n % 256) as u8;
     put(bytes, next, low)
+}
+
+// The bytes from `from` up to `end` over the front; how many they are.
+pub fn shift(buffer: &mut [u8], from: usize, end: usize) -> usize
+    requires { ⌜ (from ≤ end) × (end ≤ length (now buffer)) ⌝ }
+    ensures { λ r. ⌜ Written (now (buffer .entry)) 0 (take (end - from) (drop from (now (buffer .entry)))) (now (buffer .exit)) r ⌝ }
+{
+    let mut i = from;
+    let mut to: usize = 0;
+    while i < end {
+        let byte = buffer[i];
+        buffer[to] = byte;
+        to += 1;
+        i += 1;
+    }
+    to
 }

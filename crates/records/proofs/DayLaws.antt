@@ -60,11 +60,11 @@ records-step s i = turns s (length s) (suc (length s)) i (omega arith) (omega ar
 -- ---- from a place on, a day is the part behind that place
 
 module _ (s : List ℕ) (i j : ℕ) where
-  same-length : lengthAt s (i + j) ≡ lengthAt (drop i s) j
+  pub same-length : lengthAt s (i + j) ≡ lengthAt (drop i s) j
   unfolding lengthAt
   same-length = ap (λ l. lengthOf (take 4 l)) (sym (drop-drop j i s))
 
-  same-record : recordAt s (i + j) ≡ recordAt (drop i s) j
+  pub same-record : recordAt s (i + j) ≡ recordAt (drop i s) j
   unfolding recordAt
   same-record =
       let e : i + j + 4 ≡ i + (j + 4) = omega arith in

@@ -1,15 +1,17 @@
 -- Laws of the records, in the form that the code meets them. Assumes nothing.
-use mathlib.Core.Path.{_≡_, refl, sym, ap, _∙_}
+use mathlib.Core.Path.{_≡_, refl, sym, ap, subst, _∙_}
+use mathlib.Core.Logic.{_⊎_, ⊎-elim}
 use mathlib.Core.Bool.{Bool, true, false, cond, _&&_}
 use mathlib.Core.List.{List, [], _∷_, _++_}
 use Prim.Native.Nat.{ℕ, zero, suc, _+_, _*_, _≤_, _<_}
 use native.Mathlib.Omega.{arith}
+use native.Mathlib.Nat.{le-of-lt, mul-le-mul}
 use native.Mathlib.Numerals.{add-one}
-use lib.Dec.{ltb, leb, eqb}
+use lib.Dec.{ltb, leb, eqb, leb·suc-suc}
 use lib.ListN.{length, take, drop, set, length-append, length-drop}
 use lib.Seq.{take-at, drop-at}
 use borrow.Author.Tests.{lt-ltb, le-ltb, le-leb, lt-leb, eq-eqb, ne-eqb, leb-true}
-use Rattle.lists.specs.Tests.{and-left, flag}
+use Rattle.lists.specs.Tests.{and-left, and-right, and-no, yes-no, flag, same?, below?, gt-eqb}
 use Rattle.lists.specs.Lists.{over, over-write}
 use Rattle.lists.specs.Rows.{tab, tab-length}
 use Rattle.rows.specs.Bytes.{be}
@@ -17,8 +19,9 @@ use Rattle.tags.specs.Tags.{Tag, at}
 use Rattle.tags.specs.Views.{ofGlobal}
 use Rattle.tags.specs.declared.GlobalTag.{GlobalTag}
 use Rattle.machine.specs.Machine as M
-use Rattle.records.specs.Records.{Record, call, malformed, version, mostKeys, mostBytes, tagAt, isBit, isOne, isZero, keyAt, keysAt, keysFill, plainOf, networkOf, controlOf, actionOf, transitionOf, popOf, opOf, bodyOf, counts, broken, missing, lengthOf}
-use Rattle.records.specs.Views.{ofParsed, keyCount, Parses, Filled}
+use Rattle.records.specs.Records.{Record, call, malformed, version, mostKeys, mostBytes, tagAt, isBit, isOne, isZero, keyAt, keysAt, keysFill, plainOf, networkOf, controlOf, actionOf, transitionOf, popOf, opOf, bodyOf, formed, isFormed, counts, broken, missing, lengthOf}
+use Rattle.records.specs.Views.{ofParsed, form, formOf, keyCount, Parses, Filled}
+use Rattle.records.specs.declared.Form.{Form}
 use Rattle.records.specs.declared.Parsed.{Parsed}
 use Rattle.records.specs.declared.Parsed.the-variants.{Plain, Network, Control, Action, Transition, Pop, Malformed}
 
@@ -87,76 +90,244 @@ module _ (b : List ℕ) (i n k : ℕ) (before after : List ℕ) (p : n ≡ be 2 
         long = rw (g, length-append, l, length-drop n before) (omega arith);
       }
 
--- ---- the ops: well formed, or what breaks the form
+-- ---- well formed, by the places of an op's operands
+
+is-formed : (t : Bool) (c : M.Call) → isFormed (formed t c) ≡ t
+is-formed true c = refl
+is-formed false c = refl
+
+abbrev formed-by : Form → List ℕ → Bool
+formed-by f b = leb (be 1 b (f .bit)) 1 && (leb (f .each * be 2 b (f .count)) 256 && eqb (length b) (f .fixed + f .each * be 2 b (f .count)))
+
+half-many : (n : ℕ) → leb n mostKeys ≡ leb (2 * n) 256
+half-many n = ⊎-elim (λ h. lt-leb n mostKeys h ∙ sym (lt-leb (2 * n) 256 (omega arith))) (λ h. le-leb n mostKeys h ∙ sym (le-leb (2 * n) 256 (omega arith))) (below? mostKeys n)
+
+under-two : (n : ℕ) → ltb n 2 ≡ leb n 1
+under-two n = leb·suc-suc n 1
+
+none-more : (n m : ℕ) → n ≡ n + 0 * m
+none-more n m = omega arith
+
+none-many : (m : ℕ) → leb (0 * m) 256 ≡ true
+none-many m = le-leb (0 * m) 256 (omega arith)
+
+module _ (b : List ℕ) where
+  keys-by : (i : ℕ) → keysFill b i ≡ (leb (2 * be 2 b i) 256 && eqb (length b) (i + 2 + 2 * be 2 b i))
+  unfolding keysFill
+  keys-by i = rw (half-many (be 2 b i))
+
+  form-1 : isFormed (plainOf b) ≡ formed-by (form 14 15 2 17) b
+  unfolding plainOf isBit
+  form-1 = rw (is-formed (isBit b 14 && keysFill b 15) _, under-two (be 1 b 14), keys-by 15)
+
+  form-2 : be 1 b 0 ≡ version → isFormed (networkOf b) ≡ formed-by (form 0 14 2 16) b
+  unfolding networkOf
+  form-2 v = rw (is-formed (keysFill b 14) _, v, keys-by 14)
+
+  form-3 : be 1 b 0 ≡ version → isFormed (controlOf b) ≡ formed-by (form 0 0 0 14) b
+  unfolding controlOf
+  form-3 v = rw (is-formed (eqb (length b) 14) _, v, none-many (be 2 b 0), ← none-more 14 (be 2 b 0))
+
+  form-4 : isFormed (actionOf b) ≡ formed-by (form 16 17 2 19) b
+  unfolding actionOf isBit
+  form-4 = rw (is-formed (isBit b 16 && keysFill b 17) _, under-two (be 1 b 16), keys-by 17)
+
+  form-5 : isFormed (transitionOf b) ≡ formed-by (form 6 0 0 19) b
+  unfolding transitionOf isBit
+  form-5 = rw (is-formed (isBit b 6 && eqb (length b) 19) _, under-two (be 1 b 6), none-many (be 2 b 0), ← none-more 19 (be 2 b 0))
+
+  form-6 : be 1 b 0 ≡ version → isFormed (popOf b) ≡ formed-by (form 0 0 0 2) b
+  unfolding popOf
+  form-6 v = rw (is-formed (eqb (length b) 2) _, v, none-many (be 2 b 0), ← none-more 2 (be 2 b 0))
+
+  -- the version is the byte that is 0 or 1 where no other is
+  op-form : be 1 b 0 ≡ version → (op : ℕ) → 0 < op → op ≤ 6 → isFormed (opOf op b) ≡ formed-by (formOf op) b
+  unfolding opOf formOf
+  op-form v op l h =
+      ⊎-elim (λ e. rw e form-1) (λ n₁.
+      ⊎-elim (λ e. rw e (form-2 v)) (λ n₂.
+      ⊎-elim (λ e. rw e (form-3 v)) (λ n₃.
+      ⊎-elim (λ e. rw e form-4) (λ n₄.
+      ⊎-elim (λ e. rw e form-5) (λ n₅. let e : op ≡ 6 = omega arith in rw e (form-6 v)) (same? op 5)) (same? op 4)) (same? op 3)) (same? op 2)) (same? op 1)
+
+module _ {op : ℕ} where
+  pub of-1 : op ≡ 1 → form 14 15 2 17 ≡ formOf op
+  unfolding formOf
+  of-1 e = rw e
+
+  pub of-2 : op ≡ 2 → form 0 14 2 16 ≡ formOf op
+  unfolding formOf
+  of-2 e = rw e
+
+  pub of-3 : op ≡ 3 → form 0 0 0 14 ≡ formOf op
+  unfolding formOf
+  of-3 e = rw e
+
+  pub of-4 : op ≡ 4 → form 16 17 2 19 ≡ formOf op
+  unfolding formOf
+  of-4 e = rw e
+
+  pub of-5 : op ≡ 5 → form 6 0 0 19 ≡ formOf op
+  unfolding formOf
+  of-5 e = rw e
+
+  pub of-others : (op ≡ 1 → ⊥) → (op ≡ 2 → ⊥) → (op ≡ 3 → ⊥) → (op ≡ 4 → ⊥) → (op ≡ 5 → ⊥) → form 0 0 0 2 ≡ formOf op
+  unfolding formOf
+  of-others n₁ n₂ n₃ n₄ n₅ = rw (ne-eqb _ _ n₁, ne-eqb _ _ n₂, ne-eqb _ _ n₃, ne-eqb _ _ n₄, ne-eqb _ _ n₅)
+
+pub ruleset forms = (of-1, of-2, of-3, of-4, of-5, of-others)
+
+-- a form's numbers are small
+record Small (f : Form) : Type 0 where
+  each : f .each ≤ 2
+  fixed : f .fixed ≤ 19
+
+chosen : (b : Bool) {f g : Form} → Small f → Small g → Small (cond b f g)
+chosen true p q = p
+chosen false p q = q
+
+small : (bit count each fixed : ℕ) → each ≤ 2 → fixed ≤ 19 → Small (form bit count each fixed)
+small bit count each fixed p q = record { each = p; fixed = q }
+
+form-small : (op : ℕ) → Small (formOf op)
+unfolding formOf
+form-small op =
+    chosen (eqb op 1) (small 14 15 2 17 (omega arith) (omega arith))
+    (chosen (eqb op 2) (small 0 14 2 16 (omega arith) (omega arith))
+    (chosen (eqb op 3) (small 0 0 0 14 (omega arith) (omega arith))
+    (chosen (eqb op 4) (small 16 17 2 19 (omega arith) (omega arith))
+    (chosen (eqb op 5) (small 6 0 0 19 (omega arith) (omega arith)) (small 0 0 0 2 (omega arith) (omega arith))))))
+
+module _ (op : ℕ) {f : Form} (e : f ≡ formOf op) where
+  pub more-small : (n : ℕ) → n < 65536 → f .each * n ≤ 131072
+  more-small n h = let m = mul-le-mul (subst Small (sym e) (form-small op) .each) (le-of-lt h) in omega (arith, m)
+
+  pub fixed-small : f .fixed ≤ 19
+  fixed-small = subst Small (sym e) (form-small op) .fixed
+
+-- the code's tests, one after the other
+module _ (b : List ℕ) {op : ℕ} (v : be 1 b 0 ≡ version) {f : Form} (e : f ≡ formOf op) (n : op ≡ 0 → ⊥) (l : op ≤ 6) where
+  by-form : isFormed (opOf op b) ≡ formed-by f b
+  by-form = op-form b v op (omega arith) l ∙ ap (λ g. formed-by g b) (sym e)
+
+  pub form-bit : isBit b (f .bit) ≡ false → false ≡ isFormed (opOf op b)
+  unfolding isBit
+  form-bit h = sym (by-form ∙ rw (← under-two (be 1 b (f .bit)), h))
+
+  pub form-many : {k : ℕ} → k ≡ be 2 b (f .count) → 256 < f .each * k → false ≡ isFormed (opOf op b)
+  form-many p h = sym (by-form ∙ rw (← p, lt-leb _ _ h, and-no (leb (be 1 b (f .bit)) 1)))
+
+  pub form-fills : {k : ℕ} → k ≡ be 2 b (f .count) → isBit b (f .bit) ≡ true → f .each * k ≤ 256 → eqb (length b) (f .fixed + f .each * k) ≡ isFormed (opOf op b)
+  unfolding isBit
+  form-fills p g h = sym (by-form ∙ rw (← p, ← under-two (be 1 b (f .bit)), g, le-leb _ _ h))
+
+pub no-op-formed : (b : List ℕ) {op : ℕ} → op ≡ 0 → false ≡ isFormed (opOf op b)
+unfolding opOf
+no-op-formed b e = rw e
+
+pub no-op-over : (b : List ℕ) {op : ℕ} → 6 < op → false ≡ isFormed (opOf op b)
+unfolding opOf
+no-op-over b {op} h = rw (gt-eqb op 1 (omega arith), gt-eqb op 2 (omega arith), gt-eqb op 3 (omega arith), gt-eqb op 4 (omega arith), gt-eqb op 5 (omega arith), gt-eqb op 6 h)
+
+pub body-formed : (b : List ℕ) {w op : ℕ} {r : Bool} → w ≡ be 1 b 0 → w ≡ version → op ≡ be 1 b 1 → r ≡ isFormed (opOf op b) → r ≡ isFormed (bodyOf b)
+unfolding bodyOf
+body-formed b e v o p = rw (← e, v, ← o) p
+
+pub body-not : (b : List ℕ) {w : ℕ} → w ≡ be 1 b 0 → (w ≡ version → ⊥) → false ≡ isFormed (bodyOf b)
+unfolding bodyOf
+body-not b e v = rw (← e, ne-eqb _ _ v)
+
+-- a well-formed record has the version and an op
+pub formed-version : (b : List ℕ) → isFormed (bodyOf b) ≡ true → be 1 b 0 ≡ version
+unfolding bodyOf
+formed-version b h = ⊎-elim (λ e. e) (λ n. absurd (yes-no h (rw (ne-eqb (be 1 b 0) version n)))) (same? (be 1 b 0) version)
+
+module _ (b : List ℕ) (h : isFormed (bodyOf b) ≡ true) where
+  formed-by-op : isFormed (opOf (be 1 b 1) b) ≡ true
+  unfolding bodyOf
+  formed-by-op = rw (formed-version b h) at h
+
+  pub formed-op-some : 0 < be 1 b 1
+  formed-op-some = ⊎-elim (λ l. l) (λ g. let e : be 1 b 1 ≡ 0 = omega arith in absurd (yes-no formed-by-op (sym (no-op-formed b e)))) (below? 0 (be 1 b 1))
+
+  pub formed-op-few : be 1 b 1 ≤ 6
+  formed-op-few = ⊎-elim (λ g. absurd (yes-no formed-by-op (sym (no-op-over b g)))) (λ l. l) (below? 6 (be 1 b 1))
+
+-- ---- the ops: well formed, or not
 
 pub parses-not : {w : Record} {keys : List ℕ} → malformed ≡ w → Parses Malformed keys keys w
 parses-not e = record { is = e; rest = refl; few = omega arith; long = refl }
 
+formed-not : (t : Bool) (c : M.Call) → isFormed (formed t c) ≡ false → malformed ≡ formed t c
+formed-not t c h = rw (sym (is-formed t c) ∙ h)
+
 module _ (b : List ℕ) {before after : List ℕ} {t : GlobalTag} {n : ℕ} where
-  pub plain-yes : {e : Bool} → isBit b 14 ≡ true → keysFill b 15 ≡ true → Filled b 15 n before after → ofGlobal t ≡ tagAt b 2 → e ≡ isOne b 14
+  pub plain-yes : {e : Bool} → isFormed (opOf 1 b) ≡ true → Filled b 15 n before after → ofGlobal t ≡ tagAt b 2 → e ≡ isOne b 14
       → Parses (Plain t e n) before after (plainOf b)
-  unfolding plainOf
-  plain-yes p q f g h = record { is = rw (p, q, ← g, ← h, f .keys); rest = f .rest; few = f .few; long = f .long }
+  unfolding opOf plainOf
+  plain-yes q f g h = record { is = rw (sym (is-formed (isBit b 14 && keysFill b 15) _) ∙ q, ← g, ← h, f .keys); rest = f .rest; few = f .few; long = f .long }
 
-  pub network-yes : keysFill b 14 ≡ true → Filled b 14 n before after → ofGlobal t ≡ tagAt b 2 → Parses (Network t n) before after (networkOf b)
-  unfolding networkOf
-  network-yes q f g = record { is = rw (q, ← g, f .keys); rest = f .rest; few = f .few; long = f .long }
+  pub network-yes : isFormed (opOf 2 b) ≡ true → Filled b 14 n before after → ofGlobal t ≡ tagAt b 2 → Parses (Network t n) before after (networkOf b)
+  unfolding opOf networkOf
+  network-yes q f g = record { is = rw (sym (is-formed (keysFill b 14) _) ∙ q, ← g, f .keys); rest = f .rest; few = f .few; long = f .long }
 
-  pub action-yes : {a : ℕ} {e : Bool} → isBit b 16 ≡ true → keysFill b 17 ≡ true → Filled b 17 n before after → a ≡ be 2 b 2 → ofGlobal t ≡ tagAt b 4
+  pub action-yes : {a : ℕ} {e : Bool} → isFormed (opOf 4 b) ≡ true → Filled b 17 n before after → a ≡ be 2 b 2 → ofGlobal t ≡ tagAt b 4
       → e ≡ isOne b 16 → Parses (Action a t e n) before after (actionOf b)
-  unfolding actionOf
-  action-yes p q f d g h = record { is = rw (p, q, ← g, ← h, ← d, f .keys); rest = f .rest; few = f .few; long = f .long }
+  unfolding opOf actionOf
+  action-yes q f d g h = record { is = rw (sym (is-formed (isBit b 16 && keysFill b 17) _) ∙ q, ← g, ← h, ← d, f .keys); rest = f .rest; few = f .few; long = f .long }
 
 module _ (b : List ℕ) {keys : List ℕ} {t : GlobalTag} where
-  pub control-yes : length b ≡ 14 → ofGlobal t ≡ tagAt b 2 → Parses (Control t) keys keys (controlOf b)
-  unfolding controlOf
-  control-yes p g = record { is = rw (eq-eqb _ _ p, ← g); rest = refl; few = omega arith; long = refl }
+  pub control-yes : isFormed (opOf 3 b) ≡ true → ofGlobal t ≡ tagAt b 2 → Parses (Control t) keys keys (controlOf b)
+  unfolding opOf controlOf
+  control-yes q g = record { is = rw (sym (is-formed (eqb (length b) 14) _) ∙ q, ← g); rest = refl; few = omega arith; long = refl }
 
-  pub transition-yes : {r m : ℕ} {e : Bool} → isBit b 6 ≡ true → length b ≡ 19 → r ≡ be 2 b 2 → m ≡ be 2 b 4 → e ≡ isZero b 6 → ofGlobal t ≡ tagAt b 7
+  pub transition-yes : {r m : ℕ} {e : Bool} → isFormed (opOf 5 b) ≡ true → r ≡ be 2 b 2 → m ≡ be 2 b 4 → e ≡ isZero b 6 → ofGlobal t ≡ tagAt b 7
       → Parses (Transition r m e t) keys keys (transitionOf b)
-  unfolding transitionOf
-  transition-yes p l x y z g = record { is = rw (p, eq-eqb _ _ l, ← g, ← x, ← y, ← z); rest = refl; few = omega arith; long = refl }
+  unfolding opOf transitionOf
+  transition-yes q x y z g = record { is = rw (sym (is-formed (isBit b 6 && eqb (length b) 19) _) ∙ q, ← g, ← x, ← y, ← z); rest = refl; few = omega arith; long = refl }
 
 module _ (b : List ℕ) {keys : List ℕ} where
-  pub pop-yes : length b ≡ 2 → Parses Pop keys keys (popOf b)
-  unfolding popOf
-  pop-yes p = record { is = rw (eq-eqb _ _ p); rest = refl; few = omega arith; long = refl }
+  pub pop-yes : isFormed (opOf 6 b) ≡ true → Parses Pop keys keys (popOf b)
+  unfolding opOf popOf
+  pop-yes q = record { is = rw (sym (is-formed (eqb (length b) 2) _) ∙ q); rest = refl; few = omega arith; long = refl }
 
-  pub plain-bit : isBit b 14 ≡ false → Parses Malformed keys keys (plainOf b)
-  unfolding plainOf
-  plain-bit p = parses-not (rw p)
+  pub plain-not : isFormed (opOf 1 b) ≡ false → Parses Malformed keys keys (plainOf b)
+  unfolding opOf plainOf
+  plain-not q = parses-not (formed-not (isBit b 14 && keysFill b 15) _ q)
 
-  pub plain-keys : isBit b 14 ≡ true → keysFill b 15 ≡ false → Parses Malformed keys keys (plainOf b)
-  unfolding plainOf
-  plain-keys p q = parses-not (rw (p, q))
+  pub network-not : isFormed (opOf 2 b) ≡ false → Parses Malformed keys keys (networkOf b)
+  unfolding opOf networkOf
+  network-not q = parses-not (formed-not (keysFill b 14) _ q)
 
-  pub network-keys : keysFill b 14 ≡ false → Parses Malformed keys keys (networkOf b)
-  unfolding networkOf
-  network-keys q = parses-not (rw q)
+  pub control-not : isFormed (opOf 3 b) ≡ false → Parses Malformed keys keys (controlOf b)
+  unfolding opOf controlOf
+  control-not q = parses-not (formed-not (eqb (length b) 14) _ q)
 
-  pub control-long : (length b ≡ 14 → ⊥) → Parses Malformed keys keys (controlOf b)
-  unfolding controlOf
-  control-long p = parses-not (rw (ne-eqb _ _ p))
+  pub action-not : isFormed (opOf 4 b) ≡ false → Parses Malformed keys keys (actionOf b)
+  unfolding opOf actionOf
+  action-not q = parses-not (formed-not (isBit b 16 && keysFill b 17) _ q)
 
-  pub action-bit : isBit b 16 ≡ false → Parses Malformed keys keys (actionOf b)
-  unfolding actionOf
-  action-bit p = parses-not (rw p)
+  pub transition-not : isFormed (opOf 5 b) ≡ false → Parses Malformed keys keys (transitionOf b)
+  unfolding opOf transitionOf
+  transition-not q = parses-not (formed-not (isBit b 6 && eqb (length b) 19) _ q)
 
-  pub action-keys : isBit b 16 ≡ true → keysFill b 17 ≡ false → Parses Malformed keys keys (actionOf b)
-  unfolding actionOf
-  action-keys p q = parses-not (rw (p, q))
+  pub pop-not : isFormed (opOf 6 b) ≡ false → Parses Malformed keys keys (popOf b)
+  unfolding opOf popOf
+  pop-not q = parses-not (formed-not (eqb (length b) 2) _ q)
 
-  pub transition-bit : isBit b 6 ≡ false → Parses Malformed keys keys (transitionOf b)
-  unfolding transitionOf
-  transition-bit p = parses-not (rw p)
+-- what fills a well-formed record's end
+module _ (b : List ℕ) where
+  pub plain-fill : isFormed (opOf 1 b) ≡ true → keysFill b 15 ≡ true
+  unfolding opOf plainOf
+  plain-fill q = and-right (isBit b 14) _ (sym (is-formed (isBit b 14 && keysFill b 15) _) ∙ q)
 
-  pub transition-long : isBit b 6 ≡ true → (length b ≡ 19 → ⊥) → Parses Malformed keys keys (transitionOf b)
-  unfolding transitionOf
-  transition-long p l = parses-not (rw (p, ne-eqb _ _ l))
+  pub network-fill : isFormed (opOf 2 b) ≡ true → keysFill b 14 ≡ true
+  unfolding opOf networkOf
+  network-fill q = sym (is-formed (keysFill b 14) _) ∙ q
 
-  pub pop-long : (length b ≡ 2 → ⊥) → Parses Malformed keys keys (popOf b)
-  unfolding popOf
-  pop-long p = parses-not (rw (ne-eqb _ _ p))
+  pub action-fill : isFormed (opOf 4 b) ≡ true → keysFill b 17 ≡ true
+  unfolding opOf actionOf
+  action-fill q = and-right (isBit b 16) _ (sym (is-formed (isBit b 16 && keysFill b 17) _) ∙ q)
 
 -- ---- the op, the version, the length
 
@@ -218,6 +389,6 @@ module _ (b : List ℕ) where
 pub ruleset lengths = (length-missing, length-short, length-counts, length-over)
 
 -- by the op's tests: well formed, or not
-pub ruleset ops = (plain-yes, network-yes, action-yes, transition-yes, plain-bit, plain-keys, network-keys, action-bit, action-keys, transition-bit, transition-long, flag)
+pub ruleset ops = (plain-yes, network-yes, control-yes, action-yes, transition-yes, pop-yes, plain-not, network-not, control-not, action-not, transition-not, pop-not, plain-fill, network-fill, action-fill, flag)
 
 pub ruleset bodies = (op-1, op-2, op-3, op-4, op-5, op-6, no-op, version-yes, version-no)

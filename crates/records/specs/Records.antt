@@ -97,6 +97,13 @@ opOf op b =
 unfoldable pub bodyOf : List ℕ → Record
 bodyOf b = cond (eqb (be 1 b 0) version) (opOf (be 1 b 1) b) malformed
 
+-- whether a record is well formed
+abbrev pub isFormed : Record → Bool
+isFormed (call c) = true
+isFormed malformed = false
+isFormed cut = false
+isFormed over = false
+
 -- ---- the length before them: "The length counts what follows it."
 
 pub data Length : Type 0 where

@@ -1,7 +1,9 @@
 -- The code's answers as records. Assumes nothing.
 use Prim.Native.Nat.{ℕ, _≤_}
 use mathlib.Core.Path.{_≡_}
+use mathlib.Core.Bool.{cond}
 use mathlib.Core.List.{List}
+use lib.Dec.{eqb}
 use lib.ListN.{length, take, drop}
 use Rattle.tags.specs.Views.{ofGlobal}
 use Rattle.machine.specs.Machine as M
@@ -9,6 +11,7 @@ use Rattle.records.specs.Records as R
 use Rattle.records.specs.Records.{Record, Length, mostKeys, keysAt}
 use Rattle.records.specs.declared.Parsed.{Parsed}
 use Rattle.records.specs.declared.Parsed.the-variants.{Plain, Network, Control, Action, Transition, Pop, Malformed}
+use Rattle.records.specs.declared.Form.{Form}
 use Rattle.records.specs.declared.Head.{Head}
 use Rattle.records.specs.declared.Head.the-variants.{Counts, Broken, Missing}
 
@@ -21,6 +24,18 @@ ofParsed (Action a t terminal n) keys = R.call (M.action a (ofGlobal t) terminal
 ofParsed (Transition r m reset t) keys = R.call (M.transit r m reset (ofGlobal t))
 ofParsed Pop keys = R.call M.pop
 ofParsed Malformed keys = R.malformed
+
+-- the operands of each op, as places: "plain (tag 12, terminal 1, count 2, reactions 2 each)" and so on
+abbrev pub form : ℕ → ℕ → ℕ → ℕ → Form
+form bit count each fixed = record { bit = bit; count = count; each = each; fixed = fixed }
+
+unfoldable pub formOf : ℕ → Form
+formOf op =
+    cond (eqb op 1) (form 14 15 2 17)
+    (cond (eqb op 2) (form 0 14 2 16)
+    (cond (eqb op 3) (form 0 0 0 14)
+    (cond (eqb op 4) (form 16 17 2 19)
+    (cond (eqb op 5) (form 6 0 0 19) (form 0 0 0 2)))))
 
 -- how many keys it has there
 abbrev pub keyCount : Parsed → ℕ

@@ -5,9 +5,10 @@ ghost use mathlib.Core.Bool.{true};
 ghost use Prim.Native.Nat.{ℕ};
 ghost use mathlib.Core.List.{List};
 ghost use lib.ListN.{length};
+ghost use Rattle.rows.specs.Bytes.{be};
 ghost use Rattle.tags.specs.Views.{ofGlobal};
-ghost use Rattle.records.specs.Records.{mostKeys, tagAt, isBit, isOne, isZero, keysFill, plainOf, networkOf, controlOf, actionOf, transitionOf, popOf, opOf, bodyOf, lengthOf};
-ghost use Rattle.records.specs.Views.{Parses, Filled, ofHead};
+ghost use Rattle.records.specs.Records.{version, mostKeys, tagAt, isBit, isOne, isZero, keysFill, plainOf, networkOf, controlOf, actionOf, transitionOf, popOf, opOf, bodyOf, isFormed, lengthOf};
+ghost use Rattle.records.specs.Views.{Parses, Filled, formOf, ofHead};
 use tags::GlobalTag;
 
 // A record names at most so many reactions.
@@ -20,6 +21,8 @@ pub const MOST_BYTES: usize = 512;
 pub const LENGTH_BYTES: usize = 4;
 
 const VERSION: u8 = 1;
+
+const LAST_OP: u8 = 6;
 
 // A record; where it has reaction keys, how many, and they stand beside it in a lent array.
 pub enum Parsed {
@@ -108,28 +111,114 @@ fn read_keys(body: &[u8], at: u8, keys: &mut [u16; MOST_KEYS]) -> u16
     count
 }
 
+// ---- whether a body is well formed
+
+// Where a record's operands stand: the byte that is 0 or 1 (the version, where no other is), the count of what is at its end, how many bytes each of
+// these has, and how many bytes all the others have.
+struct Form {
+    bit: usize,
+    count: usize,
+    each: usize,
+    fixed: usize,
+}
+
+fn form_of(op: u8) -> Form
+    ensures { λ r. ⌜ r ≡ formOf op ⌝ }
+{
+    match op {
+        1 => Form {
+            bit: 14,
+            count: 15,
+            each: 2,
+            fixed: 17,
+        },
+        2 => Form {
+            bit: 0,
+            count: 14,
+            each: 2,
+            fixed: 16,
+        },
+        3 => Form {
+            bit: 0,
+            count: 0,
+            each: 0,
+            fixed: 14,
+        },
+        4 => Form {
+            bit: 16,
+            count: 17,
+            each: 2,
+            fixed: 19,
+        },
+        5 => Form {
+            bit: 6,
+            count: 0,
+            each: 0,
+            fixed: 19,
+        },
+        _ => Form {
+            bit: 0,
+            count: 0,
+            each: 0,
+            fixed: 2,
+        },
+    }
+}
+
+// By its op, where the version is right.
+fn op_formed(body: &[u8], op: u8) -> bool
+    requires { ⌜ be 1 (now body) 0 ≡ version ⌝ }
+    ensures { λ r. ⌜ r ≡ isFormed (opOf op (now (body .entry))) ⌝ }
+{
+    if op == 0 {
+        return false;
+    }
+    if LAST_OP < op {
+        return false;
+    }
+    let form = form_of(op);
+    if is_bit(body, form.bit) {
+        let count = rows::two_bytes(body, form.count) as usize;
+        let more = form.each * count;
+        if more <= 2 * MOST_KEYS {
+            return body.len() == form.fixed + more;
+        }
+    }
+    false
+}
+
+// Whether the record that has exactly these bytes behind its length is well formed. At most five of them are looked at.
+pub fn is_formed(body: &[u8]) -> bool
+    ensures { λ r. ⌜ r ≡ isFormed (bodyOf (now (body .entry))) ⌝ }
+{
+    let version = rows::one_byte(body, 0);
+    if version == VERSION {
+        let op = rows::one_byte(body, 1);
+        return op_formed(body, op);
+    }
+    false
+}
+
 // ---- the ops, each from the whole body
 
 fn plain(body: &[u8], keys: &mut [u16; MOST_KEYS]) -> Parsed
-    requires { ⌜ length (now keys) ≡ mostKeys ⌝ }
+    requires { ⌜ (length (now keys) ≡ mostKeys) × (be 1 (now body) 0 ≡ version) ⌝ }
     ensures { λ r. ⌜ Parses r (now (keys .entry)) (now (keys .exit)) (plainOf (now (body .entry))) ⌝ }
 {
-    if is_bit(body, 14) {
-        if keys_fill(body, 15) {
-            let n = read_keys(body, 15, keys);
-            let tag = tag_at(body, 2);
-            let terminal = is_one(body, 14);
-            return Parsed::Plain(tag, terminal, n);
-        }
+    if op_formed(body, 1) {
+        let n = read_keys(body, 15, keys);
+        let tag = tag_at(body, 2);
+        let terminal = is_one(body, 14);
+        return Parsed::Plain(tag, terminal, n);
     }
     Parsed::Malformed
 }
 
 fn network(body: &[u8], keys: &mut [u16; MOST_KEYS]) -> Parsed
-    requires { ⌜ length (now keys) ≡ mostKeys ⌝ }
+    requires { ⌜ (length (now keys) ≡ mostKeys) × (be 1 (now body) 0 ≡ version) ⌝ }
     ensures { λ r. ⌜ Parses r (now (keys .entry)) (now (keys .exit)) (networkOf (now (body .entry))) ⌝ }
 {
-    if keys_fill(body, 14) {
+    if op_formed(body, 2) {
         let n = read_keys(body, 14, keys);
         let tag = tag_at(body, 2);
         return Parsed::Network(tag, n);
@@ -138,9 +227,10 @@ fn network(body: &[u8], keys: &mut [u16; MOST_KEYS]) -> Parsed
 }
 
 fn control(body: &[u8]) -> Parsed
+    requires { ⌜ be 1 (now body) 0 ≡ version ⌝ }
     ensures { λ r. ⌜ ((keys : List ℕ) → Parses r keys keys (controlOf (now (body .entry)))) ⌝ }
 {
-    if body.len() == 14 {
+    if op_formed(body, 3) {
         let tag = tag_at(body, 2);
         return Parsed::Control(tag);
     }
@@ -148,47 +238,45 @@ fn control(body: &[u8]) -> Parsed
 }
 
 fn action(body: &[u8], keys: &mut [u16; MOST_KEYS]) -> Parsed
-    requires { ⌜ length (now keys) ≡ mostKeys ⌝ }
+    requires { ⌜ (length (now keys) ≡ mostKeys) × (be 1 (now body) 0 ≡ version) ⌝ }
     ensures { λ r. ⌜ Parses r (now (keys .entry)) (now (keys .exit)) (actionOf (now (body .entry))) ⌝ }
 {
-    if is_bit(body, 16) {
-        if keys_fill(body, 17) {
-            let n = read_keys(body, 17, keys);
-            let key = rows::two_bytes(body, 2);
-            let tag = tag_at(body, 4);
-            let terminal = is_one(body, 16);
-            return Parsed::Action(key, tag, terminal, n);
-        }
+    if op_formed(body, 4) {
+        let n = read_keys(body, 17, keys);
+        let key = rows::two_bytes(body, 2);
+        let tag = tag_at(body, 4);
+        let terminal = is_one(body, 16);
+        return Parsed::Action(key, tag, terminal, n);
     }
     Parsed::Malformed
 }
 
 fn transition(body: &[u8]) -> Parsed
+    requires { ⌜ be 1 (now body) 0 ≡ version ⌝ }
     ensures { λ r. ⌜ ((keys : List ℕ) → Parses r keys keys (transitionOf (now (body .entry)))) ⌝ }
 {
-    if is_bit(body, 6) {
-        if body.len() == 19 {
-            let reactor = rows::two_bytes(body, 2);
-            let mode = rows::two_bytes(body, 4);
-            let reset = is_zero(body, 6);
-            let tag = tag_at(body, 7);
-            return Parsed::Transition(reactor, mode, reset, tag);
-        }
+    if op_formed(body, 5) {
+        let reactor = rows::two_bytes(body, 2);
+        let mode = rows::two_bytes(body, 4);
+        let reset = is_zero(body, 6);
+        let tag = tag_at(body, 7);
+        return Parsed::Transition(reactor, mode, reset, tag);
     }
     Parsed::Malformed
 }
 
 fn pop(body: &[u8]) -> Parsed
+    requires { ⌜ be 1 (now body) 0 ≡ version ⌝ }
     ensures { λ r. ⌜ ((keys : List ℕ) → Parses r keys keys (popOf (now (body .entry)))) ⌝ }
 {
-    if body.len() == 2 {
+    if op_formed(body, 6) {
         return Parsed::Pop;
     }
     Parsed::Malformed
 }
 
 fn parse_op(body: &[u8], op: u8, keys: &mut [u16; MOST_KEYS]) -> Parsed
-    requires { ⌜ length (now keys) ≡ mostKeys ⌝ }
+    requires { ⌜ (length (now keys) ≡ mostKeys) × (be 1 (now body) 0 ≡ version) ⌝ }
     ensures { λ r. ⌜ Parses r (now (keys .entry)) (now (keys .exit)) (opOf op (now (body .entry))) ⌝ }
 {
     match op {

@@ -1,4 +1,4 @@
--- No place that the writer answers lies behind the largest image, and no image is larger. Assumes nothing.
+-- No place that the reader or the writer answers lies behind the largest image, and no image is larger. Assumes nothing.
 use mathlib.Core.Path.{_≡_, refl}
 use mathlib.Core.Bool.{Bool, true, false, cond, not}
 use mathlib.Core.List.{List}
@@ -12,13 +12,15 @@ use borrow.Author.Tests.{ltb-true, ltb-false, eqb-true, leb-false}
 use lib.Seq.{sets}
 use Rattle.lists.specs.Tests.{below?}
 use Rattle.lists.specs.Scan.{scan-stops}
-use Rattle.rows.specs.Bytes.{Image}
+use Rattle.rows.specs.Bytes.{Image, be}
 use Rattle.rows.specs.Kinds.{kindOf, kindCount, count, countPlace, place, largest}
 use Rattle.rows.specs.Rows.{rowPlace}
-use Rattle.table.specs.Check.{badCount, badRow, kindFits, badKind, checkRows, checkBody}
+use Rattle.table.specs.Check as table
+use Rattle.table.specs.Check.{badCount, badRow, kindFits, badKind, checkRows, checkBody, check, wrongLength, version}
+use Rattle.table.specs.declared.Checked.{Checked}
 use Rattle.table.specs.declared.Checked.the-variants.{Accepted, Refused}
-use Rattle.table.specs.declared.ImageRefusal.the-variants.{Short, Count, Unfilled, Row}
-use Rattle.writer.specs.Writer.{imageOf, countBytes, Writing, wrote, placed, writing, placeOf}
+use Rattle.table.specs.declared.ImageRefusal.the-variants.{Length, Version, Short, Count, Unfilled, Row}
+use Rattle.writer.specs.Writer.{imageOf, countBytes, wrote, placed, writing, placeOf}
 use Rattle.writer.specs.declared.Wrote.the-variants as answers
 use Rattle.writer.proofs.HeadLaws.{end-fits}
 
@@ -44,37 +46,58 @@ module _ (s : Image) where
   unfolding badKind kindFits
   bad-inside h = row-inside (badKind s) (badRow s (badKind s)) h (leb-false _ _ (scan-stops (kindFits s) kindCount 0 h))
 
-  -- what is answered of an image whose counts fit, and whose rows fill it
-  abbrev Small : Writing → Type 0
-  Small w = placeOf (w .answer) ≤ largest
+  -- the place that is answered, and all of an image that is accepted
+  abbrev pub placeIn : Checked → ℕ
+  placeIn Accepted = length s
+  placeIn (Refused why) = table.placeOf why
 
-  rows-small : (buffer : List ℕ) → place s kindCount ≤ largest → place s kindCount ≡ length s → Small (placed (checkRows s) s buffer)
+  rows-small : place s kindCount ≤ largest → place s kindCount ≡ length s → placeIn (checkRows s) ≤ largest
   unfolding checkRows
-  rows-small buffer h f = go (ltb (badKind s) kindCount) refl
+  rows-small h f = go (ltb (badKind s) kindCount) refl
     where
-      room : (b : Bool) → Small (cond b (wrote answers.NoRoom buffer) (wrote (answers.Image (length s)) (sets buffer 0 s)))
-      room true = omega arith
-      room false = omega (arith, h, f)
-
-      go : (b : Bool) → ltb (badKind s) kindCount ≡ b → Small (placed (cond b (Refused (Row (rowPlace s (badKind s) (badRow s (badKind s))))) Accepted) s buffer)
+      go : (b : Bool) → ltb (badKind s) kindCount ≡ b → placeIn (cond b (Refused (Row (rowPlace s (badKind s) (badRow s (badKind s))))) Accepted) ≤ largest
       go true e = let z = bad-inside (ltb-true _ _ e) in omega (arith, z, h)
-      go false e = room (ltb (length buffer) (length s))
+      go false e = omega (arith, h, f)
 
-  filled-small : (buffer : List ℕ) → place s kindCount ≤ largest → (b : Bool) → eqb (place s kindCount) (length s) ≡ b →
-      Small (placed (cond (not b) (Refused Unfilled) (checkRows s)) s buffer)
-  filled-small buffer h true e = rows-small buffer h (eqb-true _ _ e)
-  filled-small buffer h false e = omega arith
+  filled-small : place s kindCount ≤ largest → (b : Bool) → eqb (place s kindCount) (length s) ≡ b → placeIn (cond (not b) (Refused Unfilled) (checkRows s)) ≤ largest
+  filled-small h true e = rows-small h (eqb-true _ _ e)
+  filled-small h false e = omega arith
 
-  body-small : (buffer : List ℕ) (b : Bool) → ltb (badCount s) kindCount ≡ b →
-      Small (placed (cond b (Refused (Count (countPlace (badCount s)))) (cond (not (eqb (place s kindCount) (length s))) (Refused Unfilled) (checkRows s))) s buffer)
+  body-small : placeIn (checkBody s) ≤ largest
   unfolding countPlace
-  body-small buffer true e = let z : badCount s < kindCount = ltb-true _ _ e in omega (arith, z)
-  body-small buffer false e = filled-small buffer (end-fits s (ltb-false _ _ e)) (eqb (place s kindCount) (length s)) refl
+  body-small = go (ltb (badCount s) kindCount) refl
+    where
+      go : (b : Bool) → ltb (badCount s) kindCount ≡ b →
+          placeIn (cond b (Refused (Count (countPlace (badCount s)))) (cond (not (eqb (place s kindCount) (length s))) (Refused Unfilled) (checkRows s))) ≤ largest
+      go true e = let z : badCount s < kindCount = ltb-true _ _ e in omega (arith, z)
+      go false e = filled-small (end-fits s (ltb-false _ _ e)) (eqb (place s kindCount) (length s)) refl
+
+  -- by the reader
+  pub check-small : placeIn (check s) ≤ largest
+  unfolding check
+  check-small = go (wrongLength s) (not (eqb (be 1 s 4) version)) (ltb (length s) 23)
+    where
+      go : (a b c : Bool) → placeIn (cond a (Refused Length) (cond b (Refused Version) (cond c (Refused Short) (checkBody s)))) ≤ largest
+      go true b c = omega arith
+      go false true c = omega arith
+      go false false true = omega arith
+      go false false false = body-small
 
 pub small : (counts rows buffer : List ℕ) → placeOf (writing counts rows buffer .answer) ≤ largest
 unfolding writing
 small counts rows buffer = go (eqb (length counts) countBytes)
   where
-    go : (b : Bool) → placeOf (cond b (placed (checkBody (imageOf counts rows)) (imageOf counts rows) buffer) (wrote (answers.Refused Short) buffer) .answer) ≤ largest
-    go true = body-small (imageOf counts rows) buffer (ltb (badCount (imageOf counts rows)) kindCount) refl
+    s : Image
+    s = imageOf counts rows
+
+    room : (b : Bool) → length s ≤ largest → placeOf (cond b (wrote answers.NoRoom buffer) (wrote (answers.Image (length s)) (sets buffer 0 s)) .answer) ≤ largest
+    room true h = omega arith
+    room false h = h
+
+    by : (c : Checked) → placeIn s c ≤ largest → placeOf (placed c s buffer .answer) ≤ largest
+    by Accepted h = room (ltb (length buffer) (length s)) h
+    by (Refused why) h = h
+
+    go : (b : Bool) → placeOf (cond b (placed (checkBody s) s buffer) (wrote (answers.Refused Short) buffer) .answer) ≤ largest
+    go true = by (checkBody s) (body-small s)
     go false = omega arith

@@ -13,7 +13,7 @@ use Rattle.bench.proofs.run.Reads as reads
 use Rattle.bench.proofs.run.Lts as lts
 use Rattle.bench.proofs.fill.Reads as fill-reads
 use Rattle.bench.proofs.say_cut.Reads as say-cut-reads
-use Rattle.bench.proofs.shift.Reads as shift-reads
+use Rattle.puts.proofs.shift.Reads as shift-reads
 use Rattle.gate_day.proofs.run_records.Reads as run-records-reads
 use Rattle.gate_day.proofs.start.Reads as start-reads
 use Rattle.io.proofs.large_buffer.Reads as large-buffer-reads
@@ -92,13 +92,13 @@ loop-less : tie.Need-loop-less Inv-loop μ-loop
 loop-less c = let t = c .before .before .before .before .before .before .before .before .before .before .before .before .before .before .before .before .before .loop-test .taken in omega (arith, t)
 
 loop-again : tie.Need-loop-again Inv-loop μ-loop
-loop-again c = (c .before .before .before .before .before .before .before .before .before .before .before .run-records .ensures .0, c .before .before .before .before .before .before .before .before .before .before .before .before .before .before .before .before .before .before .loop .inv .1 ∙ (sym (c .before .before .before .before .before .before .before .before .before .before .before .before .before .before .before .fill .ensures .1) ∙ sym (c .before .before .before .shift .ensures .1)), c .before .before .before .before .before .before .before .before .before .before .before .before .before .before .before .before .before .before .loop .inv .2 ∙ sym (written-long (c .before .before .before .before .before .before .before .before .before .before .before .run-records .ensures .1 .lines)), omega (arith, c .before .before .before .shift .ensures .0, c .before .before .before .before .before .before .before .before .before .before .before .before .before .before .before .fill .ensures .0, c .before .before .before .before .before .before .before .before .before .before .before .before .before .before .before .before .before .before .loop .inv .1, c .before .before .before .before .before .before .before .before .before .before .before .before .before .before .before .fill .ensures .1))
+loop-again c = (c .before .before .before .before .before .before .before .before .before .before .before .run-records .ensures .0, c .before .before .before .before .before .before .before .before .before .before .before .before .before .before .before .before .before .before .loop .inv .1 ∙ (sym (c .before .before .before .before .before .before .before .before .before .before .before .before .before .before .before .fill .ensures .1) ∙ sym (written-long (c .before .before .before .shift .ensures))), c .before .before .before .before .before .before .before .before .before .before .before .before .before .before .before .before .before .before .loop .inv .2 ∙ sym (written-long (c .before .before .before .before .before .before .before .before .before .before .before .run-records .ensures .1 .lines)), omega (arith, written-room (c .before .before .before .shift .ensures), written-long (c .before .before .before .shift .ensures), c .before .before .before .before .before .before .before .before .before .before .before .before .before .before .before .fill .ensures .0, c .before .before .before .before .before .before .before .before .before .before .before .before .before .before .before .before .before .before .loop .inv .1, c .before .before .before .before .before .before .before .before .before .before .before .before .before .before .before .fill .ensures .1))
 
 loop-less-2 : tie.Need-loop-less-2 Inv-loop μ-loop
 loop-less-2 c = let t = c .before .before .before .before .before .before .before .before .before .before .before .before .before .before .before .before .loop-test .taken in omega (arith, t)
 
 loop-again-2 : tie.Need-loop-again-2 Inv-loop μ-loop
-loop-again-2 c = (c .before .before .before .before .before .before .before .before .before .before .run-records .ensures .0, c .before .before .before .before .before .before .before .before .before .before .before .before .before .before .before .before .before .loop .inv .1 ∙ (sym (c .before .before .before .before .before .before .before .before .before .before .before .before .before .before .fill .ensures .1) ∙ sym (c .before .before .shift .ensures .1)), c .before .before .before .before .before .before .before .before .before .before .before .before .before .before .before .before .before .loop .inv .2 ∙ sym (written-long (c .before .before .before .before .before .before .before .before .before .before .run-records .ensures .1 .lines)), omega (arith, c .before .before .shift .ensures .0, c .before .before .before .before .before .before .before .before .before .before .before .before .before .before .fill .ensures .0, c .before .before .before .before .before .before .before .before .before .before .before .before .before .before .before .before .before .loop .inv .1, c .before .before .before .before .before .before .before .before .before .before .before .before .before .before .fill .ensures .1))
+loop-again-2 c = (c .before .before .before .before .before .before .before .before .before .before .run-records .ensures .0, c .before .before .before .before .before .before .before .before .before .before .before .before .before .before .before .before .before .loop .inv .1 ∙ (sym (c .before .before .before .before .before .before .before .before .before .before .before .before .before .before .fill .ensures .1) ∙ sym (written-long (c .before .before .shift .ensures))), c .before .before .before .before .before .before .before .before .before .before .before .before .before .before .before .before .before .loop .inv .2 ∙ sym (written-long (c .before .before .before .before .before .before .before .before .before .before .run-records .ensures .1 .lines)), omega (arith, written-room (c .before .before .shift .ensures), written-long (c .before .before .shift .ensures), c .before .before .before .before .before .before .before .before .before .before .before .before .before .before .fill .ensures .0, c .before .before .before .before .before .before .before .before .before .before .before .before .before .before .before .before .before .loop .inv .1, c .before .before .before .before .before .before .before .before .before .before .before .before .before .before .fill .ensures .1))
 
 returns-5 : tie.Need-returns-5 Inv-loop μ-loop
 returns-5 c = search needs

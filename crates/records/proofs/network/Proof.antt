@@ -4,8 +4,8 @@ use borrow.Author.Needs.{needs}
 use Rattle.records.proofs.network.Statement.{statement}
 use Rattle.records.proofs.network.Tie as tie
 
-keys-fill-requires : tie.Need-keys-fill-requires
-keys-fill-requires c κs = search needs
+op-formed-requires : tie.Need-op-formed-requires
+op-formed-requires c κs = search needs
 
 read-keys-requires : tie.Need-read-keys-requires
 read-keys-requires c κs = (search needs, search ops)
@@ -21,4 +21,4 @@ returns-2 c = search ops
 
 pub network-spec : {M : Type 1} → statement M
 network-spec =
-    tie.close (tie.spec keys-fill-requires read-keys-requires tag-at-requires returns returns-2)
+    tie.close (tie.spec op-formed-requires read-keys-requires tag-at-requires returns returns-2)

@@ -4,8 +4,8 @@ use borrow.Author.Needs.{needs}
 use Rattle.records.proofs.transition.Statement.{statement}
 use Rattle.records.proofs.transition.Tie as tie
 
-is-bit-requires : tie.Need-is-bit-requires
-is-bit-requires c κs = search needs
+op-formed-requires : tie.Need-op-formed-requires
+op-formed-requires c κs = search needs
 
 two-bytes-requires : tie.Need-two-bytes-requires
 two-bytes-requires c κs = search needs
@@ -25,18 +25,14 @@ returns c = λ keys. search ops
 returns-2 : tie.Need-returns-2
 returns-2 c = λ keys. search ops
 
-returns-3 : tie.Need-returns-3
-returns-3 c = λ keys. search ops
-
 pub transition-spec : {M : Type 1} → statement M
 transition-spec =
     tie.close
     (tie.spec
-    is-bit-requires
+    op-formed-requires
     two-bytes-requires
     two-bytes-requires-2
     is-zero-requires
     tag-at-requires
     returns
-    returns-2
-    returns-3)
+    returns-2)
