@@ -4,3 +4,4 @@ pub mod WordLaws
 pub mod FitLaws
 pub mod AnswerLaws
 pub mod MapLaws
+pub mod RescueLaws

@@ -1,9 +1,9 @@
--- The table check, the table writer and the clock maps, as C has them. Assumes nothing.
-use Prim.Native.Nat.{ℕ, _+_, _*_}
+-- The table check, the table writer, the rescue and the clock maps, as C has them. Assumes nothing.
+use Prim.Native.Nat.{ℕ, _+_, _*_, _/_, min}
 use mathlib.Core.Bool.{Bool, cond, _&&_}
-use mathlib.Core.List.{List}
+use mathlib.Core.List.{List, [], _∷_, _++_}
 use lib.Dec.{eqb}
-use lib.ListN.{length}
+use lib.ListN.{length, take, drop}
 use Rattle.lists.specs.Walk.{done, refused}
 use Rattle.refusals.specs.Refusals.{numberOf}
 use Rattle.refusals.specs.declared.Refusal.the-variants.{StateRule}
@@ -12,10 +12,14 @@ use Rattle.table.specs.declared.Checked.{Checked}
 use Rattle.table.specs.declared.Checked.the-variants.{Accepted, Refused}
 use Rattle.writer.specs.Writer as writer
 use Rattle.writer.specs.Writer.{Writing}
+use Rattle.rescue.specs.Rescue.{saved}
+use Rattle.rescue.specs.declared.Totals.{Totals}
+use Rattle.rescue.specs.declared.Rescued.{Rescued}
+use Rattle.rescue.specs.declared.Rescued.the-variants as answers
 use Rattle.tags.specs.Tags.{Tag, Clock, Answer}
 use Rattle.records.specs.Records.{tagAt, isBit, isOne}
 use Rattle.rows.specs.Bytes.{beBytes}
-use Rattle.exports.specs.Told.{Told, told, front, withRoom, tagBytes}
+use Rattle.exports.specs.Told.{Told, told, front, withRoom, noRoom, wordBytes, tagBytes}
 
 -- ---- the table check: 0 for a table, or the refusal's number; its place in eight bytes, 0 for a table
 
@@ -37,6 +41,36 @@ half = 4294967296
 
 unfoldable pub writeTold : Writing → Told
 writeTold w = told (writer.numberOf (w .answer) * half + writer.placeOf (w .answer)) (w .buffer)
+
+-- ---- the rescue of a damaged day
+
+-- what is told, and what both lent slices are then
+pub record Rescuing : Type 0 where
+  pub number : ℕ
+  pub output : List ℕ
+  pub report : List ℕ
+
+abbrev pub rescueTold : ℕ → List ℕ → List ℕ → Rescuing
+rescueTold n output report = record { number = n; output = output; report = report }
+
+-- three numbers of eight bytes before the runs: the bytes of the output, the records kept and the runs dropped
+abbrev pub reportHead : ℕ
+reportHead = 24
+
+abbrev pub headOf : Totals → List ℕ
+headOf t = wordBytes (t .written ∷ (t .records ∷ (t .listed / 16 ∷ [])))
+
+-- 0, and the head over the front of the report; or the refusal's number in the high half and its place in the low one, and all stays as it was
+abbrev pub rescueBy : Rescued → List ℕ → List ℕ → Rescuing
+rescueBy (answers.Saved t) output report = rescueTold 0 output (front report (headOf t))
+rescueBy (answers.Refused why) output report = rescueTold (table.numberOf why * half + table.placeOf why) output report
+rescueBy answers.NoRoom output report = rescueTold (noRoom * half) output report
+
+-- the runs stand behind the head
+unfoldable pub rescueBytes : List ℕ → List ℕ → List ℕ → Rescuing
+rescueBytes day output report =
+    let r = saved day output (drop (min reportHead (length report)) report) in
+    rescueBy (r .answer) (r .out) (take (min reportHead (length report)) report ++ r .list)
 
 -- ---- the clock maps
 

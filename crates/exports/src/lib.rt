@@ -2,7 +2,7 @@
 ghost use mathlib.Core.Path.{_≡_};
 ghost use mathlib.Core.Bool.{true};
 ghost use mathlib.Core.List.{[], _∷_};
-ghost use Prim.Native.Nat.{_+_, _≤_};
+ghost use Prim.Native.Nat.{_+_, _≤_, min};
 ghost use lib.ListN.{length};
 ghost use Rattle.table.specs.Check.{isTable, check};
 ghost use Rattle.pops.specs.Pops.{replyOf};
@@ -14,10 +14,11 @@ ghost use Rattle.tags.specs.Views.{ofClock, mappedLocal, mappedGlobal};
 ghost use Rattle.exports.specs.Told.{wordBytes, tagBytes, told};
 ghost use Rattle.exports.specs.State.{peekWords, flagWord, firstWords, stateBytes, afterAll, stateTold};
 ghost use Rattle.writer.specs.Writer.{writing};
-ghost use Rattle.exports.specs.Answers.{checkNumber, checkPlace, checkTold, writeTold, clockIn, isClock, mapped, mapTold};
+ghost use Rattle.exports.specs.Answers.{checkNumber, checkPlace, checkTold, writeTold, reportHead, rescueTold, rescueBytes, clockIn, isClock, mapped, mapTold};
 use gate_day::Day;
 use pops::Peeked;
 use refusals::Refusal;
+use rescue::Rescued;
 use table::Checked;
 use tags::GlobalTag;
 use tags::LocalTag;
@@ -271,6 +272,44 @@ pub extern "C" fn barnshiver_write_table(counts: &[u8], rows: &[u8], buffer: &mu
     let number = writer::number_of(answer) as u64;
     let place = writer::place_of(answer) as u64;
     number * HALF + place
+}
+
+// ---- the rescue of a damaged day
+
+// How many bytes the output has, how many records were kept and how many runs were dropped, eight bytes each; then the runs.
+const REPORT_HEAD: usize = 24;
+
+fn report_head(report: &[u8]) -> usize
+    ensures { λ r. ⌜ r ≡ min reportHead (length (now (report .entry))) ⌝ }
+{
+    if report.len() < REPORT_HEAD {
+        return report.len();
+    }
+    REPORT_HEAD
+}
+
+// Image and kept records of a damaged day over the front of the output, the report over the front of its bytes: 0. Or the image's refusal, its number in
+// the high half and its place in the low one, or 255 in the high half for too little room; and both stay as they were.
+#[no_mangle]
+pub extern "C" fn barnshiver_rescue(day: &[u8], output: &mut [u8], report: &mut [u8]) -> u64
+    ensures { λ r. ⌜ rescueTold r (now (output .exit)) (now (report .exit)) ≡ rescueBytes (now (day .entry)) (now (output .entry)) (now (report .entry)) ⌝ }
+{
+    let head = report_head(report);
+    match rescue::rescue(day, output, &mut report[head..]) {
+        Rescued::Saved(totals) => {
+            let records_at = puts::put_number(report, 0, 8, totals.written as u64);
+            let runs_at = puts::put_number(report, records_at, 8, totals.records as u64);
+            let runs = totals.listed / rescue::RUN_BYTES;
+            puts::put_number(report, runs_at, 8, runs as u64);
+            0
+        }
+        Rescued::Refused(why) => {
+            let number = table::number_of(why) as u64;
+            let place = table::place_of(why) as u64;
+            number * HALF + place
+        }
+        Rescued::NoRoom => (NO_ROOM as u64) * HALF,
+    }
 }
 
 // ---- the clock maps

@@ -24,6 +24,8 @@ use Rattle.gate_day.specs.declared.Day.{Day}
 use Rattle.gate_day.specs.declared.Pieces.{Pieces}
 use Rattle.gate_day.specs.Calls.{before, callsIn, callsOn, callsTaken, ran-runs}
 use Rattle.gate_day.proofs.WholeLaws.{open-table, whole-goes, broken-stops, piece-lines}
+use Rattle.rescue.specs.Rescue.{dayRescue}
+use Rattle.rescue.proofs.DayTheorems.{opened-again}
 use Rattle.history.specs.History.{moment, outcome}
 use Rattle.history.specs.Fates.{run-next}
 use Rattle.history.specs.One.{TheHistory, the-history, head-is, tail-is}
@@ -77,6 +79,12 @@ unfolding dayAnswers
 day-fates day o =
     let img = imageIn day in
     (the-history img (open-table day o) (fileCalls (recordBytes day)), ap (λ x. answersBy x day) o ∙ ap (tableLine Accepted ∷_) (file-lines img (recordBytes day)))
+
+-- and so it is with what is rescued of a damaged day (document 02, C-23): its image is accepted again
+pub rescued-fates :
+    (day : List ℕ) → opened day ≡ Accepted → let out = dayRescue day .kept in
+    TheHistory (imageIn out) (fileCalls (recordBytes out)) × (dayAnswers out ≡ tableLine Accepted ∷ fileLines (imageIn out) (recordBytes out))
+rescued-fates day o = day-fates (dayRescue day .kept) (opened-again day o)
 
 -- ---- pieces one after another
 

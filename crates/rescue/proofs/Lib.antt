@@ -1,0 +1,10 @@
+pub mod PlaceLaws
+pub mod WalkLaws
+pub mod ListLaws
+pub mod PieceLaws
+pub mod BoundLaws
+pub mod WholeLaws
+pub mod KeptLaws
+pub mod AgainLaws
+pub mod DayTheorems
+pub mod PiecesTheorem

@@ -1,0 +1,93 @@
+-- `rescue::rescue` meets its contract: the image, and behind it all records as one piece. Assumes nothing.
+use mathlib.Core.Path.{refl, sym}
+use lib.Seq.{length-take-le}
+use Rattle.lists.specs.Tests.{flag-no, flag-yes}
+use Rattle.rescue.proofs.WholeLaws.{saved-refused, saved-no-room, has-room, end-inside, end-output, written-few, saved-all}
+use borrow.Author.Needs.{needs}
+use Rattle.rescue.proofs.rescue.Statement.{statement}
+use Rattle.rescue.proofs.rescue.Tie as tie
+
+open-requires : tie.Need-open-requires
+open-requires c κs = search needs
+
+enum-known-why : tie.Need-enum-known-why
+enum-known-why c = search needs
+
+enum-told : tie.Need-enum-told
+enum-told c = search needs
+
+roomy-requires : tie.Need-roomy-requires
+roomy-requires c κs = search needs
+
+returns : tie.Need-returns
+returns c = saved-no-room (c .before .before .before .before .before .before .before .before .args .day .now) (c .before .before .before .before .before .before .before .before .args .out .now) (c .before .before .before .before .before .before .before .before .args .list .now) (c .before .before .before .before .«open» .ensures) (c .before .before .enum-told .given .1) (c .before .roomy .ensures) (flag-no refl (c .if1 .taken))
+
+image-end-requires : tie.Need-image-end-requires
+image-end-requires c κs = search needs
+
+slice-aggregate-write-text : tie.Need-slice-aggregate-write-text
+slice-aggregate-write-text c = sym (length-take-le _ _ (end-inside (c .before .before .before .before .before .before .before .before .before .before .before .args .day .now) (c .before .before .before .before .before .before .before .before .before .before .before .args .out .now) (c .before .before .before .before .before .before .before .before .before .before .before .args .list .now) (c .before .before .before .before .before .before .before .«open» .ensures) (c .before .before .before .before .before .enum-told .given .1) (has-room (c .before .before .before .before .before .before .before .before .before .before .before .args .day .now) (c .before .before .before .before .before .before .before .before .before .before .before .args .out .now) (c .before .before .before .before .before .before .before .before .before .before .before .args .list .now) (c .before .before .before .before .before .before .before .«open» .ensures) (c .before .before .before .before .before .enum-told .given .1) (c .before .before .before .before .roomy .ensures) (flag-yes refl (c .before .before .before .if1 .left))) (c .before .before .image-end .ensures)))
+
+write-text-requires : tie.Need-write-text-requires
+write-text-requires c κs = search needs
+
+sub-rescue-piece : tie.Need-sub-rescue-piece
+sub-rescue-piece c = end-inside (c .before .before .before .before .before .before .before .before .before .before .before .before .before .before .args .day .now) (c .before .before .before .before .before .before .before .before .before .before .before .before .before .before .args .out .now) (c .before .before .before .before .before .before .before .before .before .before .before .before .before .before .args .list .now) (c .before .before .before .before .before .before .before .before .before .before .«open» .ensures) (c .before .before .before .before .before .before .before .before .enum-told .given .1) (has-room (c .before .before .before .before .before .before .before .before .before .before .before .before .before .before .args .day .now) (c .before .before .before .before .before .before .before .before .before .before .before .before .before .before .args .out .now) (c .before .before .before .before .before .before .before .before .before .before .before .before .before .before .args .list .now) (c .before .before .before .before .before .before .before .before .before .before .«open» .ensures) (c .before .before .before .before .before .before .before .before .enum-told .given .1) (c .before .before .before .before .before .before .before .roomy .ensures) (flag-yes refl (c .before .before .before .before .before .before .if1 .left))) (c .before .before .before .before .before .image-end .ensures)
+
+part-rescue-piece-start : tie.Need-part-rescue-piece-start
+part-rescue-piece-start c = end-inside (c .before .before .before .before .before .before .before .before .before .before .before .before .before .before .args .day .now) (c .before .before .before .before .before .before .before .before .before .before .before .before .before .before .args .out .now) (c .before .before .before .before .before .before .before .before .before .before .before .before .before .before .args .list .now) (c .before .before .before .before .before .before .before .before .before .before .«open» .ensures) (c .before .before .before .before .before .before .before .before .enum-told .given .1) (has-room (c .before .before .before .before .before .before .before .before .before .before .before .before .before .before .args .day .now) (c .before .before .before .before .before .before .before .before .before .before .before .before .before .before .args .out .now) (c .before .before .before .before .before .before .before .before .before .before .before .before .before .before .args .list .now) (c .before .before .before .before .before .before .before .before .before .before .«open» .ensures) (c .before .before .before .before .before .before .before .before .enum-told .given .1) (c .before .before .before .before .before .before .before .roomy .ensures) (flag-yes refl (c .before .before .before .before .before .before .if1 .left))) (c .before .before .before .before .before .image-end .ensures)
+
+part-rescue-piece-end : tie.Need-part-rescue-piece-end
+part-rescue-piece-end c = search needs
+
+sub-rescue-piece-2 : tie.Need-sub-rescue-piece-2
+sub-rescue-piece-2 c = end-output (c .before .before .before .before .before .before .before .before .before .before .before .before .before .before .before .args .day .now) (c .before .before .before .before .before .before .before .before .before .before .before .before .before .before .before .args .out .now) (c .before .before .before .before .before .before .before .before .before .before .before .before .before .before .before .args .list .now) (c .before .before .before .before .before .before .before .before .before .before .before .«open» .ensures) (c .before .before .before .before .before .before .before .before .before .enum-told .given .1) (has-room (c .before .before .before .before .before .before .before .before .before .before .before .before .before .before .before .args .day .now) (c .before .before .before .before .before .before .before .before .before .before .before .before .before .before .before .args .out .now) (c .before .before .before .before .before .before .before .before .before .before .before .before .before .before .before .args .list .now) (c .before .before .before .before .before .before .before .before .before .before .before .«open» .ensures) (c .before .before .before .before .before .before .before .before .before .enum-told .given .1) (c .before .before .before .before .before .before .before .before .roomy .ensures) (flag-yes refl (c .before .before .before .before .before .before .before .if1 .left))) (c .before .before .before .before .before .before .image-end .ensures) (c .before .before .before .write-text .ensures)
+
+part-rescue-piece-start-2 : tie.Need-part-rescue-piece-start-2
+part-rescue-piece-start-2 c = end-output (c .before .before .before .before .before .before .before .before .before .before .before .before .before .before .before .args .day .now) (c .before .before .before .before .before .before .before .before .before .before .before .before .before .before .before .args .out .now) (c .before .before .before .before .before .before .before .before .before .before .before .before .before .before .before .args .list .now) (c .before .before .before .before .before .before .before .before .before .before .before .«open» .ensures) (c .before .before .before .before .before .before .before .before .before .enum-told .given .1) (has-room (c .before .before .before .before .before .before .before .before .before .before .before .before .before .before .before .args .day .now) (c .before .before .before .before .before .before .before .before .before .before .before .before .before .before .before .args .out .now) (c .before .before .before .before .before .before .before .before .before .before .before .before .before .before .before .args .list .now) (c .before .before .before .before .before .before .before .before .before .before .before .«open» .ensures) (c .before .before .before .before .before .before .before .before .before .enum-told .given .1) (c .before .before .before .before .before .before .before .before .roomy .ensures) (flag-yes refl (c .before .before .before .before .before .before .before .if1 .left))) (c .before .before .before .before .before .before .image-end .ensures) (c .before .before .before .write-text .ensures)
+
+part-rescue-piece-end-2 : tie.Need-part-rescue-piece-end-2
+part-rescue-piece-end-2 c = search needs
+
+rescue-piece-requires : tie.Need-rescue-piece-requires
+rescue-piece-requires c κs = search needs
+
+add-t14 : tie.Need-add-t14
+add-t14 c = let l = written-few (c .before .before .before .before .before .before .before .before .before .before .before .before .before .before .before .before .before .before .before .before .before .before .before .args .day .now) (c .before .before .before .before .before .before .before .before .before .before .before .before .before .before .before .before .before .before .before .before .before .before .before .args .out .now) (c .before .before .before .before .before .before .before .before .before .before .before .before .before .before .before .before .before .before .before .before .before .before .before .args .list .now) (c .before .before .before .before .before .before .before .before .before .before .before .before .before .before .before .before .before .before .before .«open» .ensures) (c .before .before .before .before .before .before .before .before .before .before .before .before .before .before .before .before .before .enum-told .given .1) (has-room (c .before .before .before .before .before .before .before .before .before .before .before .before .before .before .before .before .before .before .before .before .before .before .before .args .day .now) (c .before .before .before .before .before .before .before .before .before .before .before .before .before .before .before .before .before .before .before .before .before .before .before .args .out .now) (c .before .before .before .before .before .before .before .before .before .before .before .before .before .before .before .before .before .before .before .before .before .before .before .args .list .now) (c .before .before .before .before .before .before .before .before .before .before .before .before .before .before .before .before .before .before .before .«open» .ensures) (c .before .before .before .before .before .before .before .before .before .before .before .before .before .before .before .before .before .enum-told .given .1) (c .before .before .before .before .before .before .before .before .before .before .before .before .before .before .before .before .roomy .ensures) (flag-yes refl (c .before .before .before .before .before .before .before .before .before .before .before .before .before .before .before .if1 .left))) (c .before .before .before .before .before .before .before .before .before .before .before .before .before .before .image-end .ensures) (c .before .before .before .before .before .before .before .before .before .before .before .write-text .ensures) (c .before .before .before .before .before .rescue-piece .ensures) in search needs
+
+returns-2 : tie.Need-returns-2
+returns-2 c = saved-refused (c .before .before .before .before .before .before .before .args .day .now) (c .before .before .before .before .before .before .before .args .out .now) (c .before .before .before .before .before .before .before .args .list .now) (c .before .before .before .«open» .ensures) (c .before .why .given .1)
+
+same-length : tie.Need-same-length
+same-length c = search needs
+
+same-length-2 : tie.Need-same-length-2
+same-length-2 c = search needs
+
+returns-3 : tie.Need-returns-3
+returns-3 c = saved-all (c .before .before .before .before .before .before .before .before .before .before .before .before .before .before .before .before .before .before .before .before .before .before .before .args .day .now) (c .before .before .before .before .before .before .before .before .before .before .before .before .before .before .before .before .before .before .before .before .before .before .before .args .out .now) (c .before .before .before .before .before .before .before .before .before .before .before .before .before .before .before .before .before .before .before .before .before .before .before .args .list .now) (c .before .before .before .before .before .before .before .before .before .before .before .before .before .before .before .before .before .before .before .«open» .ensures) (c .before .before .before .before .before .before .before .before .before .before .before .before .before .before .before .before .before .enum-told .given .1) (has-room (c .before .before .before .before .before .before .before .before .before .before .before .before .before .before .before .before .before .before .before .before .before .before .before .args .day .now) (c .before .before .before .before .before .before .before .before .before .before .before .before .before .before .before .before .before .before .before .before .before .before .before .args .out .now) (c .before .before .before .before .before .before .before .before .before .before .before .before .before .before .before .before .before .before .before .before .before .before .before .args .list .now) (c .before .before .before .before .before .before .before .before .before .before .before .before .before .before .before .before .before .before .before .«open» .ensures) (c .before .before .before .before .before .before .before .before .before .before .before .before .before .before .before .before .before .enum-told .given .1) (c .before .before .before .before .before .before .before .before .before .before .before .before .before .before .before .before .roomy .ensures) (flag-yes refl (c .before .before .before .before .before .before .before .before .before .before .before .before .before .before .before .if1 .left))) (c .before .before .before .before .before .before .before .before .before .before .before .before .before .before .image-end .ensures) (c .before .before .before .before .before .before .before .before .before .before .before .write-text .ensures) (c .before .before .before .before .before .rescue-piece .ensures)
+
+pub rescue-spec : {M : Type 1} → statement M
+rescue-spec =
+    tie.close
+    (tie.spec
+    open-requires
+    enum-known-why
+    enum-told
+    roomy-requires
+    returns
+    image-end-requires
+    slice-aggregate-write-text
+    write-text-requires
+    sub-rescue-piece
+    part-rescue-piece-start
+    part-rescue-piece-end
+    sub-rescue-piece-2
+    part-rescue-piece-start-2
+    part-rescue-piece-end-2
+    rescue-piece-requires
+    add-t14
+    returns-2
+    same-length
+    same-length-2
+    returns-3)

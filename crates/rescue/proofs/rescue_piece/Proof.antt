@@ -1,0 +1,143 @@
+-- `rescue::rescue_piece` meets its contract: from turn to turn. Assumes nothing.
+use Prim.Native.Nat.{_-_, _≤_}
+use mathlib.Core.Path.{refl, sym, _∙_}
+use native.Mathlib.Omega.{arith}
+use lib.ListN.{length}
+use borrow.Author.Needs.{needs}
+use Rattle.lists.specs.Tests.{flag-no, flag-yes}
+use Rattle.puts.proofs.WrittenLaws.{written-room, written-long}
+use Rattle.rescue.specs.Rescue.{run}
+use Rattle.rescue.proofs.PieceLaws.{Room, Walked, room-there, last-inside, walked-none, walked-on, walked-over, walked-out, walked-closed, over-end, piece-none, piece-last, piece-more}
+use Rattle.rescue.proofs.rescue_piece.Statement.{statement}
+use Rattle.rescue.proofs.rescue_piece.Tie as tie
+
+abbrev Inv-loop : tie.InvT-loop
+Inv-loop bytes last out₀ list₀ end at₀ written₀ listed₀ records₀ place₀ many₀ out list at written listed records place many =
+    Room bytes (run place₀ many₀) out₀ list₀ × (end ≤ length bytes) × Walked bytes end (run place₀ many₀) out₀ list₀ out list at written listed records place many
+
+abbrev μ-loop : tie.MeasureT-loop
+μ-loop bytes last out₀ list₀ end at₀ written₀ listed₀ records₀ place₀ many₀ out list at written listed records place many =
+    end - at
+
+roomy-requires : tie.Need-roomy-requires Inv-loop μ-loop
+roomy-requires c κs = search needs
+
+returns : tie.Need-returns Inv-loop μ-loop
+returns c = piece-none _ _ _ _ _ (c .before .roomy .ensures) (flag-no refl (c .if1 .taken))
+
+last-place-requires : tie.Need-last-place-requires Inv-loop μ-loop
+last-place-requires c κs = search needs
+
+loop-holds : tie.Need-loop-holds Inv-loop μ-loop
+loop-holds c = let g = room-there _ (c .before .before .before .before .before .before .args .pending) _ _ (sym (c .before .before .roomy .ensures) ∙ flag-yes refl (c .before .if1 .left)) in let i = last-inside (c .before .before .before .before .before .before .args .last) (c .last-place .ensures) in (g, i, walked-none _ _ i (c .before .before .before .before .before .before .args .pending) _ _ g)
+
+skip-requires : tie.Need-skip-requires Inv-loop μ-loop
+skip-requires c κs = (omega (arith, c .loop-test .taken), c .before .loop .inv .1)
+
+sub-many : tie.Need-sub-many Inv-loop μ-loop
+sub-many c = c .skip .ensures .passed .forward
+
+add-many : tie.Need-add-many Inv-loop μ-loop
+add-many c = let w = c .before .before .loop .inv in let f = c .skip .ensures in let a = f .passed .forward in let d = f .inside in let h = w .2 .places in let g = w .0 .places in let i = w .1 in search needs
+
+stretch-requires : tie.Need-stretch-requires Inv-loop μ-loop
+stretch-requires c κs = let w = c .before .before .loop .inv in let f = c .skip .ensures in (omega (arith, f .inside, w .1), w .1)
+
+put-run-requires : tie.Need-put-run-requires Inv-loop μ-loop
+put-run-requires c κs = written-room (c .before .before .before .before .before .loop .inv .2 .listing)
+
+sub-write-text : tie.Need-sub-write-text Inv-loop μ-loop
+sub-write-text c = c .before .before .before .before .before .before .stretch .ensures .0 .forward
+
+part-write-text-start : tie.Need-part-write-text-start Inv-loop μ-loop
+part-write-text-start c = c .before .before .before .before .before .before .stretch .ensures .0 .forward
+
+part-write-text-end : tie.Need-part-write-text-end Inv-loop μ-loop
+part-write-text-end c = c .before .before .before .before .before .before .stretch .ensures .0 .inside
+
+write-text-requires : tie.Need-write-text-requires Inv-loop μ-loop
+write-text-requires c κs = written-room (c .before .before .before .before .before .before .before .before .before .before .loop .inv .2 .output)
+
+add-records : tie.Need-add-records Inv-loop μ-loop
+add-records c = let w = c .before .before .before .before .before .before .before .before .before .before .before .before .before .before .loop .inv .2 in let f = c .before .before .before .before .before .before .before .before .before .before .before .before .skip .ensures .passed .forward in let t = c .before .before .before .before .before .before .before .before .before .before .before .stretch .ensures .0 in let a = w .records-few in let d = t .few in let g = t .inside in search needs
+
+add-place : tie.Need-add-place Inv-loop μ-loop
+add-place c = let w = c .before .before .before .before .before .before .before .before .before .before .before .before .before .before .loop .inv in let f = c .before .before .before .before .before .before .before .before .before .before .before .before .skip .ensures .passed .forward in let t = c .before .before .before .before .before .before .before .before .before .before .before .stretch .ensures .0 in let a = w .2 .places in let g = w .0 .places in let d = t .inside in let l = t .forward in search needs
+
+sub-place : tie.Need-sub-place Inv-loop μ-loop
+sub-place c = c .before .before .before .before .before .before .before .before .before .before .before .stretch .ensures .0 .forward
+
+add-place-2 : tie.Need-add-place-2 Inv-loop μ-loop
+add-place-2 c = let w = c .before .before .before .before .before .before .before .before .before .before .before .before .before .before .loop .inv in let f = c .before .before .before .before .before .before .before .before .before .before .before .before .skip .ensures .passed .forward in let t = c .before .before .before .before .before .before .before .before .before .before .before .stretch .ensures .0 in let a = w .2 .places in let g = w .0 .places in let d = t .inside in let l = t .forward in search needs
+
+loop-less : tie.Need-loop-less Inv-loop μ-loop
+loop-less c = let f = c .before .before .before .before .before .before .before .before .before .before .before .before .skip .ensures .passed .forward in omega (arith, f, c .before .before .before .before .before .before .before .before .before .before .if2 .taken, c .before .before .before .before .before .before .before .before .before .before .before .before .before .loop-test .taken)
+
+loop-again : tie.Need-loop-again Inv-loop μ-loop
+loop-again c = let w = c .before .before .before .before .before .before .before .before .before .before .before .before .before .before .loop .inv in (w .0, w .1, walked-on _ _ (w .1) _ _ _ (w .0) (w .2) (c .before .before .before .before .before .before .before .before .before .before .before .before .skip .ensures) (c .before .before .before .before .before .before .before .before .before .before .before .stretch .ensures .0) (c .before .before .before .before .before .before .before .before .before .before .if2 .taken) (c .before .before .before .before .before .before .before .before .put-run .ensures) (c .before .before .before .write-text .ensures))
+
+loop-less-2 : tie.Need-loop-less-2 Inv-loop μ-loop
+loop-less-2 c = let e = over-end (c .before .before .skip .ensures) (c .before .stretch .ensures .1) (c .if2 .left) in let f = c .before .stretch .ensures .0 .forward in omega (arith, e, f, c .before .before .before .loop-test .taken)
+
+loop-again-2 : tie.Need-loop-again-2 Inv-loop μ-loop
+loop-again-2 c = let w = c .before .before .before .before .loop .inv in (w .0, w .1, walked-over _ _ (w .1) _ _ _ (w .0) (w .2) (c .before .before .skip .ensures) (c .before .stretch .ensures .0) (c .if2 .left))
+
+put-run-requires-2 : tie.Need-put-run-requires-2 Inv-loop μ-loop
+put-run-requires-2 c κs = written-room (c .before .before .before .loop .inv .2 .listing)
+
+add-place-3 : tie.Need-add-place-3 Inv-loop μ-loop
+add-place-3 c = let w = c .before .before .before .before .before .before .loop .inv in let a = w .2 .places in let g = w .0 .places in let d = w .2 .inside in search needs
+
+same-length : tie.Need-same-length Inv-loop μ-loop
+same-length c = written-long (c .before .before .before .before .before .before .loop .inv .2 .output)
+
+same-length-2 : tie.Need-same-length-2 Inv-loop μ-loop
+same-length-2 c = written-long (c .before .before .put-run2 .ensures) ∙ written-long (c .before .before .before .before .before .before .loop .inv .2 .listing)
+
+returns-2 : tie.Need-returns-2 Inv-loop μ-loop
+returns-2 c = let w = c .before .before .before .before .before .before .loop .inv in piece-last _ _ _ _ _ (c .before .before .before .before .before .before .before .before .before .roomy .ensures) (flag-yes refl (c .before .before .before .before .before .before .before .before .if1 .left)) (c .before .before .before .before .before .before .before .last-place .ensures) (c .before .before .before .before .if3 .taken) (walked-closed _ _ (w .1) _ _ _ (w .0) (w .2) (c .before .before .before .before .before .loop-test .left) (c .before .before .put-run2 .ensures))
+
+same-length-3 : tie.Need-same-length-3 Inv-loop μ-loop
+same-length-3 c = written-long (c .before .before .loop .inv .2 .output)
+
+same-length-4 : tie.Need-same-length-4 Inv-loop μ-loop
+same-length-4 c = written-long (c .before .before .loop .inv .2 .listing)
+
+returns-3 : tie.Need-returns-3 Inv-loop μ-loop
+returns-3 c = let w = c .before .before .loop .inv in piece-more _ _ _ _ _ (c .before .before .before .before .before .roomy .ensures) (flag-yes refl (c .before .before .before .before .if1 .left)) (c .before .before .before .last-place .ensures) (c .if3 .left) (walked-out _ _ (w .1) _ _ _ (w .0) (w .2) (c .before .loop-test .left))
+
+pub rescue-piece-spec : {M : Type 1} → statement M
+rescue-piece-spec =
+    tie.close
+    (tie.spec
+    Inv-loop
+    μ-loop
+    roomy-requires
+    returns
+    last-place-requires
+    loop-holds
+    skip-requires
+    sub-many
+    add-many
+    stretch-requires
+    put-run-requires
+    sub-write-text
+    part-write-text-start
+    part-write-text-end
+    write-text-requires
+    add-records
+    add-place
+    sub-place
+    add-place-2
+    loop-less
+    loop-again
+    loop-less-2
+    loop-again-2
+    put-run-requires-2
+    add-place-3
+    same-length
+    same-length-2
+    returns-2
+    same-length-3
+    same-length-4
+    returns-3)

@@ -1,0 +1,36 @@
+-- `rescue::roomy` meets its contract. Assumes nothing.
+use Rattle.rescue.proofs.ListLaws.{no-output, list-short, list-few, place-far, room-by-place}
+use borrow.Author.Needs.{needs}
+use Rattle.rescue.proofs.roomy.Statement.{statement}
+use Rattle.rescue.proofs.roomy.Tie as tie
+use Rattle.rescue.proofs.roomy.Reads as reads
+use Rattle.rescue.proofs.roomy.Lts as lts
+
+returns : tie.Need-returns
+returns c = no-output _ _ _ _ (c .if1 .taken)
+
+returns-2 : tie.Need-returns-2
+returns-2 c = list-short _ _ _ _ (c .if2 .taken)
+
+returns-3 : tie.Need-returns-3
+returns-3 c = list-few _ _ _ _ (c .if3 .taken)
+
+sub-if4 : tie.Need-sub-if4
+sub-if4 c = search needs
+
+returns-4 : tie.Need-returns-4
+returns-4 c = place-far _ _ _ _ (c .if4 .taken)
+
+sub-result : tie.Need-sub-result
+sub-result c = search needs
+
+sub-result-2 : tie.Need-sub-result-2
+sub-result-2 c = search needs
+
+returns-5 : tie.Need-returns-5
+returns-5 c = room-by-place _ _ _ _ (search needs) (c .before .before .before .before .before .before .before .if1 .left) (c .before .before .before .before .before .before .if2 .left) (c .before .before .before .before .before .if3 .left) (c .before .before .if4 .left)
+
+pub roomy-spec : {M : Type 1} → statement M
+roomy-spec =
+    tie.close
+    (tie.spec returns returns-2 returns-3 sub-if4 returns-4 sub-result sub-result-2 returns-5)

@@ -1,0 +1,4 @@
+pub mod Rescue
+pub mod Places
+pub mod Parts
+pub mod Examples

@@ -1,0 +1,193 @@
+-- `rescuer::run` is safe: what is read, written and listed lies within the buffers. Assumes nothing.
+use Prim.Native.Nat.{ℕ, _+_, _-_, _≤_}
+use mathlib.Core.Path.{_≡_, sym, _∙_}
+use mathlib.Core.List.{List}
+use native.Mathlib.Omega.{arith}
+use lib.ListN.{length, take, length-take}
+use lib.Seq.{length-take-le}
+use Rattle.puts.proofs.WrittenLaws.{written-room, written-long}
+use Rattle.rescue.proofs.BoundLaws.{piece-bounds}
+use borrow.Author.Needs.{needs}
+use Rattle.rescuer.proofs.run.Statement.{statement}
+use Rattle.rescuer.proofs.run.Tie as tie
+
+-- so many bytes of a part end where the part does, or before
+part-end : (l : List ℕ) (from total n : ℕ) → from ≤ total → n ≤ length (take (total - from) l) → from + n ≤ total
+part-end l from total n h k = let t = length-take (total - from) l in omega (arith, h, k, t)
+
+abbrev Inv-loop : tie.InvT-loop
+Inv-loop input₀ start output₀ list₀ there₀ from₀ pending₀ records₀ dropped₀ runs₀ turns₀ t19 t20 t21 input output list there from pending records dropped runs turns = (65536 ≡ length input) × (65536 ≡ length output) × (196624 ≡ length list) × (from ≤ there .total) × (there .total ≤ 65536)
+
+abbrev μ-loop : tie.MeasureT-loop
+μ-loop input₀ start output₀ list₀ there₀ from₀ pending₀ records₀ dropped₀ runs₀ turns₀ t19 t20 t21 input output list there from pending records dropped runs turns = turns
+
+large-buffer-requires : tie.Need-large-buffer-requires Inv-loop μ-loop
+large-buffer-requires c κs = search needs
+
+loop-holds : tie.Need-loop-holds Inv-loop μ-loop
+loop-holds c = (sym (c .before .before .pre .0), c .large-buffer .ensures, search needs, c .before .before .pre .1, c .before .before .pre .2)
+
+sub-turns : tie.Need-sub-turns Inv-loop μ-loop
+sub-turns c = search needs
+
+slice-aggregate-say : tie.Need-slice-aggregate-say Inv-loop μ-loop
+slice-aggregate-say c = search needs
+
+say-requires : tie.Need-say-requires Inv-loop μ-loop
+say-requires c κs = search needs
+
+same-length : tie.Need-same-length Inv-loop μ-loop
+same-length c = search needs
+
+returns : tie.Need-returns Inv-loop μ-loop
+returns c = search needs
+
+sub-rescue-piece : tie.Need-sub-rescue-piece Inv-loop μ-loop
+sub-rescue-piece c = search needs
+
+part-rescue-piece-start : tie.Need-part-rescue-piece-start Inv-loop μ-loop
+part-rescue-piece-start c = search needs
+
+part-rescue-piece-end : tie.Need-part-rescue-piece-end Inv-loop μ-loop
+part-rescue-piece-end c = search needs
+
+slice-aggregate-rescue-piece : tie.Need-slice-aggregate-rescue-piece Inv-loop μ-loop
+slice-aggregate-rescue-piece c = c .before .before .before .before .before .loop .inv .1
+
+slice-aggregate-rescue-piece-2 : tie.Need-slice-aggregate-rescue-piece-2 Inv-loop μ-loop
+slice-aggregate-rescue-piece-2 c = c .before .before .before .before .before .before .loop .inv .2
+
+rescue-piece-requires : tie.Need-rescue-piece-requires Inv-loop μ-loop
+rescue-piece-requires c κs = search needs
+
+array-share-prefix-output : tie.Need-array-share-prefix-output Inv-loop μ-loop
+array-share-prefix-output c = (piece-bounds _ _ _ _ _ (c .before .before .before .rescue-piece .ensures)) .written
+
+slice-aggregate-write-all : tie.Need-slice-aggregate-write-all Inv-loop μ-loop
+slice-aggregate-write-all c = sym (length-take-le _ _ ((piece-bounds _ _ _ _ _ (c .before .before .before .before .rescue-piece .ensures)) .written))
+
+write-all-requires : tie.Need-write-all-requires Inv-loop μ-loop
+write-all-requires c κs = search needs
+
+slice-aggregate-say-2 : tie.Need-slice-aggregate-say-2 Inv-loop μ-loop
+slice-aggregate-say-2 c = search needs
+
+say-requires-2 : tie.Need-say-requires-2 Inv-loop μ-loop
+say-requires-2 c κs = search needs
+
+same-length-2 : tie.Need-same-length-2 Inv-loop μ-loop
+same-length-2 c = search needs
+
+returns-2 : tie.Need-returns-2 Inv-loop μ-loop
+returns-2 c = search needs
+
+array-share-prefix-list : tie.Need-array-share-prefix-list Inv-loop μ-loop
+array-share-prefix-list c = (piece-bounds _ _ _ _ _ (c .before .before .before .before .before .before .rescue-piece .ensures)) .listed
+
+slice-aggregate-say-runs : tie.Need-slice-aggregate-say-runs Inv-loop μ-loop
+slice-aggregate-say-runs c = sym (length-take-le _ _ ((piece-bounds _ _ _ _ _ (c .before .before .before .before .before .before .before .rescue-piece .ensures)) .listed))
+
+say-runs-requires : tie.Need-say-runs-requires Inv-loop μ-loop
+say-runs-requires c κs = search needs
+
+slice-aggregate-say-3 : tie.Need-slice-aggregate-say-3 Inv-loop μ-loop
+slice-aggregate-say-3 c = search needs
+
+say-requires-3 : tie.Need-say-requires-3 Inv-loop μ-loop
+say-requires-3 c κs = search needs
+
+same-length-3 : tie.Need-same-length-3 Inv-loop μ-loop
+same-length-3 c = search needs
+
+returns-3 : tie.Need-returns-3 Inv-loop μ-loop
+returns-3 c = search needs
+
+added-requires : tie.Need-added-requires Inv-loop μ-loop
+added-requires c κs = search needs
+
+sub-added : tie.Need-sub-added Inv-loop μ-loop
+sub-added c = (piece-bounds _ _ _ _ _ (c .before .before .before .before .before .before .before .before .before .before .before .rescue-piece .ensures)) .few
+
+added-requires-2 : tie.Need-added-requires-2 Inv-loop μ-loop
+added-requires-2 c κs = search needs
+
+added-requires-3 : tie.Need-added-requires-3 Inv-loop μ-loop
+added-requires-3 c κs = search needs
+
+say-sums-requires : tie.Need-say-sums-requires Inv-loop μ-loop
+say-sums-requires c κs = search needs
+
+same-length-4 : tie.Need-same-length-4 Inv-loop μ-loop
+same-length-4 c = sym (c .before .before .before .before .before .before .before .before .before .before .before .before .before .before .before .before .before .before .before .before .before .before .loop .inv .0) ∙ sym (c .before .before .before .before .before .before .before .before .before .before .before .before .before .before .before .before .before .before .before .before .before .before .before .before .before .pre .0)
+
+returns-4 : tie.Need-returns-4 Inv-loop μ-loop
+returns-4 c = search needs
+
+add-shift : tie.Need-add-shift Inv-loop μ-loop
+add-shift c = let b = piece-bounds _ _ _ _ _ (c .before .before .before .before .before .before .before .before .before .before .before .before .before .before .before .before .rescue-piece .ensures) in let h = c .before .before .before .before .before .before .before .before .before .before .before .before .before .before .before .before .before .before .before .before .before .before .before .loop .inv in let g = part-end _ _ _ (c .before .before .before .before .before .before .before .before .before .before .before .before .before .before .before .before .rescue-piece .result .used) (h .3) (b .inside) in omega (arith, g, h .4)
+
+shift-requires : tie.Need-shift-requires Inv-loop μ-loop
+shift-requires c κs = let b = piece-bounds _ _ _ _ _ (c .before .before .before .before .before .before .before .before .before .before .before .before .before .before .before .before .rescue-piece .ensures) in let h = c .before .before .before .before .before .before .before .before .before .before .before .before .before .before .before .before .before .before .before .before .before .before .before .loop .inv in (part-end _ _ _ (c .before .before .before .before .before .before .before .before .before .before .before .before .before .before .before .before .rescue-piece .result .used) (h .3) (b .inside), omega (arith, h .0, h .4))
+
+fill-requires : tie.Need-fill-requires Inv-loop μ-loop
+fill-requires c κs = written-room (c .before .before .before .shift .ensures)
+
+loop-less : tie.Need-loop-less Inv-loop μ-loop
+loop-less c = let t = c .before .before .before .before .before .before .before .before .before .before .before .before .before .before .before .before .before .before .before .before .before .before .before .before .before .before .before .before .before .loop-test .taken in omega (arith, t)
+
+loop-again : tie.Need-loop-again Inv-loop μ-loop
+loop-again c = let b = piece-bounds _ _ _ _ _ (c .before .before .before .before .before .before .before .before .before .before .before .before .before .before .before .before .before .before .before .before .before .before .before .rescue-piece .ensures) in let h = c .before .before .before .before .before .before .before .before .before .before .before .before .before .before .before .before .before .before .before .before .before .before .before .before .before .before .before .before .before .before .loop .inv in let w = c .before .before .before .before .before .before .shift .ensures in let f = c .before .before .fill .ensures in (h .0 ∙ (sym (written-long w) ∙ sym (f .1)), h .1 ∙ sym (b .output-long), h .2 ∙ sym (b .list-long), omega arith, omega (arith, f .0, f .1, written-long w, h .0))
+
+same-length-5 : tie.Need-same-length-5 Inv-loop μ-loop
+same-length-5 c = search needs
+
+returns-5 : tie.Need-returns-5 Inv-loop μ-loop
+returns-5 c = search needs
+
+pub run-spec : {M : Type 1} → statement M
+run-spec =
+    tie.close
+    (tie.spec
+    Inv-loop
+    μ-loop
+    large-buffer-requires
+    loop-holds
+    sub-turns
+    slice-aggregate-say
+    say-requires
+    same-length
+    returns
+    sub-rescue-piece
+    part-rescue-piece-start
+    part-rescue-piece-end
+    slice-aggregate-rescue-piece
+    slice-aggregate-rescue-piece-2
+    rescue-piece-requires
+    array-share-prefix-output
+    slice-aggregate-write-all
+    write-all-requires
+    slice-aggregate-say-2
+    say-requires-2
+    same-length-2
+    returns-2
+    array-share-prefix-list
+    slice-aggregate-say-runs
+    say-runs-requires
+    slice-aggregate-say-3
+    say-requires-3
+    same-length-3
+    returns-3
+    added-requires
+    sub-added
+    added-requires-2
+    added-requires-3
+    say-sums-requires
+    same-length-4
+    returns-4
+    add-shift
+    shift-requires
+    fill-requires
+    loop-less
+    loop-again
+    same-length-5
+    returns-5)
