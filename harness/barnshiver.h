@@ -11,7 +11,8 @@
  *
  * What a function tells besides its answer stands at the front of a lent slice; bytes behind that stay as they were. A lent
  * slice that is too short is answered BARNSHIVER_NO_ROOM before anything else is looked at, and stays as it was (but for
- * barnshiver_run_day, which takes any room, and barnshiver_write_table, for which 02 has a number).
+ * barnshiver_run_day, which takes any room, barnshiver_write_table, for which 02 has a number, and barnshiver_rescue, which
+ * looks at the image first).
  */
 #ifndef BARNSHIVER_H
 #define BARNSHIVER_H
@@ -35,6 +36,8 @@ extern "C" {
 #define BARNSHIVER_COUNTS_BYTES 18
 /* Bytes of the largest image, its four length bytes too: room in which every image fits. */
 #define BARNSHIVER_LARGEST_IMAGE 3287
+/* Bytes of a rescue's report on a day of so many bytes: room in which it fits. */
+#define BARNSHIVER_REPORT_ROOM(day_length) (40 + 3 * (day_length))
 /* Room in which every line fits. */
 #define BARNSHIVER_LINE_ROOM 4096
 /* Bytes of a state; what they are stands at barnshiver_state_after. */
@@ -102,6 +105,29 @@ uint64_t barnshiver_write_table(const uint8_t *counts, size_t counts_length, con
  * while the longest line would still fit: if at least BARNSHIVER_LINE_ROOM bytes are left over, nothing was held back.
  */
 size_t barnshiver_run_day(const uint8_t *day, size_t day_length, uint8_t *lines, size_t lines_length);
+
+/*
+ * What is still whole of a damaged gate day (02, C-23). From the end of the image on each record that is well formed is
+ * kept; where the bytes at a place are none, one byte is dropped and the next place is tried. A record that is cut off or
+ * too long is none.
+ *
+ *   day     an image, and behind it what is left of the records
+ *   output  room for as many bytes as `day` has
+ *   report  room for BARNSHIVER_REPORT_ROOM(bytes of `day`)
+ *
+ *   0       `output` begins with the image and the kept records, in order. `report` begins with numbers of eight bytes: how
+ *           many bytes of `output` these are, how many records were kept, and how many runs of bytes were dropped; then for
+ *           each run, in order, its place, counted from the first byte of `day`, and its length
+ *   else    the high 32 bits are the refusal of the image, 1 to 4, and the low ones its place; or the high ones are
+ *           BARNSHIVER_NO_ROOM and the low ones 0, if `output` or `report` is too short. Both stay as they were. A refused
+ *           image comes before too little room
+ *
+ * Every byte of `day` is kept or dropped, once. A day whose records are all well formed comes out unchanged, with no run, and
+ * so does what was rescued: barnshiver_run_day answers "refused 1" to no record of it. Dropped bytes may hide a lost push.
+ * A push that lost its last byte may take the first one of the record behind it, which is then dropped in its stead.
+ */
+uint64_t barnshiver_rescue(const uint8_t *day, size_t day_length, uint8_t *output, size_t output_length, uint8_t *report,
+                           size_t report_length);
 
 /*
  * The state after a day's records.

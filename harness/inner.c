@@ -14,6 +14,7 @@ uint8_t inner_barnshiver_local_to_global(const struct bytes *clock, uint64_t off
 uint8_t inner_barnshiver_check_table(const struct bytes *image, const struct bytes *place);
 uint64_t inner_barnshiver_write_table(const struct bytes *counts, const struct bytes *rows, const struct bytes *buffer);
 size_t inner_barnshiver_run_day(const struct bytes *day, const struct bytes *lines);
+uint64_t inner_barnshiver_rescue(const struct bytes *day, const struct bytes *output, const struct bytes *report);
 uint8_t inner_barnshiver_state_after(const struct bytes *day, const struct bytes *state);
 
 uint8_t barnshiver_global_to_local(const uint8_t *clock, size_t clock_length, uint64_t offset, uint32_t microstep, uint8_t *tag, size_t tag_length) {
@@ -39,6 +40,11 @@ uint64_t barnshiver_write_table(const uint8_t *counts, size_t counts_length, con
 size_t barnshiver_run_day(const uint8_t *day, size_t day_length, uint8_t *lines, size_t lines_length) {
     struct bytes from = {day, day_length}, to = {lines, lines_length};
     return inner_barnshiver_run_day(&from, &to);
+}
+
+uint64_t barnshiver_rescue(const uint8_t *day, size_t day_length, uint8_t *output, size_t output_length, uint8_t *report, size_t report_length) {
+    struct bytes from = {day, day_length}, to = {output, output_length}, list = {report, report_length};
+    return inner_barnshiver_rescue(&from, &to, &list);
 }
 
 uint8_t barnshiver_state_after(const uint8_t *day, size_t day_length, uint8_t *state, size_t state_length) {

@@ -36,6 +36,7 @@ int main(void) {
     uint8_t place[BARNSHIVER_PLACE_BYTES];
     uint8_t image[BARNSHIVER_LARGEST_IMAGE];
     uint8_t rows[11];
+    uint8_t damaged[sizeof day - 1], output[sizeof damaged], report[BARNSHIVER_REPORT_ROOM(sizeof damaged)];
     uint64_t wrote;
 
     /* the image from its counts and rows; then with the reaction, the last row, at a level that there isn't */
@@ -58,6 +59,13 @@ int main(void) {
     if (barnshiver_local_to_global(scope_clock, sizeof scope_clock, 40, 1, tag, sizeof tag) != 0)
         return 1;
     printf("local (40,1) is global (%llu,%llu)\n", number(tag, 8), number(tag + 8, 4));
+    /* the day without the push's last byte: the push takes the next record's first, and what is left of that is dropped */
+    memcpy(damaged, day, 56);
+    memcpy(damaged + 56, day + 57, sizeof day - 57);
+    if (barnshiver_rescue(damaged, sizeof damaged, output, sizeof output, report, sizeof report) != 0)
+        return 1;
+    printf("rescued: %llu bytes, %llu records; dropped %llu %llu\n", number(report, 8), number(report + 8, 8), number(report + 24, 8),
+           number(report + 32, 8));
     /* the same image cut short, and a tag into too few bytes */
     printf("cut short: refused %u\n", barnshiver_state_after(day, 33, state, sizeof state));
     printf("no room: %u\n", barnshiver_local_to_global(scope_clock, sizeof scope_clock, 40, 1, tag, 11));

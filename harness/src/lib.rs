@@ -1,5 +1,5 @@
 //! Barnshiver's proved functions for a Rust program: clock maps, the table check, the writer of tables, runs of gate days,
-//! and a [`Gate`] over them. `barnshiver.h` has the same for C.
+//! the rescue of damaged ones, and a [`Gate`] over them. `barnshiver.h` has the same for C.
 //!
 //! The archive `target/staticlib/libexports.a` (`rt staticlib exports`) is linked; it has code for x86-64 alone. Nothing in
 //! this wrapper is proved; it hands slices over and takes answers apart. "01" is the scope's document.
@@ -21,6 +21,7 @@
 
 mod gate;
 mod raw;
+mod rescue;
 pub mod slices;
 #[cfg(feature = "standin")]
 mod standin;
@@ -28,6 +29,7 @@ pub mod state;
 mod table;
 
 pub use gate::{Gate, Kind, Ready};
+pub use rescue::{rescue, Rescued, Run};
 pub use state::State;
 pub use table::{Table, NONE};
 

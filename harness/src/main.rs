@@ -1,10 +1,9 @@
-//! The library beside the oracle: clock maps, images read and written, runs of days, and the state after every record.
+//! The library beside the oracle: clock maps, images read and written, runs of days, the state after every record, and
+//! damaged days rescued.
 
 use std::io::Write;
 use std::path::{Path, PathBuf};
 use std::process::ExitCode;
-use std::sync::atomic::{AtomicUsize, Ordering};
-use std::sync::Mutex;
 
 use barnshiver::slices::{CLOCK_BYTES, NO_ROOM, PLACE_BYTES, TAG_BYTES};
 use barnshiver::state::STATE_BYTES;
@@ -13,13 +12,16 @@ use oracle::image::{self, number};
 use oracle::make::{make, KINDS};
 use oracle::plain::{self, Plain};
 use oracle::records::split;
+use oracle::several::several;
 use oracle::{deep, scripts, shrink};
 
 mod beside;
+mod rescues;
 mod seen;
 mod selftest;
 mod writes;
 mod wrong;
+mod wrong_rescues;
 
 const USAGE: &str = "\
 harness maps SEED COUNT      clock maps against the published clock's and 01's answers
@@ -34,7 +36,10 @@ harness days recorded FOLDER the same on recorded days
 harness beside FROM TO DAMAGED FOLDER [SEEDS PROGRAM [WORD..]]
                              the lines of the days that `oracle beside` has, all in this process; and PROGRAM's on the recorded, long and
                              damaged ones and on the made ones of the first so many SEEDS
-harness selftest             wrong answers, states and writers in the library's place, each of which must be found
+harness rescues SEED COUNT FOLDER
+                             the rescue of so many damaged days, recorded and made ones: the answer, output and report, in rooms that fit
+                             and that don't; what was rescued is run, and rescued again. It says how many days show what (as with writes)
+harness selftest             wrong answers, states, writers and rescuers in the library's place, each of which must be found
 harness help                 these lines
 
 Exit status: 0 all agrees, 1 a difference, 2 the arguments are at fault.";
@@ -62,6 +67,10 @@ fn main() -> ExitCode {
                 _ => return usage(),
             }
         }
+        ["rescues", seed, count, folder] => match (seed.parse(), count.parse()) {
+            (Ok(seed), Ok(count)) => rescues::rescues(seed, count, Path::new(folder)),
+            _ => return usage(),
+        },
         ["selftest"] => selftest::selftest(),
         ["help"] => Ok(USAGE.to_string()),
         [what, first, second] => match (what, first.parse(), second.parse()) {
@@ -234,7 +243,7 @@ fn days(from: u64, to: u64) -> Result<String, String> {
     let days: Vec<Named> = (from..to)
         .flat_map(|seed| KINDS.iter().map(move |kind| made(seed, kind)))
         .collect();
-    let said = several(&days)?;
+    let said = all_days(&days)?;
     Ok(format!(
         "{} days of every kind, seeds {from} to {to} - 1; {said}",
         days.len()
@@ -258,48 +267,21 @@ fn recorded(folder: &Path) -> Result<String, String> {
         }
     };
     let days: Vec<Named> = files.iter().map(read).collect::<Result<_, _>>()?;
-    let said = several(&days)?;
+    let said = all_days(&days)?;
     Ok(format!("{} recorded days; {said}", days.len()))
 }
 
 /// Days, several at a time: what was found the same, or the first difference on the smallest day.
-fn several(days: &[Named]) -> Result<String, String> {
-    let (next, found) = (AtomicUsize::new(0), Mutex::new(Vec::new()));
-    let (states, with_rust) = (AtomicUsize::new(0), AtomicUsize::new(0));
-    let work = || loop {
-        let index = next.fetch_add(1, Ordering::Relaxed);
-        let Some((_, day)) = days.get(index) else {
-            return;
-        };
-        match one_day(day) {
-            Ok(counts) => {
-                states.fetch_add(counts.0, Ordering::Relaxed);
-                with_rust.fetch_add(counts.1, Ordering::Relaxed);
-            }
-            Err(words) => {
-                // Those before it are being worked on; none after it is begun.
-                next.store(days.len(), Ordering::Relaxed);
-                let mut found = found.lock().unwrap_or_else(|lock| lock.into_inner());
-                found.push((index, words));
-            }
-        }
-    };
-    let workers = std::thread::available_parallelism().map_or(2, |count| count.get());
-    std::thread::scope(|scope| {
-        for _ in 0..workers {
-            scope.spawn(work);
-        }
-    });
-    let mut found = found.into_inner().unwrap_or_else(|lock| lock.into_inner());
-    found.sort();
-    if let Some((index, words)) = found.first() {
-        let (name, day) = &days[*index];
-        return Err(shrink::shown(name, words, day, |day| one_day(day).err()));
-    }
+fn all_days(days: &[Named]) -> Result<String, String> {
+    let counts = several(days, |_, (_, day)| one_day(day)).map_err(|(index, words)| {
+        let (name, day) = &days[index];
+        shrink::shown(name, &words, day, |day| one_day(day).err())
+    })?;
+    let (states, with_rust) = counts
+        .iter()
+        .fold((0, 0), |sum, count| (sum.0 + count.0, sum.1 + count.1));
     Ok(format!(
-        "{} states like the plain machine's, {} of them like the Rust's too: no difference",
-        states.into_inner(),
-        with_rust.into_inner()
+        "{states} states like the plain machine's, {with_rust} of them like the Rust's too: no difference"
     ))
 }
 

@@ -42,6 +42,15 @@ extern "C" {
         lines_length: usize,
     ) -> usize;
 
+    pub fn barnshiver_rescue(
+        day: *const u8,
+        day_length: usize,
+        output: *mut u8,
+        output_length: usize,
+        report: *mut u8,
+        report_length: usize,
+    ) -> u64;
+
     pub fn barnshiver_state_after(
         day: *const u8,
         day_length: usize,

@@ -1,4 +1,4 @@
-//! Wrong answers and wrong states in the library's place, on a few days, and wrong writers: each must be found.
+//! Wrong answers and wrong states in the library's place, on a few days, and wrong writers and rescuers: each must be found.
 
 use std::path::Path;
 use std::time::Duration;
@@ -8,7 +8,7 @@ use oracle::beside::{beside, Runner, Side};
 use oracle::make::make;
 
 use crate::beside::answered;
-use crate::{states, wrong};
+use crate::{states, wrong, wrong_rescues};
 
 /// The days of a run here.
 const SEEDS: (u64, u64) = (0, 5);
@@ -61,6 +61,7 @@ pub fn selftest() -> Result<String, String> {
         ("first: ", run(&empty, &wrong, &answered)),
         ("second: ", run(&empty, &answered, &wrong)),
     ];
+    let rescuers = wrong_rescues::found(&empty);
     // Nothing is left to be done if it stays.
     let _ = std::fs::remove_dir(&empty);
     right?;
@@ -87,9 +88,10 @@ pub fn selftest() -> Result<String, String> {
         }
     }
     Ok(format!(
-        "{} sides with a lost flag found, each on a day of four lines; {} kinds of wrong states found\n{}",
+        "{} sides with a lost flag found, each on a day of four lines; {} kinds of wrong states found\n{}\n{}",
         reports.len(),
         WRONG_STATES.len(),
-        wrong::found()?
+        wrong::found()?,
+        rescuers?
     ))
 }

@@ -15,6 +15,14 @@ pub const PLACE_BYTES: usize = 8;
 pub const COUNTS_BYTES: usize = 18;
 /// Bytes of the largest image.
 pub const LARGEST_IMAGE: usize = 3287;
+/// Bytes of a rescue's report before its runs, and of a run.
+pub const REPORT_HEAD: usize = 24;
+pub const RUN_BYTES: usize = 16;
+
+/// Room for the report on a day of so many bytes.
+pub const fn report_room(day: usize) -> usize {
+    REPORT_HEAD + RUN_BYTES + 3 * day
+}
 
 /// Global to local, or local to global, on a clock's bytes: 0, or the refusal and `tag` as it was.
 pub fn map(to_local: bool, clock: &[u8], offset: u64, microstep: u32, tag: &mut [u8]) -> u8 {
@@ -64,6 +72,22 @@ pub fn write_table(counts: &[u8], rows: &[u8], buffer: &mut [u8]) -> u64 {
 pub fn run_day(day: &[u8], lines: &mut [u8]) -> usize {
     // SAFETY: as above.
     unsafe { raw::barnshiver_run_day(day.as_ptr(), day.len(), lines.as_mut_ptr(), lines.len()) }
+}
+
+/// What is still whole of a damaged day over the front of `output`, and what was kept and dropped over the front of `report`:
+/// 0; or the image's refusal, its number times 2^32 and its place, or `NO_ROOM` times 2^32, and both as they were.
+pub fn rescue(day: &[u8], output: &mut [u8], report: &mut [u8]) -> u64 {
+    // SAFETY: as above.
+    unsafe {
+        raw::barnshiver_rescue(
+            day.as_ptr(),
+            day.len(),
+            output.as_mut_ptr(),
+            output.len(),
+            report.as_mut_ptr(),
+            report.len(),
+        )
+    }
 }
 
 /// The state after a day's records over the front of `state`: 0; or the image's refusal and `state` as it was.

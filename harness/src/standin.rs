@@ -6,6 +6,7 @@ use std::slice;
 use oracle::image::{self, RawTag};
 use oracle::plain::{self, Clock, Plain};
 use oracle::records::split;
+use oracle::rescue::rescue_into;
 
 use crate::slices::{CLOCK_BYTES, NO_ROOM, PLACE_BYTES, TAG_BYTES};
 use crate::state::STATE_BYTES;
@@ -140,6 +141,21 @@ unsafe extern "C" fn barnshiver_run_day(
         written += line.len();
     }
     written
+}
+
+#[no_mangle]
+unsafe extern "C" fn barnshiver_rescue(
+    day: *const u8,
+    day_length: usize,
+    output: *mut u8,
+    output_length: usize,
+    report: *mut u8,
+    report_length: usize,
+) -> u64 {
+    let day = slice::from_raw_parts(day, day_length);
+    let output = slice::from_raw_parts_mut(output, output_length);
+    let report = slice::from_raw_parts_mut(report, report_length);
+    rescue_into(day, output, report)
 }
 
 #[no_mangle]

@@ -13,10 +13,10 @@ use crate::{images, one_table, FILL};
 pub type Writer<'w> = dyn Fn(&[u8], &[u8], &mut [u8]) -> u64 + 'w;
 
 /// Bytes behind the lent ones, which are looked at too.
-const BEHIND: usize = 16;
+pub const BEHIND: usize = 16;
 
 /// What stands in so many bytes before a call; neighbours differ, so that a moved byte shows.
-fn filled(room: usize) -> Vec<u8> {
+pub fn filled(room: usize) -> Vec<u8> {
     (0..room).map(|at| at as u8 ^ FILL).collect()
 }
 

@@ -12,29 +12,29 @@
 //! Rust's domain, damaged days above all). A difference is shown on the smallest day that has one.
 
 use std::io::{Read, Write};
-use std::path::{Path, PathBuf};
+use std::path::Path;
 use std::process::{Command, Stdio};
-use std::sync::atomic::{AtomicUsize, Ordering};
-use std::sync::{mpsc, Mutex};
+use std::sync::mpsc;
 use std::thread;
 use std::time::{Duration, Instant};
 
 use crate::answers::lines;
 use crate::compare::{compare, difference, table_line, Outcome, NO_LINE};
+use crate::days::{damaged, made, recorded, Case, SHORT};
 use crate::judge::judge;
-use crate::make::{make, KINDS, LONG_KINDS};
+use crate::make::{KINDS, LONG_KINDS};
 use crate::plain::answer;
-use crate::rng::Rng;
+use crate::several::several;
 use crate::shrink::shown;
-use crate::text::assemble;
 
 /// Time for one day, long enough for a busy machine; and for one that is tried while a day is made smaller.
-const LIMIT: Duration = Duration::from_secs(120);
-const SHORT_LIMIT: Duration = Duration::from_secs(3);
+pub const LIMIT: Duration = Duration::from_secs(120);
+pub const SHORT_LIMIT: Duration = Duration::from_secs(3);
+/// Between two looks whether a program has ended, and between two writes to it.
+const PAUSE: Duration = Duration::from_micros(500);
 /// Most bytes of answers that are read: far more than any day here has.
 const MOST_BYTES: u64 = 64 << 20;
-/// Longest recorded day, and seeds of made days, that damaged copies are made of.
-const SHORT: usize = 4000;
+/// Seeds of made days that damaged copies are made of.
 const DAMAGED_SEEDS: u64 = 4;
 
 /// Runs a program on a day in a time; its lines, or in words why there are none.
@@ -42,6 +42,16 @@ pub type Runner<'r> = dyn Fn(&[u8], Duration) -> Result<Vec<u8>, String> + Sync 
 
 /// A child process for each day.
 pub fn child(words: &[&str], day: &[u8], limit: Duration) -> Result<Vec<u8>, String> {
+    child_in_pieces(words, day, usize::MAX, limit)
+}
+
+/// The same, the day written so many bytes at a time, with a pause in which they can be read.
+pub fn child_in_pieces(
+    words: &[&str],
+    day: &[u8],
+    piece: usize,
+    limit: Duration,
+) -> Result<Vec<u8>, String> {
     let end = Instant::now() + limit;
     let (program, rest) = words.split_first().ok_or("no program is named")?;
     let mut child = Command::new(program)
@@ -53,8 +63,15 @@ pub fn child(words: &[&str], day: &[u8], limit: Duration) -> Result<Vec<u8>, Str
     let (input, output) = (child.stdin.take(), child.stdout.take());
     let day = day.to_vec();
     thread::spawn(move || {
-        // A program need not read a day to its end.
-        let _ = input.map(|mut input| input.write_all(&day));
+        let mut input = input?;
+        for (at, bytes) in day.chunks(piece).enumerate() {
+            if at > 0 {
+                thread::sleep(PAUSE);
+            }
+            // A program need not read a day to its end.
+            input.write_all(bytes).ok()?;
+        }
+        Some(())
     });
     let (sender, receiver) = mpsc::channel();
     thread::spawn(move || {
@@ -67,7 +84,7 @@ pub fn child(words: &[&str], day: &[u8], limit: Duration) -> Result<Vec<u8>, Str
     while read.is_ok() && matches!(ended, Ok(None)) && Instant::now() < end {
         ended = child.try_wait();
         if matches!(ended, Ok(None)) {
-            thread::sleep(Duration::from_millis(1));
+            thread::sleep(PAUSE);
         }
     }
     // It has ended, or is to be ended: in either case nothing is left to be done if that fails.
@@ -127,118 +144,10 @@ pub struct Side<'s> {
     pub runner: &'s Runner<'s>,
 }
 
-/// A day to be run, with its name and perhaps its recorded answers; for a made one, how many seeds come before its own.
-struct Case {
-    name: String,
-    day: Vec<u8>,
-    recorded: Option<Vec<u8>>,
-    before: u64,
-}
-
-impl Case {
-    fn new(name: String, day: Vec<u8>) -> Self {
-        Self {
-            name,
-            day,
-            recorded: None,
-            before: 0,
-        }
-    }
-}
-
 impl Side<'_> {
     fn takes(&self, case: &Case) -> bool {
         case.before < self.seeds
     }
-}
-
-/// A day made worse at one byte.
-fn damaged(day: &[u8], at: usize, way: usize, rng: &mut Rng) -> (&'static str, Vec<u8>) {
-    let mut copy = day.to_vec();
-    match way {
-        0 => {
-            copy.remove(at);
-            ("dropped", copy)
-        }
-        1 => {
-            copy[at] ^= 1 + rng.below(255) as u8;
-            ("changed", copy)
-        }
-        2 => {
-            copy.truncate(at);
-            ("cut", copy)
-        }
-        _ => {
-            copy.insert(at, day[at]);
-            ("doubled", copy)
-        }
-    }
-}
-
-const WAYS: usize = 4;
-
-/// Files of a folder with this ending, in order.
-fn files(folder: &Path, ending: &str) -> Result<Vec<PathBuf>, String> {
-    let mut files: Vec<PathBuf> = std::fs::read_dir(folder)
-        .map_err(|error| format!("cannot read {}: {error}", folder.display()))?
-        .filter_map(|entry| entry.ok().map(|entry| entry.path()))
-        .filter(|path| path.extension().is_some_and(|end| end == ending))
-        .collect();
-    files.sort();
-    Ok(files)
-}
-
-fn recorded(folder: &Path) -> Result<Vec<Case>, String> {
-    let read = |path: &Path| {
-        std::fs::read(path).map_err(|error| format!("cannot read {}: {error}", path.display()))
-    };
-    let mut cases = Vec::new();
-    for path in files(folder, "day")? {
-        cases.push(Case {
-            recorded: Some(read(&path.with_extension("answers"))?),
-            ..Case::new(path.display().to_string(), read(&path)?)
-        });
-    }
-    let small = folder.join("small");
-    for path in if small.is_dir() {
-        files(&small, "txt")?
-    } else {
-        Vec::new()
-    } {
-        let text = String::from_utf8_lossy(&read(&path)?).into_owned();
-        let day = assemble(&text).map_err(|words| format!("{}: {words}", path.display()))?;
-        cases.push(Case::new(path.display().to_string(), day));
-    }
-    Ok(cases)
-}
-
-fn made(seed: u64, kind: &str) -> Case {
-    Case::new(
-        format!("seed {seed} kind {kind}"),
-        make(seed, kind).unwrap_or_default(),
-    )
-}
-
-/// Damaged copies of short days: places and ways spread evenly, each drawn within its stretch.
-fn damaged_cases(seed: u64, count: usize, bases: &[Case]) -> Vec<Case> {
-    let total: usize = bases.iter().map(|base| base.day.len() * WAYS).sum();
-    let count = count.min(total);
-    let mut rng = Rng::new(seed);
-    let mut cases = Vec::new();
-    let (mut base, mut before) = (0, 0);
-    for index in 0..count {
-        let stretch = index * total / count..(index + 1) * total / count;
-        let drawn = stretch.start + rng.below(stretch.len() as u64) as usize;
-        while drawn - before >= bases[base].day.len() * WAYS {
-            before += bases[base].day.len() * WAYS;
-            base += 1;
-        }
-        let (at, way) = ((drawn - before) / WAYS, (drawn - before) % WAYS);
-        let (how, day) = damaged(&bases[base].day, at, way, &mut rng);
-        let name = format!("{}, byte {at} {how}", bases[base].name);
-        cases.push(Case::new(name, day));
-    }
-    cases
 }
 
 #[derive(Default)]
@@ -269,7 +178,7 @@ impl Counts {
 /// All days of a run; `Err` if a file cannot be read.
 pub fn beside(
     (from, to): (u64, u64),
-    damaged: usize,
+    count: usize,
     folder: &Path,
     sides: &[Side<'_>],
 ) -> Result<Result<String, String>, String> {
@@ -289,7 +198,7 @@ pub fn beside(
     });
     cases.extend(made_days);
     let whole = cases.len();
-    cases.extend(damaged_cases(from, damaged, &bases));
+    cases.extend(damaged(from, count, &bases));
     let by_side = |side: &Side<'_>| {
         let taken = cases.iter().filter(|case| side.takes(case)).count();
         format!("{taken} through {}", side.name)
@@ -313,61 +222,25 @@ pub fn beside(
 
 /// Runs all cases, several at a time; the first that differs is shown on the smallest day.
 fn run(cases: &[Case], sides: &[Side<'_>]) -> Result<Counts, String> {
-    let workers = thread::available_parallelism().map_or(2, |count| count.get());
-    let (next, counts) = (AtomicUsize::new(0), Mutex::new(Counts::default()));
-    let worst: Mutex<Option<(usize, &Side<'_>, String)>> = Mutex::new(None);
-    let work = || loop {
-        let index = next.fetch_add(1, Ordering::Relaxed);
-        let Some(case) = cases.get(index) else {
-            return;
-        };
+    let work = |_: usize, case: &Case| {
         let mut agreed = None;
         for side in sides.iter().filter(|side| side.takes(case)) {
-            match check_case(case, side.runner) {
-                Ok(outcome) => agreed = Some(outcome),
-                Err(words) => {
-                    // Those before it are being worked on; none after it is begun.
-                    next.store(cases.len(), Ordering::Relaxed);
-                    let mut worst = locked(&worst);
-                    if worst.as_ref().map_or(true, |(first, ..)| index < *first) {
-                        *worst = Some((index, side, words));
-                    }
-                    return;
-                }
-            }
+            agreed = Some(check_case(case, side.runner).map_err(|words| (side, words))?);
         }
-        if let Some(outcome) = agreed {
-            locked(&counts).add(&case.day, &outcome);
-        }
+        Ok(agreed)
     };
-    thread::scope(|scope| {
-        for _ in 0..workers {
-            scope.spawn(work);
-        }
-    });
-    let found = locked(&worst).take();
-    match found {
-        Some((index, side, words)) => {
-            let differs = |day: &[u8]| check(day, (side.runner)(day, SHORT_LIMIT)).err();
-            Err(shown(
-                &format!("{}: {}", side.name, cases[index].name),
-                &words,
-                &cases[index].day,
-                differs,
-            ))
-        }
-        None => {
-            let counted = std::mem::take(&mut *locked(&counts));
-            Ok(counted)
+    let outcomes = several(cases, work).map_err(|(index, (side, words))| {
+        let differs = |day: &[u8]| check(day, (side.runner)(day, SHORT_LIMIT)).err();
+        let name = format!("{}: {}", side.name, cases[index].name);
+        shown(&name, &words, &cases[index].day, differs)
+    })?;
+    let mut counts = Counts::default();
+    for (case, outcome) in cases.iter().zip(outcomes) {
+        if let Some(outcome) = outcome {
+            counts.add(&case.day, &outcome);
         }
     }
-}
-
-/// Nobody panics while holding a lock; if one did, what it left is still to be reported.
-fn locked<T>(mutex: &Mutex<T>) -> std::sync::MutexGuard<'_, T> {
-    mutex
-        .lock()
-        .unwrap_or_else(|poisoned| poisoned.into_inner())
+    Ok(counts)
 }
 
 fn check_case(case: &Case, runner: &Runner<'_>) -> Result<Outcome, String> {
@@ -383,7 +256,7 @@ fn check_case(case: &Case, runner: &Runner<'_>) -> Result<Outcome, String> {
 #[cfg(test)]
 mod tests {
     use super::*;
-    use crate::text::lines_of;
+    use crate::text::{assemble, lines_of};
 
     /// The plain machine, with each line put through a change.
     fn wrong<'r>(change: impl Fn(&str) -> String + Sync + 'r) -> Box<Runner<'r>> {
@@ -398,7 +271,7 @@ mod tests {
             .iter()
             .flat_map(|kind| (0..6).map(move |seed| made(seed, kind)));
         let mut cases: Vec<Case> = kinds.collect();
-        let more = damaged_cases(1, 60, &cases);
+        let more = damaged(1, 60, &cases);
         cases.extend(more);
         cases
     }

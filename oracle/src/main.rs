@@ -9,7 +9,8 @@ use std::time::Duration;
 use oracle::compare::{self, Outcome};
 use oracle::scripts::{self, Written};
 use oracle::{
-    antt, beside, deep, image, judge, make, picture, plain, selftest, sweep, text, timing,
+    antt, beside, deep, image, judge, make, picture, plain, rescue, rescues, selftest, sweep, text,
+    timing,
 };
 
 const USAGE: &str = "\
@@ -39,6 +40,10 @@ oracle selftest DIR                 recorded days, and wrong answers that must b
 oracle sweep FROM TO [KIND]         made days on both sides, seeds FROM to TO - 1
 oracle beside FROM TO DAMAGED FOLDER PROGRAM [WORD..]
                                     another program's answers: recorded days, made days, so many damaged copies
+oracle rescue DAY OUT               what is still whole of a damaged day; its list to standard error, a file - as with asm
+oracle rescues SEED COUNT FOLDER RESCUER [WORD..] -- BENCH [WORD..]
+                                    another program's rescues of so many damaged days, recorded and made ones; what it rescued
+                                    through itself again, and through the bench program
 
 Exit status: 0 all agrees, 1 a difference, 2 the arguments or a file are at fault.";
 
@@ -217,6 +222,25 @@ fn run(words: &[&str]) -> Result<ExitCode, Failure> {
                 runner: &runner,
             };
             let outcome = beside::beside(seeds, damaged, Path::new(folder), &[side]);
+            writeln!(out, "{}", outcome.map_err(Fault)?.map_err(Difference)?)?;
+        }
+        ["rescue", day, output] => {
+            let kept = rescue::rescue(&read(day)?);
+            let given = rescues::Given::of(&kept);
+            let kept = kept.map_err(|refused| Fault(format!("{day}: {refused}")))?;
+            put(&mut out, output, &kept.output)?;
+            io::stderr().write_all(&[given.list, given.told].concat())?;
+        }
+        ["rescues", seed, count, folder, ref words @ ..] => {
+            let (seed, count) = (number(seed)?, number(count)? as usize);
+            let (rescuer, bench) = match words.iter().position(|&word| word == "--") {
+                Some(at) => (&words[..at], &words[at + 1..]),
+                None => (&words[..0], words),
+            };
+            if rescuer.is_empty() || bench.is_empty() {
+                return Err(Fault(format!("what are the two programs?\n{USAGE}")));
+            }
+            let outcome = rescues::rescues(seed, count, Path::new(folder), rescuer, bench);
             writeln!(out, "{}", outcome.map_err(Fault)?.map_err(Difference)?)?;
         }
         ["help"] => writeln!(out, "{USAGE}")?,

@@ -50,27 +50,32 @@ pub struct Record<'a> {
     pub bytes: &'a [u8],
 }
 
+/// The record that these bytes, of which there are some, begin with. One that stops the run has all of them.
+pub fn first(bytes: &[u8]) -> Record<'_> {
+    let length = match bytes.get(..4) {
+        Some(field) => number(field) as usize,
+        None => LONGEST + 1,
+    };
+    if length > LONGEST || bytes.len() < 4 + length {
+        return Record {
+            op: Op::Broken,
+            bytes,
+        };
+    }
+    let bytes = &bytes[..4 + length];
+    Record {
+        op: parse(&bytes[4..]).unwrap_or(Op::Malformed),
+        bytes,
+    }
+}
+
 /// All records up to the end or to the one that stops the run, that one included.
 pub fn split(mut bytes: &[u8]) -> Vec<Record<'_>> {
     let mut records = Vec::new();
     while !bytes.is_empty() {
-        let length = match bytes.get(..4) {
-            Some(field) => number(field) as usize,
-            None => LONGEST + 1,
-        };
-        if length > LONGEST || bytes.len() < 4 + length {
-            records.push(Record {
-                op: Op::Broken,
-                bytes,
-            });
-            break;
-        }
-        let (record, rest) = bytes.split_at(4 + length);
-        records.push(Record {
-            op: parse(&record[4..]).unwrap_or(Op::Malformed),
-            bytes: record,
-        });
-        bytes = rest;
+        let record = first(bytes);
+        bytes = &bytes[record.bytes.len()..];
+        records.push(record);
     }
     records
 }
@@ -159,6 +164,11 @@ fn parse(body: &[u8]) -> Option<Op> {
 }
 
 impl Op {
+    /// Whether a record is one at all.
+    pub fn is_formed(&self) -> bool {
+        !matches!(self, Op::Malformed | Op::Broken)
+    }
+
     /// The refusal that the bytes and the table alone decide: 1, 5, 10 or 6, in this order.
     pub fn refused_by_bytes(&self, table: &Table) -> Option<u8> {
         let no_reaction = |reactions: &[u16]| {

@@ -7,6 +7,8 @@ use crate::text::{assemble, lines_of};
 
 /// How long a day is made smaller.
 const LONGEST: Duration = Duration::from_secs(60);
+/// Most of its text that is shown.
+const SHOWN: usize = 10_000;
 
 /// The smallest day found that shows something, as the lines of its text; `shows` is asked of each day that is tried.
 /// No line of it can be left out alone, unless the time ran out.
@@ -38,6 +40,11 @@ pub fn shown(
     let there = assemble(&text).ok().and_then(|day| differs(&day));
     if text.is_empty() {
         text = "# an image without rows, and no record".to_string();
+    }
+    if text.len() > SHOWN {
+        let all = text.len();
+        text.truncate(SHOWN);
+        text += &format!("..\n# and so on, {all} characters in all");
     }
     format!(
         "{name}: {words}\nthe smallest day found that differs (oracle asm makes it):\n{text}\nthere: {}",
@@ -174,12 +181,13 @@ fn plainer(line: &str, place: usize) -> Vec<String> {
     let words: Vec<&str> = line.split(' ').collect();
     let word = words[place];
     let instead: Vec<String> = if matches!(words[0], "image" | "raw") {
-        // The front half of the bytes, or all but the last.
+        // The front half of the bytes, the back half, all but the last, or all but the first.
         let bytes = word.len() / 2;
-        [bytes / 2, bytes.saturating_sub(1)]
+        let (half, last) = (bytes / 2, bytes.saturating_sub(1));
+        [0..half, half..bytes, 0..last, 1..bytes]
             .iter()
-            .filter(|&&less| 0 < less && less < bytes)
-            .map(|less| word[..2 * less].to_string())
+            .filter(|less| !less.is_empty() && less.len() < bytes)
+            .map(|less| word[2 * less.start..2 * less.end].to_string())
             .collect()
     } else if let Some((first, others)) = word.split_once(',') {
         vec!["-".to_string(), first.to_string(), others.to_string()]

@@ -165,7 +165,7 @@ fn with_length(body: Vec<u8>) -> Vec<u8> {
 }
 
 /// The bytes of a record, or of several.
-fn record(words: &[&str]) -> Option<Vec<u8>> {
+pub fn record(words: &[&str]) -> Option<Vec<u8>> {
     match *words {
         ["raw", hex] => raw(hex),
         ["repeat", count, ref words @ ..] => Some(record(words)?.repeat(count.parse().ok()?)),
