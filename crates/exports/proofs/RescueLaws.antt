@@ -20,12 +20,12 @@ use Rattle.table.specs.declared.ImageRefusal.the-variants.{Length}
 use Rattle.writer.proofs.SmallLaws.{placeIn, check-small}
 use Rattle.gate_day.specs.Days.{imageEnd, imageIn, opened}
 use Rattle.gate_day.proofs.WholeLaws.{rest-is}
-use Rattle.rescue.specs.Rescue.{run, roomy, Rescuing, rescuing, saved, savedBy}
+use Rattle.rescue.specs.Rescue.{run, roomy, Answered, answered, saved, savedBy}
 use Rattle.rescue.specs.declared.Totals.{Totals}
 use Rattle.rescue.specs.declared.Rescued.{Rescued}
 use Rattle.rescue.specs.declared.Rescued.the-variants as answers
 use Rattle.exports.specs.Told.{noRoom, wordBytes}
-use Rattle.exports.specs.Answers.{half, reportHead, headOf, rescueTold, rescueBy, rescueBytes}
+use Rattle.exports.specs.Answers.{half, reportHead, headOf, rescueBy, rescueBytes}
 
 -- ---- the place of a refusal is small
 
@@ -51,7 +51,7 @@ saved-small : (day out list : List ℕ) → placeOf (saved day out list .answer)
 unfolding saved placeOf placeAt
 saved-small day out list = go (opened day) (opened-small day)
   where
-    room : (b : Bool) (x y : Rescuing) → placeOf (x .answer) ≡ 0 → placeOf (y .answer) ≡ 0 → placeOf (cond b x y .answer) ≤ largest
+    room : (b : Bool) (x y : Answered Rescued) → placeOf (x .answer) ≡ 0 → placeOf (y .answer) ≡ 0 → placeOf (cond b x y .answer) ≤ largest
     room true x y p q = omega (arith, p)
     room false x y p q = omega (arith, q)
 
@@ -62,7 +62,7 @@ saved-small day out list = go (opened day) (opened-small day)
 -- ---- what is told
 
 module _ (day out report : List ℕ) {head : ℕ} (g : head ≡ min reportHead (length report)) {a : Rescued} {after list : List ℕ}
-    (q : rescuing a after list ≡ saved day out (take (length report - head) (drop head report))) where
+    (q : answered a after list ≡ saved day out (take (length report - head) (drop head report))) where
   abbrev pub mid : List ℕ
   mid = take head report ++ (list ++ drop (length report - head) (drop head report))
 
@@ -77,11 +77,11 @@ module _ (day out report : List ℕ) {head : ℕ} (g : head ≡ min reportHead (
       (ap (λ x. rescueBy (x .answer) (x .out) (take head report ++ x .list)) s ∙
       ap (λ k. let r = saved day out (drop k report) in rescueBy (r .answer) (r .out) (take k report ++ r .list)) g)
 
-  pub told-none : a ≡ answers.NoRoom → rescueTold (noRoom * half) after mid ≡ rescueBytes day out report
+  pub told-none : a ≡ answers.NoRoom → answered (noRoom * half) after mid ≡ rescueBytes day out report
   told-none e = ap (λ x. rescueBy x after mid) (sym e) ∙ told-by
 
   module _ {why : ImageRefusal} (e : a ≡ answers.Refused why) where
-    pub told-refused : {n p : ℕ} → n ≡ table.numberOf why → p ≡ table.placeOf why → rescueTold (n * half + p) after mid ≡ rescueBytes day out report
+    pub told-refused : {n p : ℕ} → n ≡ table.numberOf why → p ≡ table.placeOf why → answered (n * half + p) after mid ≡ rescueBytes day out report
     told-refused m l = rw (m, l) (ap (λ x. rescueBy x after mid) (sym e) ∙ told-by)
 
     pub place-small : table.placeOf why ≤ largest
@@ -93,10 +93,10 @@ module _ (day out report : List ℕ) {head : ℕ} (g : head ≡ min reportHead (
 
   module _ {t : Totals} (e : a ≡ answers.Saved t) {one two three : List ℕ} {x y z : ℕ} where
     pub told-saved : Written mid 0 (beBytes 8 (t .written)) one x → Written one x (beBytes 8 (t .records)) two y → Written two y (beBytes 8 (t .listed / 16)) three z →
-        rescueTold 0 after three ≡ rescueBytes day out report
+        answered 0 after three ≡ rescueBytes day out report
     unfolding wordBytes
     told-saved u v w =
         let all = written-then (written-then u v) w in
         let h : (beBytes 8 (t .written) ++ beBytes 8 (t .records)) ++ beBytes 8 (t .listed / 16) ≡ headOf t =
         append-assoc (beBytes 8 (t .written)) (beBytes 8 (t .records)) (beBytes 8 (t .listed / 16)) ∙ ap (λ x. beBytes 8 (t .written) ++ (beBytes 8 (t .records) ++ x)) (sym (append-nil (beBytes 8 (t .listed / 16)))) in
-        ap (rescueTold 0 after) (written-as all h .all) ∙ (ap (λ x. rescueBy x after mid) (sym e) ∙ told-by)
+        ap (answered 0 after) (written-as all h .all) ∙ (ap (λ x. rescueBy x after mid) (sym e) ∙ told-by)

@@ -12,7 +12,7 @@ use Rattle.table.specs.declared.Checked.{Checked}
 use Rattle.table.specs.declared.Checked.the-variants.{Accepted, Refused}
 use Rattle.writer.specs.Writer as writer
 use Rattle.writer.specs.Writer.{Writing}
-use Rattle.rescue.specs.Rescue.{saved}
+use Rattle.rescue.specs.Rescue.{Answered, answered, saved}
 use Rattle.rescue.specs.declared.Totals.{Totals}
 use Rattle.rescue.specs.declared.Rescued.{Rescued}
 use Rattle.rescue.specs.declared.Rescued.the-variants as answers
@@ -44,15 +44,6 @@ writeTold w = told (writer.numberOf (w .answer) * half + writer.placeOf (w .answ
 
 -- ---- the rescue of a damaged day
 
--- what is told, and what both lent slices are then
-pub record Rescuing : Type 0 where
-  pub number : ℕ
-  pub output : List ℕ
-  pub report : List ℕ
-
-abbrev pub rescueTold : ℕ → List ℕ → List ℕ → Rescuing
-rescueTold n output report = record { number = n; output = output; report = report }
-
 -- three numbers of eight bytes before the runs: the bytes of the output, the records kept and the runs dropped
 abbrev pub reportHead : ℕ
 reportHead = 24
@@ -61,13 +52,13 @@ abbrev pub headOf : Totals → List ℕ
 headOf t = wordBytes (t .written ∷ (t .records ∷ (t .listed / 16 ∷ [])))
 
 -- 0, and the head over the front of the report; or the refusal's number in the high half and its place in the low one, and all stays as it was
-abbrev pub rescueBy : Rescued → List ℕ → List ℕ → Rescuing
-rescueBy (answers.Saved t) output report = rescueTold 0 output (front report (headOf t))
-rescueBy (answers.Refused why) output report = rescueTold (table.numberOf why * half + table.placeOf why) output report
-rescueBy answers.NoRoom output report = rescueTold (noRoom * half) output report
+abbrev pub rescueBy : Rescued → List ℕ → List ℕ → Answered ℕ
+rescueBy (answers.Saved t) output report = answered 0 output (front report (headOf t))
+rescueBy (answers.Refused why) output report = answered (table.numberOf why * half + table.placeOf why) output report
+rescueBy answers.NoRoom output report = answered (noRoom * half) output report
 
 -- the runs stand behind the head
-unfoldable pub rescueBytes : List ℕ → List ℕ → List ℕ → Rescuing
+unfoldable pub rescueBytes : List ℕ → List ℕ → List ℕ → Answered ℕ
 rescueBytes day output report =
     let r = saved day output (drop (min reportHead (length report)) report) in
     rescueBy (r .answer) (r .out) (take (min reportHead (length report)) report ++ r .list)

@@ -14,7 +14,8 @@ ghost use Rattle.tags.specs.Views.{ofClock, mappedLocal, mappedGlobal};
 ghost use Rattle.exports.specs.Told.{wordBytes, tagBytes, told};
 ghost use Rattle.exports.specs.State.{peekWords, flagWord, firstWords, stateBytes, afterAll, stateTold};
 ghost use Rattle.writer.specs.Writer.{writing};
-ghost use Rattle.exports.specs.Answers.{checkNumber, checkPlace, checkTold, writeTold, reportHead, rescueTold, rescueBytes, clockIn, isClock, mapped, mapTold};
+ghost use Rattle.rescue.specs.Rescue.{answered};
+ghost use Rattle.exports.specs.Answers.{checkNumber, checkPlace, checkTold, writeTold, reportHead, rescueBytes, clockIn, isClock, mapped, mapTold};
 use gate_day::Day;
 use pops::Peeked;
 use refusals::Refusal;
@@ -292,7 +293,7 @@ fn report_head(report: &[u8]) -> usize
 // the high half and its place in the low one, or 255 in the high half for too little room; and both stay as they were.
 #[no_mangle]
 pub extern "C" fn barnshiver_rescue(day: &[u8], output: &mut [u8], report: &mut [u8]) -> u64
-    ensures { λ r. ⌜ rescueTold r (now (output .exit)) (now (report .exit)) ≡ rescueBytes (now (day .entry)) (now (output .entry)) (now (report .entry)) ⌝ }
+    ensures { λ r. ⌜ answered r (now (output .exit)) (now (report .exit)) ≡ rescueBytes (now (day .entry)) (now (output .entry)) (now (report .entry)) ⌝ }
 {
     let head = report_head(report);
     match rescue::rescue(day, output, &mut report[head..]) {

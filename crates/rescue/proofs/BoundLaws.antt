@@ -10,7 +10,8 @@ use lib.Seq.{length-sets}
 use borrow.Author.Tests.{leb-false}
 use Rattle.records.specs.Records.{isFormed, lengthAt, recordAt, behind}
 use Rattle.rescue.specs.declared.Run.{Run}
-use Rattle.rescue.specs.Rescue.{run, past, longer, listed, Walk, stopped, before, between, walkIn, walk, closed, runBytes, roomy, Piecing, told, lastPlace, piecing}
+use Rattle.rescue.specs.declared.Piece.{Piece}
+use Rattle.rescue.specs.Rescue.{run, past, longer, listed, Walk, stopped, before, between, walkIn, walk, closed, runBytes, roomy, Answered, told, lastPlace, piecing}
 use Rattle.rescue.proofs.WalkLaws.{ends-behind, ends-inside, every-walk}
 use Rattle.rescue.proofs.ListLaws.{run-append, run-long}
 use Rattle.rescue.proofs.PieceLaws.{Room, room-there, last-inside}
@@ -40,11 +41,11 @@ module _ (s : List ℕ) (end : ℕ) (e : end ≤ length s) where
       (λ i r w b f t g. let m = t (omega (arith, b, e)) in record { kept = omega (arith, m .kept); dropped = omega (arith, m .dropped); inside = m .inside })
 
 -- what a piece comes to, in lent bytes
-pub record Bounds (s out list : List ℕ) (q : Piecing) : Type 0 where
-  pub inside : q .piece .used ≤ length s
-  pub few : q .piece .written ≤ q .piece .used
-  pub written : q .piece .written ≤ length (q .out)
-  pub listed : q .piece .listed ≤ length (q .list)
+pub record Bounds (s out list : List ℕ) (q : Answered Piece) : Type 0 where
+  pub inside : q .answer .used ≤ length s
+  pub few : q .answer .written ≤ q .answer .used
+  pub written : q .answer .written ≤ length (q .out)
+  pub listed : q .answer .listed ≤ length (q .list)
   pub output-long : length (q .out) ≡ length out
   pub list-long : length (q .list) ≡ length list
 
@@ -79,6 +80,6 @@ module _ (s out list : List ℕ) where
   bounds-by last r true e = closed-bounds last _ (walk-within s (lastPlace last (length s)) (last-inside last refl) 0 r (omega arith)) (room-there s r out list (sym e))
   bounds-by last r false e = told-bounds (stopped 0 r) (omega arith) (omega arith) (omega arith) (omega arith)
 
-  pub piece-bounds : (last : Bool) (r : Run) {q : Piecing} → q ≡ piecing s last r out list → Bounds s out list q
+  pub piece-bounds : (last : Bool) (r : Run) {q : Answered Piece} → q ≡ piecing s last r out list → Bounds s out list q
   unfolding piecing
   piece-bounds last r e = rw e (bounds-by last r (roomy (length s) r (length out) (length list)) refl)

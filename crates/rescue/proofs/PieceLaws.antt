@@ -15,7 +15,7 @@ use Rattle.puts.specs.Written.{Written}
 use Rattle.puts.proofs.WrittenLaws.{written-none, written-then, written-as, written-long}
 use Rattle.rescue.specs.declared.Run.{Run}
 use Rattle.rescue.specs.declared.Piece.{Piece}
-use Rattle.rescue.specs.Rescue.{run, past, listed, Walk, stopped, before, between, walk, closed, runBytes, listRoom, mostPlace, roomy, Piecing, pieced, told as tell, lastPlace, piecing}
+use Rattle.rescue.specs.Rescue.{run, past, listed, Walk, stopped, before, between, walk, closed, runBytes, listRoom, mostPlace, roomy, Answered, answered, told as tell, lastPlace, piecing}
 use Rattle.rescue.specs.Places.{Stands, Passed, Skipped, Stretched}
 use Rattle.rescue.proofs.WalkLaws.{walk-stops, walk-passes, before-before}
 use Rattle.rescue.proofs.ListLaws.{run-append, run-long}
@@ -141,12 +141,12 @@ module _ (s : List ℕ) (end : ℕ) (e : end ≤ length s) (r : Run) (out₀ lis
     pub listing-long : told ≡ length (runBytes (w .dropped))
     listing-long = let o = w .listing .end-is in let f = w .listed-few in let i = w .inside in let g = room .listing in omega (arith, o, f, i, g)
 
-    pub walked-out : pieced (record { used = at; written = written; listed = told; records = records; pending = run place many }) out list ≡ tell (walk s end 0 r) out₀ list₀
+    pub walked-out : answered (record { used = at; written = written; listed = told; records = records; pending = run place many }) out list ≡ tell (walk s end 0 r) out₀ list₀
     walked-out = rw (ends, append-nil (w .kept), append-nil (w .dropped), add-zero records, output-long, listing-long, w .output .all, w .listing .all)
 
     -- and the last run, at the end of the file
     pub walked-closed : {list′ : List ℕ} {told′ : ℕ} → Written list told (runBytes (listed (run place many))) list′ told′ →
-        pieced (record { used = at; written = written; listed = told′; records = records; pending = run (place + many) 0 }) out list′ ≡ tell (closed true (walk s end 0 r)) out₀ list₀
+        answered (record { used = at; written = written; listed = told′; records = records; pending = run (place + many) 0 }) out list′ ≡ tell (closed true (walk s end 0 r)) out₀ list₀
     walked-closed {list′} {told′} v =
         let q = run place many in
         let a = run-append (w .dropped) (listed q) in
@@ -163,11 +163,11 @@ module _ (s : List ℕ) (end : ℕ) (e : end ≤ length s) (r : Run) (out₀ lis
 -- ---- by the room
 
 module _ (s : List ℕ) (last : Bool) (r : Run) (out list : List ℕ) {b : Bool} (e : b ≡ roomy (length s) r (length out) (length list)) where
-  pub piece-none : b ≡ false → pieced (record { used = 0; written = 0; listed = 0; records = 0; pending = r }) out list ≡ piecing s last r out list
+  pub piece-none : b ≡ false → answered (record { used = 0; written = 0; listed = 0; records = 0; pending = r }) out list ≡ piecing s last r out list
   unfolding piecing runBytes
   piece-none h = rw (sym e ∙ h)
 
-  module _ (h : b ≡ true) {end : ℕ} (g : end ≡ lastPlace last (length s)) {p : Piecing} where
+  module _ (h : b ≡ true) {end : ℕ} (g : end ≡ lastPlace last (length s)) {p : Answered Piece} where
     pub piece-last : last ≡ true → p ≡ tell (closed true (walk s end 0 r)) out list → p ≡ piecing s last r out list
     unfolding piecing
     piece-last l q = rw (sym e ∙ h) (q ∙ rw (g, l))

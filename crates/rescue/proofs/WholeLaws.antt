@@ -18,7 +18,7 @@ use Rattle.puts.proofs.WrittenLaws.{sets-append, written-long}
 use Rattle.rescue.specs.declared.Run.{Run}
 use Rattle.rescue.specs.declared.Piece.{Piece}
 use Rattle.rescue.specs.declared.Rescued.the-variants as answers
-use Rattle.rescue.specs.Rescue.{run, past, before, rescueFrom, dayRescue, runBytes, listRoom, mostPlace, roomy, Piecing, pieced, told, piecing, totals, Rescuing, rescuing, saved, savedBy, rescueBy}
+use Rattle.rescue.specs.Rescue.{run, past, before, rescueFrom, dayRescue, runBytes, listRoom, mostPlace, roomy, answered, told, piecing, totals, saved, savedBy, rescueBy}
 use Rattle.rescue.proofs.PieceLaws.{Room, room-there}
 use Rattle.rescue.proofs.BoundLaws.{walk-within}
 
@@ -27,7 +27,7 @@ unfolding roomy
 roomy-yes n r out list a b c = rw (le-leb n out a, le-leb (listRoom n) list b, le-leb (past r + n) mostPlace c)
 
 module _ (day out list : List ℕ) {checked : Checked} (o : checked ≡ opened day) where
-  pub saved-refused : {why : ImageRefusal} → checked ≡ Refused why → rescuing (answers.Refused why) out list ≡ saved day out list
+  pub saved-refused : {why : ImageRefusal} → checked ≡ Refused why → answered (answers.Refused why) out list ≡ saved day out list
   unfolding saved
   saved-refused e = sym (ap (λ c. savedBy c day out list) (sym o ∙ e))
 
@@ -36,12 +36,12 @@ module _ (day out list : List ℕ) {checked : Checked} (o : checked ≡ opened d
     unfolding saved
     saved-is = ap (λ c. savedBy c day out list) (sym e ∙ o)
 
-    saved-none : roomy (length day) (run 0 0) (length out) (length list) ≡ false → rescuing answers.NoRoom out list ≡ saved day out list
+    saved-none : roomy (length day) (run 0 0) (length out) (length list) ≡ false → answered answers.NoRoom out list ≡ saved day out list
     saved-none h = rw h at saved-is
 
     -- by the test that the code makes
     module _ {b : Bool} (t : b ≡ roomy (length day) (run 0 0) (length out) (length list)) where
-      pub saved-no-room : b ≡ false → rescuing answers.NoRoom out list ≡ saved day out list
+      pub saved-no-room : b ≡ false → answered answers.NoRoom out list ≡ saved day out list
       saved-no-room h = saved-none (sym t ∙ h)
 
       pub has-room : b ≡ true → roomy (length day) (run 0 0) (length out) (length list) ≡ true
@@ -59,8 +59,8 @@ module _ (day out list : List ℕ) {checked : Checked} (o : checked ≡ opened d
         end-output = let l = written-long w in let f = end-inside in let r = room .output in omega (arith, l, f, r)
 
         -- the records as a piece
-        module _ {p : Piece} {new after : List ℕ} (q : pieced p new after ≡ piecing (take (length day - end) (drop end day)) true (run end 0) (take (length mid - end) (drop end mid)) list) where
-          as-piece : pieced p new after ≡ told (rescueFrom end (drop end day)) (drop end mid) list
+        module _ {p : Piece} {new after : List ℕ} (q : answered p new after ≡ piecing (take (length day - end) (drop end day)) true (run end 0) (take (length mid - end) (drop end mid)) list) where
+          as-piece : answered p new after ≡ told (rescueFrom end (drop end day)) (drop end mid) list
           unfolding piecing rescueFrom
           as-piece =
               let f = end-inside in
@@ -79,11 +79,11 @@ module _ (day out list : List ℕ) {checked : Checked} (o : checked ≡ opened d
           written-few =
               let f = end-inside in
               let d = length-drop end day in
-              let a = ap (λ x. x .piece .written) as-piece in
+              let a = ap (λ x. x .answer .written) as-piece in
               let k = walk-within (drop end day) (length (drop end day)) (omega arith) 0 (run end 0) (omega arith) in
               omega (arith, f, d, a, k .kept, k .inside, room .places)
 
-          pub saved-all : rescuing (answers.Saved (record { written = end + p .written; listed = p .listed; records = p .records })) (take end mid ++ (new ++ drop (length mid - end) (drop end mid))) after ≡ saved day out list
+          pub saved-all : answered (answers.Saved (record { written = end + p .written; listed = p .listed; records = p .records })) (take end mid ++ (new ++ drop (length mid - end) (drop end mid))) after ≡ saved day out list
           unfolding dayRescue
           saved-all =
               let f = end-inside in
@@ -98,7 +98,7 @@ module _ (day out list : List ℕ) {checked : Checked} (o : checked ≡ opened d
               sets-append out 0 (take end day) (R .kept) ∙ (ap (λ x. sets x (0 + length (take end day)) (R .kept)) (sym (w .all)) ∙
               (ap (λ k. sets mid k (R .kept)) (zero-add _ ∙ long) ∙ sets-behind mid end (R .kept) end-output)) in
               let bytes : end + p .written ≡ length (take end day ++ R .kept) =
-              sym (length-append (take end day) (R .kept) ∙ (ap (λ k. k + length (R .kept)) long ∙ ap (λ x. end + x .piece .written) (sym as-piece))) in
+              sym (length-append (take end day) (R .kept) ∙ (ap (λ k. k + length (R .kept)) long ∙ ap (λ x. end + x .answer .written) (sym as-piece))) in
               let is : dayRescue day ≡ D = ap (λ k. rescueBy k day) (sym o ∙ e) ∙ ap (λ k. before (take k day) 0 [] (rescueFrom k (drop k day))) (sym g) in
-              rw (bytes, ap (λ x. x .piece .listed) as-piece, ap (λ x. x .piece .records) as-piece, ap (λ x. x .list) as-piece, all, ← whole, ← zero-add (R .records))
+              rw (bytes, ap (λ x. x .answer .listed) as-piece, ap (λ x. x .answer .records) as-piece, ap (λ x. x .list) as-piece, all, ← whole, ← zero-add (R .records))
               (rw (h, is) at saved-is)

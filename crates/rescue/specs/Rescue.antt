@@ -104,48 +104,42 @@ mostPlace = 18446744073709551615
 unfoldable pub roomy : ℕ → Run → ℕ → ℕ → Bool
 roomy n r out list = leb n out && (leb (listRoom n) list && leb (past r + n) mostPlace)
 
--- what a piece comes to, and what the lent bytes are then
-pub record Piecing : Type 0 where
-  pub piece : Piece
+-- an answer, and what the lent bytes are then
+pub record Answered (A : Type 0) : Type 0 where
+  pub answer : A
   pub out : List ℕ
   pub list : List ℕ
 
-abbrev pub pieced : Piece → List ℕ → List ℕ → Piecing
-pieced p out list = record { piece = p; out = out; list = list }
+abbrev pub answered : {A : Type 0} → A → List ℕ → List ℕ → Answered A
+answered a out list = record { answer = a; out = out; list = list }
 
-abbrev pub told : Walk → List ℕ → List ℕ → Piecing
+-- what a piece comes to
+abbrev pub told : Walk → List ℕ → List ℕ → Answered Piece
 told w out list =
-    pieced (record { used = w .at; written = length (w .kept); listed = length (runBytes (w .dropped)); records = w .records; pending = w .pending })
+    answered (record { used = w .at; written = length (w .kept); listed = length (runBytes (w .dropped)); records = w .records; pending = w .pending })
     (sets out 0 (w .kept)) (sets list 0 (runBytes (w .dropped)))
 
 -- where the longest record may not be there whole, more bytes are waited for, unless these are the last
 abbrev pub lastPlace : Bool → ℕ → ℕ
 lastPlace last n = cond last n (n - (mostBytes + 3))
 
-unfoldable pub piecing : List ℕ → Bool → Run → List ℕ → List ℕ → Piecing
+unfoldable pub piecing : List ℕ → Bool → Run → List ℕ → List ℕ → Answered Piece
 piecing s last r out list =
     cond (roomy (length s) r (length out) (length list)) (told (closed last (walk s (lastPlace last (length s)) 0 r)) out list)
     (told (stopped 0 r) out list)
 
--- what a whole day comes to
-pub record Rescuing : Type 0 where
-  pub answer : Rescued
-  pub out : List ℕ
-  pub list : List ℕ
-
-abbrev pub rescuing : Rescued → List ℕ → List ℕ → Rescuing
-rescuing a out list = record { answer = a; out = out; list = list }
+-- ---- what a whole day comes to
 
 abbrev pub totals : Piece → Totals
 totals p = record { written = p .written; listed = p .listed; records = p .records }
 
 -- "Refusals: 1 to 4 as for the image", and then too little room; the lent bytes then stay as they were
-abbrev pub savedBy : Checked → List ℕ → List ℕ → List ℕ → Rescuing
+abbrev pub savedBy : Checked → List ℕ → List ℕ → List ℕ → Answered Rescued
 savedBy Accepted day out list =
     let p = told (dayRescue day) out list in
-    cond (roomy (length day) (run 0 0) (length out) (length list)) (rescuing (answers.Saved (totals (p .piece))) (p .out) (p .list))
-    (rescuing answers.NoRoom out list)
-savedBy (Refused why) day out list = rescuing (answers.Refused why) out list
+    cond (roomy (length day) (run 0 0) (length out) (length list)) (answered (answers.Saved (totals (p .answer))) (p .out) (p .list))
+    (answered answers.NoRoom out list)
+savedBy (Refused why) day out list = answered (answers.Refused why) out list
 
-unfoldable pub saved : List ℕ → List ℕ → List ℕ → Rescuing
+unfoldable pub saved : List ℕ → List ℕ → List ℕ → Answered Rescued
 saved day out list = savedBy (opened day) day out list

@@ -7,7 +7,7 @@ ghost use Prim.Native.Nat.{_+_, _≤_, _<_};
 ghost use lib.ListN.{length};
 ghost use Rattle.puts.specs.Written.{Written};
 ghost use Rattle.rescue.specs.Rescue as rules;
-ghost use Rattle.rescue.specs.Rescue.{run, listed, runBytes, lastPlace, pieced, piecing, rescuing, saved};
+ghost use Rattle.rescue.specs.Rescue.{run, listed, runBytes, lastPlace, answered, piecing, saved};
 ghost use Rattle.rescue.specs.Places.{sizeAt, Barren, Passed, RoomyEnd, Stands, Skipped, Stretched};
 use records::Head;
 use table::Checked;
@@ -267,7 +267,7 @@ pub fn rescue_piece(
     out: &mut [u8],
     list: &mut [u8],
 ) -> Piece
-    ensures { λ r. ⌜ pieced r (now (out .exit)) (now (list .exit)) ≡ piecing (now (bytes .entry)) last pending (now (out .entry)) (now (list .entry)) ⌝ }
+    ensures { λ r. ⌜ answered r (now (out .exit)) (now (list .exit)) ≡ piecing (now (bytes .entry)) last pending (now (out .entry)) (now (list .entry)) ⌝ }
 {
     if !roomy(bytes.len(), pending, out.len(), list.len()) {
         return Piece {
@@ -319,7 +319,7 @@ pub fn rescue_piece(
 
 // Image and kept records over the front of the output, the dropped runs over the front of the list.
 pub fn rescue(day: &[u8], out: &mut [u8], list: &mut [u8]) -> Rescued
-    ensures { λ r. ⌜ rescuing r (now (out .exit)) (now (list .exit)) ≡ saved (now (day .entry)) (now (out .entry)) (now (list .entry)) ⌝ }
+    ensures { λ r. ⌜ answered r (now (out .exit)) (now (list .exit)) ≡ saved (now (day .entry)) (now (out .entry)) (now (list .entry)) ⌝ }
 {
     match gate_day::open(day) {
         Checked::Refused(why) => Rescued::Refused(why),
