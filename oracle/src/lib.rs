@@ -9,6 +9,7 @@ pub mod days;
 pub mod deep;
 pub mod image;
 pub mod judge;
+pub mod laps;
 pub mod make;
 pub mod picture;
 pub mod plain;

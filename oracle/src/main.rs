@@ -9,8 +9,8 @@ use std::time::Duration;
 use oracle::compare::{self, Outcome};
 use oracle::scripts::{self, Written};
 use oracle::{
-    antt, beside, deep, image, judge, make, picture, plain, rescue, rescues, selftest, sweep, text,
-    timing,
+    antt, beside, deep, image, judge, laps, make, picture, plain, rescue, rescues, selftest, sweep,
+    text, timing,
 };
 
 const USAGE: &str = "\
@@ -36,6 +36,8 @@ oracle table days FOLDER SCRIPT ANSWERS         images of recorded days with the
 oracle time DAY REPEAT [ANSWERS]    the day in the Rust alone, nanoseconds a record
 oracle race REPEAT FOLDER PROGRAM [WORD..]
                                     another program beside the Rust on long days, as a table; FOLDER for two files
+oracle race-walks REPEAT FOLDER PROGRAM [WORD..]
+                                    likewise level walks, many laps of them
 oracle selftest DIR                 recorded days, and wrong answers that must be caught
 oracle sweep FROM TO [KIND]         made days on both sides, seeds FROM to TO - 1
 oracle beside FROM TO DAMAGED FOLDER PROGRAM [WORD..]
@@ -193,6 +195,11 @@ fn run(words: &[&str]) -> Result<ExitCode, Failure> {
         ["race", repeat, folder, ref words @ ..] if !words.is_empty() => {
             let repeat = number(repeat)? as usize;
             let table = timing::race(repeat, words, Path::new(folder)).map_err(Difference)?;
+            write!(out, "{table}")?;
+        }
+        ["race-walks", repeat, folder, ref words @ ..] if !words.is_empty() => {
+            let repeat = number(repeat)? as usize;
+            let table = laps::race(repeat, words, Path::new(folder)).map_err(Difference)?;
             write!(out, "{table}")?;
         }
         ["selftest", folder] => {

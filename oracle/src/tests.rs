@@ -4,7 +4,7 @@ use crate::compare::{aside, compare, table, Outcome};
 use crate::judge::judge;
 use crate::make::{make, KINDS};
 use crate::text::{assemble, numbered_lines_of};
-use crate::{antt, deep, image, plain};
+use crate::{antt, deep, image, laps, plain};
 
 /// The day of a text.
 fn day(text: &str) -> Vec<u8> {
@@ -231,4 +231,13 @@ fn the_writer_gives_the_image_or_the_first_refusal_in_order() {
     assert_eq!(written(|_, rows| rows[19] = 9, 0), (4, 29));
     assert_eq!(written(|_, rows| rows[21] = 9, 0), (4, 41));
     assert_eq!(written(|_, rows| rows[27] = 0, 0), (4, 35));
+}
+
+#[test]
+fn the_stored_laps_are_those_of_the_rust() {
+    let stored = |name| {
+        let folder = env!("CARGO_MANIFEST_DIR");
+        std::fs::read(format!("{folder}/../crates/walk_laps/{name}")).unwrap()
+    };
+    assert_eq!(stored("stdout"), laps::answer(&stored("stdin")));
 }

@@ -117,7 +117,7 @@ pub fn race(repeat: usize, words: &[&str], folder: &Path) -> Result<String, Stri
 }
 
 /// One run of a process on a file.
-fn process(words: &[&str], path: &Path) -> Result<Duration, String> {
+pub fn process(words: &[&str], path: &Path) -> Result<Duration, String> {
     let (program, rest) = words.split_first().ok_or("no program is named")?;
     let fault = |error: std::io::Error| format!("cannot run {program}: {error}");
     let mut command = Command::new(program);

@@ -1,22 +1,22 @@
 -- The laws of sets of keys, for any number of words: membership, insert, union, the keys as a list, size, extensionality. Assumes nothing.
 use mathlib.Core.Path.{_≡_, refl, sym, ap, ap₂, _∙_, subst}
 use mathlib.Core.Logic.{_≢_, _⊎_, ⊎-elim}
-use mathlib.Core.Bool.{Bool, true, false, _&&_, _||_}
+use mathlib.Core.Bool.{Bool, true, false, cond, _&&_, _||_}
 use mathlib.Core.List.{List, [], _∷_}
 use mathlib.Core.Option.{Option, none, some}
 use Prim.Native.Nat.{ℕ, zero, suc, _+_, _-_, _*_, _/_, _%_, _^_, _≤_, _<_, max}
-use native.Mathlib.Nat.{mod-lt, zero-lt-suc, div-eq-of-lt, div-self, zero-div, zero-max, max-zero, one-mul, mul-mod-left, mul-assoc, zero-mod, div-add-mod', div-div-eq-div-mul, pow-suc, pow-succ', div-one}
+use native.Mathlib.Nat.{mod-lt, zero-lt-suc, div-eq-of-lt, div-self, zero-div, zero-max, max-zero, one-mul, mul-mod-left, div-div-eq-div-mul, pow-suc, pow-succ', div-one}
 use native.Mathlib.Numerals.{add-one}
 use native.Mathlib.Omega.{arith}
 use lib.Dec.{eqb, ltb}
-use lib.Bits.{bitOr, or-shr, or-mod}
+use lib.Bits.{bitOr, or-shr, or-mod, or-zero-r}
 use lib.Pow.{pow-pos, pow-lt, pow-add, shl-shr, shl-exact, shr-lt}
 use lib.ListN.{length, getD, set, replicate, length-set, length-replicate, getD-replicate, List·getD-eq-default}
 use lib.Seq.{getD-set-same, getD-set-other, set-out, ext-getD}
 use borrow.Author.Tests.{eq-eqb, ne-eqb, lt-ltb, le-ltb, le-leb}
 use Rattle.lists.specs.Tests.{same?, gt-eqb, below?, and-yes, or-no, or-yes}
 use Rattle.lists.specs.Lists.{keep, any, foldl}
-use Rattle.lists.specs.Ranges.{ascending, those-ascend, first-none, Lowest, those-yes, those-no, those-end, those-first, those-lowest, those-none, those-empty, those-fit, those-any, those-same, keep-those, both, either, count-either, count-more}
+use Rattle.lists.specs.Ranges.{ascending, those-ascend, first-none, Lowest, those-end, those-first, those-lowest, those-none, those-empty, those-fit, those-any, those-same, keep-those, both, either, count-either, count-more}
 use Rattle.key_set.specs.declared.Found.{Found}
 use Rattle.key_set.specs.declared.Found.the-variants.{Key, Nothing}
 use Rattle.key_set.specs.Views.{foundOf}
@@ -72,18 +72,6 @@ bit-half x j = ap (λ (n : ℕ). n % 2) (ap (λ (n : ℕ). x / n) (pow-succ' 2 j
 pub half-lt : {x : ℕ} (n : ℕ) → x < 2 ^ suc n → x / 2 < 2 ^ n
 half-lt {x} n h = shr-lt n 1 (subst (λ (m : ℕ). x < 2 ^ m) (sym (add-one n)) h)
 
--- a number whose lowest bits are 0 is even, and so is its half of one bit less
-pub zeros-down : (x c : ℕ) → x % 2 ^ suc c ≡ 0 → (x % 2 ≡ 0) × (x / 2 % 2 ^ c ≡ 0)
-zeros-down x c z =
-    let q : ℕ = x / 2 ^ suc c in
-    let y : ℕ = q * 2 ^ c in
-    let e : q * 2 ^ suc c ≡ y * 2 = ap (λ (n : ℕ). q * n) (pow-suc 2 c) ∙ sym (mul-assoc q (2 ^ c) 2) in
-    let d : x ≡ y * 2 = omega (arith, div-add-mod' x (2 ^ suc c), z, e) in
-    (omega arith, ap (λ (n : ℕ). n % 2 ^ c) (the-half y d) ∙ mul-mod-left q (2 ^ c))
-  where
-    the-half : (y : ℕ) → x ≡ y * 2 → x / 2 ≡ y
-    the-half y d = omega arith
-
 -- `1 << b`
 pub one-shl : (b : ℕ) → b < 64 → 1 * 2 ^ b % 2 ^ 64 ≡ 2 ^ b
 one-shl b h = shl-exact 1 b 64 (omega arith) (omega arith) ∙ one-mul (2 ^ b)
@@ -94,15 +82,6 @@ pub has-past : (ws : List ℕ) (k : ℕ) → length ws ≤ k / 64 → has ws k �
 unfolding has
 has-past ws k h = ap (λ (x : ℕ). eqb (bit x (k % 64)) 1) (List·getD-eq-default ws 0 h) ∙ ap (λ (x : ℕ). eqb x 1) (bit-zero (k % 64))
 
--- the word, from k's bit on, is odd; or even
-pub has-one : (ws : List ℕ) (k : ℕ) → getD ws (k / 64) 0 / 2 ^ (k % 64) % 2 ≡ 1 → has ws k ≡ true
-unfolding has bit
-has-one ws k e = ap (λ (n : ℕ). eqb n 1) e
-
-pub has-none : (ws : List ℕ) (k : ℕ) → getD ws (k / 64) 0 / 2 ^ (k % 64) % 2 ≡ 0 → has ws k ≡ false
-unfolding has bit
-has-none ws k e = ap (λ (n : ℕ). eqb n 1) e
-
 pub insert-past : (ws : List ℕ) (k : ℕ) → length ws ≤ k / 64 → insertKey ws k ≡ ws
 unfolding insertKey
 insert-past ws k h = set-out ws (k / 64) _ h
@@ -110,6 +89,14 @@ insert-past ws k h = set-out ws (k / 64) _ h
 pub length-insert : (ws : List ℕ) (k : ℕ) → length (insertKey ws k) ≡ length ws
 unfolding insertKey
 length-insert ws k = length-set ws (k / 64) _
+
+-- word by word
+pub getD-insert : (ws : List ℕ) (k i : ℕ) → i < length ws → getD (insertKey ws k) i 0 ≡ bitOr (getD ws i 0) (cond (eqb (k / 64) i) (2 ^ (k % 64)) 0)
+unfolding insertKey
+getD-insert ws k i h =
+    ⊎-elim (λ (s : k / 64 ≡ i). rw (eq-eqb (k / 64) i s, ← s) (getD-set-same ws (k / 64) _ 0 (omega (arith, s))))
+    (λ (s : k / 64 ≢ i). rw (ne-eqb (k / 64) i s) (getD-set-other ws (k / 64) i _ 0 (λ e. s (sym e)) ∙ sym (or-zero-r (getD ws i 0))))
+    (same? (k / 64) i)
 
 pub has-empty : (n k : ℕ) → has (replicate n 0) k ≡ false
 unfolding has
@@ -257,36 +244,6 @@ module _ (ws : List ℕ) where
   pub has-far : (k : ℕ) → capacity ws ≤ k → has ws k ≡ false
   has-far k h = has-past ws k (omega arith)
 
-  pub keys-no : (k : ℕ) → k < capacity ws → has ws k ≡ false → keysFrom ws k ≡ keysFrom ws (k + 1)
-  unfolding keysFrom
-  keys-no k h e = those-no (has ws) (capacity ws) k h e
-
-  -- as many keys are passed over as bits of the word are 0 from k's on
-  pub keys-zeros : (c k : ℕ) → k % 64 + c ≤ 64 → k + c ≤ capacity ws → getD ws (k / 64) 0 / 2 ^ (k % 64) % 2 ^ c ≡ 0 → keysFrom ws k ≡ keysFrom ws (k + c)
-  keys-zeros zero k h l z = ap (keysFrom ws) (omega arith)
-  keys-zeros (suc c) k h l z =
-      let x : ℕ = getD ws (k / 64) 0 / 2 ^ (k % 64) in
-      let d = zeros-down x c z in
-      keys-no k (omega arith) (has-none ws k (d .0)) ∙ ⊎-elim (λ (b : k % 64 < 63). inside (d .1) b (keys-zeros c (k + 1))) last (below? (k % 64) 63)
-      ∙ ap (keysFrom ws) (on k c)
-    where
-      on : (k c : ℕ) → k + 1 + c ≡ k + suc c
-      on k c = omega arith
-
-      half : getD ws (k / 64) 0 / 2 ^ (k % 64) / 2 ≡ getD ws (k / 64) 0 / 2 ^ suc (k % 64)
-      half = div-div-eq-div-mul (getD ws (k / 64) 0) (2 ^ (k % 64)) 2 ∙ ap (λ (n : ℕ). getD ws (k / 64) 0 / n) (sym (pow-suc 2 (k % 64)))
-
-      inside : getD ws (k / 64) 0 / 2 ^ (k % 64) / 2 % 2 ^ c ≡ 0 → k % 64 < 63
-          → ((k + 1) % 64 + c ≤ 64 → k + 1 + c ≤ capacity ws → getD ws ((k + 1) / 64) 0 / 2 ^ ((k + 1) % 64) % 2 ^ c ≡ 0 → keysFrom ws (k + 1) ≡ keysFrom ws (k + 1 + c))
-          → keysFrom ws (k + 1) ≡ keysFrom ws (k + 1 + c)
-      inside e b ih =
-          let p : (k + 1) / 64 ≡ k / 64 = omega arith in
-          let q : (k + 1) % 64 ≡ suc (k % 64) = omega arith in
-          ih (omega arith) (omega arith) (ap₂ (λ (i j : ℕ). getD ws i 0 / 2 ^ j % 2 ^ c) p q ∙ ap (λ (n : ℕ). n % 2 ^ c) (sym half) ∙ e)
-
-      last : 63 ≤ k % 64 → keysFrom ws (k + 1) ≡ keysFrom ws (k + 1 + c)
-      last b = ap (keysFrom ws) (omega arith)
-
   pub keys-end : (k : ℕ) → capacity ws ≤ k → keysFrom ws k ≡ []
   unfolding keysFrom
   keys-end k h = those-end (has ws) (capacity ws) k h
@@ -345,10 +302,6 @@ module _ (ws : List ℕ) (k : ℕ) where
 
   -- the search goes up from k and has come to i
   module _ (i : ℕ) (same : keysFrom ws k ≡ keysFrom ws i) where
-    pub found-key : i < capacity ws → has ws i ≡ true → some i ≡ lowestFrom ws k
-    unfolding lowestFrom keysFrom
-    found-key h e = rw (same, those-yes (has ws) (capacity ws) i h e)
-
     pub found-none : capacity ws ≤ i → none ≡ lowestFrom ws k
     unfolding lowestFrom keysFrom
     found-none h = rw (same, those-end (has ws) (capacity ws) i h)
@@ -446,40 +399,31 @@ module _ (ws : List ℕ) (k : ℕ) where
 
 -- ---- what the code's loops keep
 
--- `ws` is `us` with the first i words of `vs` put in: what the loop of a union keeps
-pub record Merged (us vs ws : List ℕ) (i : ℕ) : Type 0 where
+-- `ws` is `us` with its first i words those of `ts`: what a loop that puts bits into each word keeps
+pub record Laid (us ts ws : List ℕ) (i : ℕ) : Type 0 where
   pub long : length ws ≡ length us
-  pub done : (j : ℕ) → j < i → getD ws j 0 ≡ bitOr (getD us j 0) (getD vs j 0)
+  pub done : (j : ℕ) → j < i → getD ws j 0 ≡ getD ts j 0
   pub left : (j : ℕ) → i ≤ j → getD ws j 0 ≡ getD us j 0
 
-pub merged-none : (us vs : List ℕ) → Merged us vs us 0
-merged-none us vs = record { long = refl; done = λ j l. absurd (omega arith); left = λ j l. refl }
+module _ (us ts : List ℕ) where
+  pub laid-none : Laid us ts us 0
+  laid-none = record { long = refl; done = λ j l. absurd (omega arith); left = λ j l. refl }
 
-pub merged-more : (us vs ws : List ℕ) (i : ℕ) → Merged us vs ws i → i < length us → Merged us vs (set ws i (bitOr (getD ws i 0) (getD vs i 0))) (i + 1)
-merged-more us vs ws i m h = record {
-  long = length-set ws i _ ∙ m .long;
-  done = below;
-  left = λ j l. getD-set-other ws i j _ 0 (λ e. omega arith) ∙ m .left j (omega arith);
-}
-  where
-    below : (j : ℕ) → j < i + 1 → getD (set ws i (bitOr (getD ws i 0) (getD vs i 0))) j 0 ≡ bitOr (getD us j 0) (getD vs j 0)
-    below j l =
-        ⊎-elim
-        (λ (e : j ≡ i). rw (e, getD-set-same ws i (bitOr (getD ws i 0) (getD vs i 0)) 0 (omega arith), m .left i (omega arith)))
-        (λ (n : j ≢ i). getD-set-other ws i j _ 0 n ∙ m .done j (omega (arith, n)))
-        (same? j i)
+  pub laid-more : (ws : List ℕ) (i v : ℕ) → Laid us ts ws i → i < length us → getD ts i 0 ≡ bitOr (getD us i 0) v → Laid us ts (set ws i (bitOr (getD ws i 0) v)) (i + 1)
+  laid-more ws i v m h e = record {
+    long = length-set ws i _ ∙ m .long;
+    done = below;
+    left = λ j l. getD-set-other ws i j _ 0 (λ s. omega arith) ∙ m .left j (omega arith);
+  }
+    where
+      below : (j : ℕ) → j < i + 1 → getD (set ws i (bitOr (getD ws i 0) v)) j 0 ≡ getD ts j 0
+      below j l =
+          ⊎-elim (λ (s : j ≡ i). rw (s, getD-set-same ws i (bitOr (getD ws i 0) v) 0 (omega (arith, m .long)), m .left i (omega arith)) (sym e))
+          (λ (s : j ≢ i). getD-set-other ws i j _ 0 s ∙ m .done j (omega (arith, s)))
+          (same? j i)
 
-pub merged-all : (us vs ws : List ℕ) (i : ℕ) → length us ≡ length vs → length us ≤ i → Merged us vs ws i → ws ≡ unionOf us vs
-merged-all us vs ws i e h m =
-    ext-getD 0 ws (unionOf us vs) (m .long ∙ sym (length-union us vs)) (λ j l. m .done j (omega arith) ∙ sym (getD-union us vs e j))
-
--- going over the set by `lowest_from`, with n keys met and k to go on from
-module _ (ws : List ℕ) (n k : ℕ) (same : n + length (keysFrom ws k) ≡ sizeOf ws) where
-  pub size-end : none ≡ lowestFrom ws k → n ≡ sizeOf ws
-  size-end e = omega (arith, ap length (lowest-none ws k e))
-
-  pub size-more : {j : ℕ} → some j ≡ lowestFrom ws k → n + 1 + length (keysFrom ws (j + 1)) ≡ sizeOf ws
-  size-more e = omega (arith, ap length (lowest-key ws k e .on))
+  pub laid-all : (ws : List ℕ) (i : ℕ) → length us ≡ length ts → length us ≤ i → Laid us ts ws i → ws ≡ ts
+  laid-all ws i e h m = ext-getD 0 ws ts (m .long ∙ e) (λ j l. m .done j (omega (arith, m .long)))
 
 module _ (ws : List ℕ) where
   pub empty-no : {j : ℕ} → some j ≡ lowestFrom ws 0 → false ≡ isEmptyOf ws

@@ -1,7 +1,9 @@
 // Sets of keys over 64-bit words: document 01, "Values and level walks", and the set under key_set.rs (tinymap's `KeySet`).
 // A key at or above KEYS is beyond the capacity: no set has it, and inserting it changes nothing.
 ghost use mathlib.Core.Path.{_≡_};
-ghost use Prim.Native.Nat.{_≤_, _%_, _^_};
+ghost use mathlib.Core.Bool.{cond};
+ghost use Prim.Native.Nat.{_/_, _%_, _^_};
+ghost use lib.Dec.{eqb};
 ghost use Rattle.key_set.specs.Sets.{noKeys, has, insertKey, unionOf, lowestFrom, sizeOf, isEmptyOf, wordCount};
 ghost use Rattle.key_set.specs.Views.{foundOf};
 
@@ -22,25 +24,14 @@ pub enum Found {
     Nothing,
 }
 
-// So many of an even word's lowest bits are 0, of those that are left: all of them in a word of 0, else 16, 4 or 1.
-fn zeros(w: u64, left: usize) -> usize
-    requires { ⌜ (w % 2 ≡ 0) × (1 ≤ left) ⌝ }
-    ensures { λ r. ⌜ (1 ≤ r) × (r ≤ left) × (w % 2 ^ r ≡ 0) ⌝ }
+// Key k's bit in word i: 0 in any word but its own.
+fn bit_in(k: usize, i: usize) -> u64
+    ensures { λ r. ⌜ r ≡ cond (eqb (k / 64) i) (2 ^ (k % 64)) 0 ⌝ }
 {
-    if w == 0 {
-        return left;
+    if k / 64 == i {
+        return 1 << (k % 64);
     }
-    if 16 <= left {
-        if w % 65536 == 0 {
-            return 16;
-        }
-    }
-    if 4 <= left {
-        if w % 16 == 0 {
-            return 4;
-        }
-    }
-    1
+    0
 }
 
 impl KeySet {
@@ -66,11 +57,11 @@ impl KeySet {
         ensures { λ r. ⌜ r .words ≡ insertKey (self .words) k ⌝ }
     {
         let mut next = self;
-        let i = k / 64;
-        if i < WORDS {
-            let b = k % 64;
+        let mut i = 0;
+        while i < WORDS {
             let w = next.words[i];
-            next.words[i] = w | (1 << b);
+            next.words[i] = w | bit_in(k, i);
+            i += 1;
         }
         next
     }
@@ -89,36 +80,42 @@ impl KeySet {
         next
     }
 
-    // The lowest key at or above k: the one way to go over a set.
+    // The lowest key at or above k, by trailing zeros: the one way to go over a set. Of the bits from word i on, b lie below k.
     pub fn lowest_from(self, k: usize) -> Found
         ensures { λ r. ⌜ foundOf r ≡ lowestFrom (self .words) k ⌝ }
     {
-        let mut i = k;
-        while i < KEYS {
-            let b = i % 64;
-            let w = self.words[i / 64] >> b;
-            if w % 2 == 1 {
-                return Found::Key(i);
+        let mut i = 0;
+        let mut b = k;
+        while i < WORDS {
+            if b < 64 {
+                let w = self.words[i] >> b;
+                if w != 0 {
+                    let zeros = u64::trailing_zeros(w) as usize;
+                    let key = i * 64 + b + zeros;
+                    return Found::Key(key);
+                }
+                b = 0;
+                i += 1;
+            } else {
+                b -= 64;
+                i += 1;
             }
-            i += zeros(w, 64 - b);
         }
         Found::Nothing
     }
 
-    // How many keys the set has.
+    // How many keys the set has, by the ones of its words.
     pub fn size(self) -> usize
         ensures { λ r. ⌜ r ≡ sizeOf (self .words) ⌝ }
     {
         let mut n = 0;
-        let mut k = 0;
-        loop {
-            let f = self.lowest_from(k);
-            let Found::Key(j) = f else {
-                return n;
-            };
-            n += 1;
-            k = j + 1;
+        let mut i = 0;
+        while i < WORDS {
+            let w = self.words[i];
+            n += u64::count_ones(w) as usize;
+            i += 1;
         }
+        n
     }
 
     pub fn is_empty(self) -> bool

@@ -1,37 +1,55 @@
--- `key_set::KeySet::insert` meets its contract: a key beyond the words changes nothing. Assumes nothing.
-use mathlib.Core.Path.{sym, _≡_}
-use Prim.Native.Nat.{_%_}
+-- `key_set::KeySet::insert` meets its contract: each word passed has the key's bit, if it is the key's word. Assumes nothing.
+use mathlib.Core.Path.{_≡_, sym}
+use Prim.Native.Nat.{_-_}
 use native.Mathlib.Omega.{arith}
 use lib.ListN.{length}
 use borrow.Author.Needs.{needs}
 use Rattle.key_set.specs.Sets.{wordCount, insertKey}
-use Rattle.key_set.proofs.Laws.{insert-past, one-shl}
+use Rattle.key_set.proofs.Laws.{Laid, laid-none, laid-more, laid-all, length-insert, getD-insert}
 use Rattle.key_set.proofs.KeySet.insert.Statement.{statement}
 use Rattle.key_set.proofs.KeySet.insert.Tie as tie
 
-mul-w : tie.Need-mul-w
+abbrev Inv-loop : tie.InvT-loop
+Inv-loop k next₀ i₀ next i = Laid (next₀ .words) (insertKey (next₀ .words) k) (next .words) i
+
+abbrev μ-loop : tie.MeasureT-loop
+μ-loop k next₀ i₀ next i = wordCount - i
+
+loop-holds : tie.Need-loop-holds Inv-loop μ-loop
+loop-holds c = laid-none _ _
+
+mul-w : tie.Need-mul-w Inv-loop μ-loop
 mul-w c = search needs
 
-element-copy-out-w : tie.Need-element-copy-out-w
+element-copy-out-w : tie.Need-element-copy-out-w Inv-loop μ-loop
 element-copy-out-w c = search needs
 
-shl-next : tie.Need-shl-next
-shl-next c = search needs
+bit-in-requires : tie.Need-bit-in-requires Inv-loop μ-loop
+bit-in-requires c κs = search needs
 
-mul-next : tie.Need-mul-next
+mul-next : tie.Need-mul-next Inv-loop μ-loop
 mul-next c = search needs
 
-element-write-next : tie.Need-element-write-next
+element-write-next : tie.Need-element-write-next Inv-loop μ-loop
 element-write-next c = search needs
 
-returns : tie.Need-returns
-unfolding insertKey
-returns c = rw (one-shl (c .before .before .args .k % 64) (omega arith))
+add-i : tie.Need-add-i Inv-loop μ-loop
+add-i c = search needs
 
-returns-2 : tie.Need-returns-2
-returns-2 c =
-    let l : length (c .before .args .self .words) ≡ wordCount = search needs in
-    sym (insert-past (c .before .args .self .words) (c .before .args .k) (omega arith))
+loop-less : tie.Need-loop-less Inv-loop μ-loop
+loop-less c = search needs
+
+loop-again : tie.Need-loop-again Inv-loop μ-loop
+loop-again c =
+    let l : length (c .before .before .before .before .args .self .words) ≡ wordCount = search needs in
+    laid-more _ _ _ _ _ (c .before .before .before .loop .inv) (omega arith) (rw (c .bit-in .ensures) (getD-insert _ _ _ (omega arith)))
+
+returns : tie.Need-returns Inv-loop μ-loop
+returns c =
+    let l : length (c .before .before .args .self .words) ≡ wordCount = search needs in
+    laid-all _ _ _ _ (sym (length-insert _ _)) (omega arith) (c .before .loop .inv)
 
 pub insert-spec : {M : Type 1} → statement M
-insert-spec = tie.close (tie.spec mul-w element-copy-out-w shl-next mul-next element-write-next returns returns-2)
+insert-spec =
+    tie.close
+    (tie.spec Inv-loop μ-loop loop-holds mul-w element-copy-out-w bit-in-requires mul-next element-write-next add-i loop-less loop-again returns)

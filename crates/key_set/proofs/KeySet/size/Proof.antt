@@ -1,69 +1,60 @@
--- `key_set::KeySet::size` meets its contract: the keys met and those from k on are as many as the set has. Assumes nothing.
+-- `key_set::KeySet::size` meets its contract: the ones counted and the keys of the words from i on are as many as the set has. Assumes nothing.
 use mathlib.Core.Path.{_≡_}
-use Prim.Native.Nat.{_+_, _*_, _-_, _≤_}
+use Prim.Native.Nat.{_+_, _*_, _-_}
 use native.Mathlib.Omega.{arith}
-use lib.ListN.{length}
+use lib.ListN.{length, getD}
 use borrow.Author.Needs.{needs}
+use mir.Val.{Fits}
+use mir.Syntax.{w64}
 use Rattle.key_set.specs.Sets.{wordCount, keysFrom, sizeOf}
-use Rattle.key_set.proofs.Laws.{told-key, told-nothing, lowest-range, size-end, size-more}
+use Rattle.key_set.proofs.Counts.{counted-word, counted-fit, counted-all}
 use Rattle.key_set.proofs.KeySet.size.Statement.{statement}
 use Rattle.key_set.proofs.KeySet.size.Tie as tie
 
 abbrev Inv-loop : tie.InvT-loop
-Inv-loop self n₀ k₀ n k = (n ≤ k) × (n + length (keysFrom (self .words) k) ≡ sizeOf (self .words))
+Inv-loop self n₀ i₀ n i = n + length (keysFrom (self .words) (i * 64)) ≡ sizeOf (self .words)
 
 abbrev μ-loop : tie.MeasureT-loop
-μ-loop self n₀ k₀ n k = wordCount * 64 - k
+μ-loop self n₀ i₀ n i = wordCount - i
 
 loop-holds : tie.Need-loop-holds Inv-loop μ-loop
 unfolding sizeOf
-loop-holds c = (omega arith, omega arith)
+loop-holds c = omega arith
 
-lowest-from-requires : tie.Need-lowest-from-requires Inv-loop μ-loop
-lowest-from-requires c κs = search needs
+mul-w : tie.Need-mul-w Inv-loop μ-loop
+mul-w c = search needs
 
-enum-known-f : tie.Need-enum-known-f Inv-loop μ-loop
-enum-known-f c = search needs
+element-copy-out-w : tie.Need-element-copy-out-w Inv-loop μ-loop
+element-copy-out-w c = search needs
 
-enum-told : tie.Need-enum-told Inv-loop μ-loop
-enum-told c = search needs
-
-returns : tie.Need-returns Inv-loop μ-loop
-returns c = size-end _ _ _ (c .before .before .before .loop .inv .1) (told-nothing (c .enum-told .given .1) (c .before .before .lowest-from .ensures))
+cast-n : tie.Need-cast-n Inv-loop μ-loop
+cast-n c =
+    let l : length (c .before .before .before .args .t1 .words) ≡ wordCount = search needs in
+    let f : Fits w64 (getD (c .before .before .before .args .t1 .words) (c .before .before .loop .i) 0) = search needs in
+    omega (arith, counted-fit _ _ _ (c .before .before .loop .inv) (omega arith) (f .fits))
 
 add-n : tie.Need-add-n Inv-loop μ-loop
 add-n c =
-    let r = lowest-range _ _ wordCount (search needs) (told-key (c .before .f .given .1) (c .before .before .before .lowest-from .ensures)) in
-    omega (arith, r .0, r .1)
+    let l : length (c .before .before .before .args .t1 .words) ≡ wordCount = search needs in
+    let f : Fits w64 (getD (c .before .before .before .args .t1 .words) (c .before .before .loop .i) 0) = search needs in
+    omega (arith, counted-fit _ _ _ (c .before .before .loop .inv) (omega arith) (f .fits))
 
-add-k : tie.Need-add-k Inv-loop μ-loop
-add-k c =
-    let r = lowest-range _ _ wordCount (search needs) (told-key (c .before .f .given .1) (c .before .before .before .lowest-from .ensures)) in
-    omega (arith, r .1)
+add-i : tie.Need-add-i Inv-loop μ-loop
+add-i c = search needs
 
 loop-less : tie.Need-loop-less Inv-loop μ-loop
-loop-less c =
-    let r = lowest-range _ _ wordCount (search needs) (told-key (c .before .f .given .1) (c .before .before .before .lowest-from .ensures)) in
-    omega (arith, r .0, r .1)
+loop-less c = search needs
 
 loop-again : tie.Need-loop-again Inv-loop μ-loop
 loop-again c =
-    let e = told-key (c .before .f .given .1) (c .before .before .before .lowest-from .ensures) in
-    let r = lowest-range _ _ wordCount (search needs) e in
-    (omega (arith, r .0), size-more _ _ _ (c .before .before .before .before .loop .inv .1) e)
+    let l : length (c .before .before .before .args .t1 .words) ≡ wordCount = search needs in
+    let f : Fits w64 (getD (c .before .before .before .args .t1 .words) (c .before .before .loop .i) 0) = search needs in
+    counted-word _ _ _ (c .before .before .loop .inv) (omega arith) (f .fits)
+
+returns : tie.Need-returns Inv-loop μ-loop
+returns c =
+    let l : length (c .before .before .args .t1 .words) ≡ wordCount = search needs in
+    counted-all _ _ _ (c .before .loop .inv) (omega arith)
 
 pub size-spec : {M : Type 1} → statement M
-size-spec =
-    tie.close
-    (tie.spec
-    Inv-loop
-    μ-loop
-    loop-holds
-    lowest-from-requires
-    enum-known-f
-    enum-told
-    returns
-    add-n
-    add-k
-    loop-less
-    loop-again)
+size-spec = tie.close (tie.spec Inv-loop μ-loop loop-holds mul-w element-copy-out-w cast-n add-n add-i loop-less loop-again returns)

@@ -4,19 +4,19 @@ use Prim.Native.Nat.{_-_}
 use native.Mathlib.Omega.{arith}
 use lib.ListN.{length}
 use borrow.Author.Needs.{needs}
-use Rattle.key_set.specs.Sets.{wordCount}
-use Rattle.key_set.proofs.Laws.{Merged, merged-none, merged-more, merged-all}
+use Rattle.key_set.specs.Sets.{wordCount, unionOf}
+use Rattle.key_set.proofs.Laws.{Laid, laid-none, laid-more, laid-all, length-union, getD-union}
 use Rattle.key_set.proofs.KeySet.union.Statement.{statement}
 use Rattle.key_set.proofs.KeySet.union.Tie as tie
 
 abbrev Inv-loop : tie.InvT-loop
-Inv-loop other next₀ i₀ next i = Merged (next₀ .words) (other .words) (next .words) i
+Inv-loop other next₀ i₀ next i = Laid (next₀ .words) (unionOf (next₀ .words) (other .words)) (next .words) i
 
 abbrev μ-loop : tie.MeasureT-loop
 μ-loop other next₀ i₀ next i = wordCount - i
 
 loop-holds : tie.Need-loop-holds Inv-loop μ-loop
-loop-holds c = merged-none _ _
+loop-holds c = laid-none _ _
 
 mul-a : tie.Need-mul-a Inv-loop μ-loop
 mul-a c = search needs
@@ -45,13 +45,13 @@ loop-less c = omega arith
 loop-again : tie.Need-loop-again Inv-loop μ-loop
 loop-again c =
     let l : length (c .before .before .before .before .args .self .words) ≡ wordCount = search needs in
-    merged-more _ _ _ _ (c .before .before .before .loop .inv) (omega arith)
+    let m : length (c .before .before .before .before .args .t2 .words) ≡ wordCount = search needs in
+    laid-more _ _ _ _ _ (c .before .before .before .loop .inv) (omega arith) (getD-union _ _ (l ∙ sym m) _)
 
 returns : tie.Need-returns Inv-loop μ-loop
 returns c =
     let l : length (c .before .before .args .self .words) ≡ wordCount = search needs in
-    let m : length (c .before .before .args .t2 .words) ≡ wordCount = search needs in
-    merged-all _ _ _ _ (l ∙ sym m) (omega arith) (c .before .loop .inv)
+    laid-all _ _ _ _ (sym (length-union _ _)) (omega arith) (c .before .loop .inv)
 
 pub union-spec : {M : Type 1} → statement M
 union-spec =
