@@ -102,24 +102,26 @@ module _ (ws : List ℕ) where
 
   -- ---- the machine's counts
 
-  -- the search goes up from k and has come to bit b of word i; x is that word from there on
-  module _ (k i b : ℕ) (same : keysFrom ws k ≡ keysFrom ws (i * 64 + b)) (h : b < 64) (l : i < length ws) where
+  -- the search goes up from k and has come to key j of word i; x is that word from its bit on
+  module _ (k i j : ℕ) (same : keysFrom ws k ≡ keysFrom ws j) (low : i * 64 ≤ j) (high : j < (i + 1) * 64) (l : i < length ws) where
     abbrev x : ℕ
-    x = getD ws i 0 / 2 ^ b
+    x = getD ws i 0 / 2 ^ (j % 64)
 
-    from-word : keysFrom ws k ≡ onesFrom (64 - b) x (i * 64 + b) ++ keysFrom ws ((i + 1) * 64 + 0)
-    from-word = same ∙ keys-word i b (64 - b) (i * 64 + b) ((i + 1) * 64 + 0) refl (omega arith) (omega arith) l
+    abbrev left : ℕ
+    left = 64 - j % 64
+
+    from-word : keysFrom ws k ≡ onesFrom left x j ++ keysFrom ws ((i + 1) * 64)
+    from-word = same ∙ keys-word i (j % 64) left j ((i + 1) * 64) (omega arith) (omega arith) (omega arith) l
 
     -- its trailing zeros give the lowest key
-    pub found-word : getD ws i 0 < 2 ^ 64 → x ≢ 0 → some (i * 64 + b + trailingZeros 64 x) ≡ lowestFrom ws k
+    pub found-word : getD ws i 0 < 2 ^ 64 → x ≢ 0 → some (j + trailingZeros 64 x) ≡ lowestFrom ws k
     unfolding lowestFrom
     found-word f n =
-        let up : 64 - b + b ≡ 64 = omega arith in
-        sym (ap first from-word ∙
-        first-front (onesFrom (64 - b) x (i * 64 + b)) _ (first-one (64 - b) 64 x (i * 64 + b) (omega arith) (omega (arith, n)) (shr-lt (64 - b) b (rw up f))))
+        let up : left + j % 64 ≡ 64 = omega arith in
+        sym (ap first from-word ∙ first-front (onesFrom left x j) _ (first-one left 64 x j (omega arith) (omega (arith, n)) (shr-lt left (j % 64) (rw up f))))
 
     -- and where it is 0, the search goes on with the next word
-    pub passed-word : x ≡ 0 → keysFrom ws k ≡ keysFrom ws ((i + 1) * 64 + 0)
+    pub passed-word : x ≡ 0 → keysFrom ws k ≡ keysFrom ws ((i + 1) * 64)
     passed-word e = from-word ∙ rw (e, no-ones)
 
   -- n ones were counted in the words before i: with those of word i they are as many keys, which fit

@@ -53,6 +53,7 @@ impl KeySet {
         false
     }
 
+    // Word by word: a word written at a computed place would keep the set out of registers.
     pub fn insert(self, k: usize) -> Self
         ensures { λ r. ⌜ r .words ≡ insertKey (self .words) k ⌝ }
     {
@@ -80,25 +81,24 @@ impl KeySet {
         next
     }
 
-    // The lowest key at or above k, by trailing zeros: the one way to go over a set. Of the bits from word i on, b lie below k.
+    // The lowest key at or above k, by trailing zeros: the one way to go over a set.
     pub fn lowest_from(self, k: usize) -> Found
         ensures { λ r. ⌜ foundOf r ≡ lowestFrom (self .words) k ⌝ }
     {
+        let mut at = k;
         let mut i = 0;
-        let mut b = k;
         while i < WORDS {
-            if b < 64 {
-                let w = self.words[i] >> b;
-                if w != 0 {
-                    let zeros = u64::trailing_zeros(w) as usize;
-                    let key = i * 64 + b + zeros;
+            let w = self.words[i];
+            i += 1;
+            let end = i * 64;
+            if at < end {
+                let rest = w >> (at % 64);
+                if rest != 0 {
+                    let zeros = u64::trailing_zeros(rest) as usize;
+                    let key = at + zeros;
                     return Found::Key(key);
                 }
-                b = 0;
-                i += 1;
-            } else {
-                b -= 64;
-                i += 1;
+                at = end;
             }
         }
         Found::Nothing

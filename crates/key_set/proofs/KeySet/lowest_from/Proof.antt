@@ -1,6 +1,7 @@
--- `key_set::KeySet::lowest_from` meets its contract: the keys from k on are those from bit b of word i on, as long as none was met. Assumes nothing.
-use mathlib.Core.Path.{_≡_, ap, _∙_}
-use Prim.Native.Nat.{_+_, _*_, _-_, _/_, _^_}
+-- `key_set::KeySet::lowest_from` meets its contract: the keys from k on are those from `at` on, which no word before i has, as long as none was met.
+-- Assumes nothing.
+use mathlib.Core.Path.{_≡_, refl}
+use Prim.Native.Nat.{_*_, _-_, _/_, _%_, _^_, _≤_}
 use native.Mathlib.Omega.{arith}
 use lib.Count.{trailing-le}
 use lib.ListN.{length, getD}
@@ -14,13 +15,13 @@ use Rattle.key_set.proofs.KeySet.lowest_from.Statement.{statement}
 use Rattle.key_set.proofs.KeySet.lowest_from.Tie as tie
 
 abbrev Inv-loop : tie.InvT-loop
-Inv-loop k self i₀ b₀ i b = keysFrom (self .words) k ≡ keysFrom (self .words) (i * 64 + b)
+Inv-loop k self at₀ i₀ at i = (i * 64 ≤ at) × (keysFrom (self .words) k ≡ keysFrom (self .words) at)
 
 abbrev μ-loop : tie.MeasureT-loop
-μ-loop k self i₀ b₀ i b = wordCount - i
+μ-loop k self at₀ i₀ at i = wordCount - i
 
 loop-holds : tie.Need-loop-holds Inv-loop μ-loop
-loop-holds c = ap (keysFrom (c .args .t1 .words)) (omega arith)
+loop-holds c = (omega arith, refl)
 
 mul-w : tie.Need-mul-w Inv-loop μ-loop
 mul-w c = search needs
@@ -28,51 +29,47 @@ mul-w c = search needs
 element-copy-out-w : tie.Need-element-copy-out-w Inv-loop μ-loop
 element-copy-out-w c = search needs
 
-shr-w : tie.Need-shr-w Inv-loop μ-loop
-shr-w c = search needs
+add-i : tie.Need-add-i Inv-loop μ-loop
+add-i c = search needs
+
+mul-end : tie.Need-mul-end Inv-loop μ-loop
+mul-end c = search needs
+
+shr-rest : tie.Need-shr-rest Inv-loop μ-loop
+shr-rest c = search needs
 
 cast-zeros : tie.Need-cast-zeros Inv-loop μ-loop
-cast-zeros c = omega (arith, trailing-le 64 (getD (c .before .before .before .before .before .args .t1 .words) (c .before .before .before .before .loop .i) 0 / 2 ^ (c .before .before .before .before .loop .b)))
-
-mul-key : tie.Need-mul-key Inv-loop μ-loop
-mul-key c = search needs
+cast-zeros c = omega (arith, trailing-le 64 (getD (c .before .before .before .before .before .args .t1 .words) (c .before .before .before .before .loop .i) 0 / 2 ^ (c .before .before .before .before .loop .at % 64)))
 
 add-key : tie.Need-add-key Inv-loop μ-loop
-add-key c = search needs
-
-add-key-2 : tie.Need-add-key-2 Inv-loop μ-loop
-add-key-2 c = omega (arith, trailing-le 64 (getD (c .before .before .before .before .before .args .t1 .words) (c .before .before .before .before .loop .i) 0 / 2 ^ (c .before .before .before .before .loop .b)))
+add-key c = omega (arith, trailing-le 64 (getD (c .before .before .before .before .before .args .t1 .words) (c .before .before .before .before .loop .i) 0 / 2 ^ (c .before .before .before .before .loop .at % 64)))
 
 returns : tie.Need-returns Inv-loop μ-loop
 returns c =
+    let v = c .before .before .before .before .loop .inv in
     let l : length (c .before .before .before .before .before .args .t1 .words) ≡ wordCount = search needs in
     let f : Fits w64 (getD (c .before .before .before .before .before .args .t1 .words) (c .before .before .before .before .loop .i) 0) = search needs in
-    found-word _ _ _ _ (c .before .before .before .before .loop .inv) (search needs) (omega arith) (f .fits) (c .if2 .taken)
-
-add-i : tie.Need-add-i Inv-loop μ-loop
-add-i c = search needs
+    found-word _ _ _ _ (v .1) (v .0) (c .before .if1 .taken) (omega arith) (f .fits) (c .if2 .taken)
 
 loop-less : tie.Need-loop-less Inv-loop μ-loop
 loop-less c = search needs
 
 loop-again : tie.Need-loop-again Inv-loop μ-loop
 loop-again c =
+    let v = c .before .before .before .before .loop .inv in
     let l : length (c .before .before .before .before .before .args .t1 .words) ≡ wordCount = search needs in
-    passed-word _ _ _ _ (c .before .before .before .before .loop .inv) (search needs) (omega arith) (c .if2 .left)
-
-add-i-2 : tie.Need-add-i-2 Inv-loop μ-loop
-add-i-2 c = search needs
+    (omega arith, passed-word _ _ _ _ (v .1) (v .0) (c .before .if1 .taken) (omega arith) (c .if2 .left))
 
 loop-less-2 : tie.Need-loop-less-2 Inv-loop μ-loop
 loop-less-2 c = search needs
 
 loop-again-2 : tie.Need-loop-again-2 Inv-loop μ-loop
-loop-again-2 c = c .before .before .loop .inv ∙ ap (keysFrom (c .before .before .before .args .t1 .words)) (omega arith)
+loop-again-2 c = (c .if1 .left, c .before .before .before .loop .inv .1)
 
 returns-2 : tie.Need-returns-2 Inv-loop μ-loop
 returns-2 c =
     let l : length (c .before .before .args .t1 .words) ≡ wordCount = search needs in
-    found-none _ _ _ (c .before .loop .inv) (omega arith)
+    found-none _ _ _ (c .before .loop .inv .1) (omega (arith, c .before .loop .inv .0))
 
 pub lowest-from-spec : {M : Type 1} → statement M
 lowest-from-spec =
@@ -83,16 +80,14 @@ lowest-from-spec =
     loop-holds
     mul-w
     element-copy-out-w
-    shr-w
-    cast-zeros
-    mul-key
-    add-key
-    add-key-2
-    returns
     add-i
+    mul-end
+    shr-rest
+    cast-zeros
+    add-key
+    returns
     loop-less
     loop-again
-    add-i-2
     loop-less-2
     loop-again-2
     returns-2)
