@@ -17,25 +17,6 @@ const LEVELS: usize = 6;
 // The most levels of a walk.
 const MOST: usize = 256;
 
-fn wide(b: u8) -> usize
-    ensures { λ r. ⌜ r < 256 ⌝ }
-{
-    b as usize
-}
-
-// The two bytes at a place; 0 past the end.
-fn short(input: &[u8], at: usize) -> usize
-    ensures { λ r. ⌜ r < 65536 ⌝ }
-{
-    if at < input.len() {
-        let next = at + 1;
-        if next < input.len() {
-            return wide(input[at]) * 256 + wide(input[next]);
-        }
-    }
-    0
-}
-
 // The set of the n keys at a place.
 fn filled(sets: &[u8], at: usize, n: usize) -> KeySet
     requires { ⌜ (at ≤ 65538) × (n < 65536) ⌝ }
@@ -44,7 +25,7 @@ fn filled(sets: &[u8], at: usize, n: usize) -> KeySet
     let mut i = 0;
     while i < n {
         let place = at + 2 * i;
-        let k = short(sets, place);
+        let k = rows::two_bytes(sets, place) as usize;
         set = set.insert(k);
         i += 1;
     }
@@ -96,7 +77,7 @@ fn lap(start: u64, sets: &[u8], levels: &[u8]) -> u64
     let mut sum = start;
     let mut at = 0;
     while at < sets.len() {
-        let n = short(sets, at);
+        let n = rows::two_bytes(sets, at) as usize;
         let keys = at + 2;
         let set = filled(sets, keys, n);
         sum = walked(sum, set, levels);
@@ -109,13 +90,14 @@ fn lap(start: u64, sets: &[u8], levels: &[u8]) -> u64
 fn laps(input: &[u8]) -> u64
     requires { ⌜ length (now input) ≤ 65536 ⌝ }
 {
-    let from = LEVELS + short(input, 4);
+    let reactions = rows::two_bytes(input, 4) as usize;
+    let from = LEVELS + reactions;
     if input.len() < from {
         return 0;
     }
     let levels = &input[LEVELS..from];
     let sets = &input[from..];
-    let mut left = short(input, 0) * 65536 + short(input, 2);
+    let mut left = rows::four_bytes(input, 0);
     let mut sum = 0;
     while 0 < left {
         sum = lap(sum, sets, levels);

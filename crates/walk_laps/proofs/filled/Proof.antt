@@ -22,8 +22,11 @@ mul-place c = search needs
 add-place : tie.Need-add-place Inv-loop μ-loop
 add-place c = search needs
 
-short-requires : tie.Need-short-requires Inv-loop μ-loop
-short-requires c κs = search needs
+two-bytes-requires : tie.Need-two-bytes-requires Inv-loop μ-loop
+two-bytes-requires c κs = search needs
+
+cast-k : tie.Need-cast-k Inv-loop μ-loop
+cast-k c = search needs
 
 insert-requires : tie.Need-insert-requires Inv-loop μ-loop
 insert-requires c κs = search needs
@@ -50,7 +53,8 @@ filled-spec =
     loop-holds
     mul-place
     add-place
-    short-requires
+    two-bytes-requires
+    cast-k
     insert-requires
     add-i
     loop-less

@@ -14,8 +14,11 @@ abbrev μ-loop : tie.MeasureT-loop
 loop-holds : tie.Need-loop-holds Inv-loop μ-loop
 loop-holds c = search needs
 
-short-requires : tie.Need-short-requires Inv-loop μ-loop
-short-requires c κs = search needs
+two-bytes-requires : tie.Need-two-bytes-requires Inv-loop μ-loop
+two-bytes-requires c κs = search needs
+
+cast-n : tie.Need-cast-n Inv-loop μ-loop
+cast-n c = search needs
 
 add-keys : tie.Need-add-keys Inv-loop μ-loop
 add-keys c = search needs
@@ -48,7 +51,8 @@ lap-spec =
     Inv-loop
     μ-loop
     loop-holds
-    short-requires
+    two-bytes-requires
+    cast-n
     add-keys
     filled-requires
     walked-requires

@@ -4,13 +4,16 @@ use Rattle.walk_laps.proofs.laps.Statement.{statement}
 use Rattle.walk_laps.proofs.laps.Tie as tie
 
 abbrev Inv-loop : tie.InvT-loop
-Inv-loop input from levels sets left₀ sum₀ left sum = Unit {0}
+Inv-loop input reactions from levels sets left₀ sum₀ left sum = Unit {0}
 
 abbrev μ-loop : tie.MeasureT-loop
-μ-loop input from levels sets left₀ sum₀ left sum = left
+μ-loop input reactions from levels sets left₀ sum₀ left sum = left
 
-short-requires : tie.Need-short-requires Inv-loop μ-loop
-short-requires c κs = search needs
+two-bytes-requires : tie.Need-two-bytes-requires Inv-loop μ-loop
+two-bytes-requires c κs = search needs
+
+cast-reactions : tie.Need-cast-reactions Inv-loop μ-loop
+cast-reactions c = search needs
 
 add-from : tie.Need-add-from Inv-loop μ-loop
 add-from c = search needs
@@ -36,17 +39,8 @@ part-sets-start c = search needs
 part-sets-end : tie.Need-part-sets-end Inv-loop μ-loop
 part-sets-end c = search needs
 
-short-requires-2 : tie.Need-short-requires-2 Inv-loop μ-loop
-short-requires-2 c κs = search needs
-
-mul-left : tie.Need-mul-left Inv-loop μ-loop
-mul-left c = search needs
-
-short-requires-3 : tie.Need-short-requires-3 Inv-loop μ-loop
-short-requires-3 c κs = search needs
-
-add-left : tie.Need-add-left Inv-loop μ-loop
-add-left c = search needs
+four-bytes-requires : tie.Need-four-bytes-requires Inv-loop μ-loop
+four-bytes-requires c κs = search needs
 
 loop-holds : tie.Need-loop-holds Inv-loop μ-loop
 loop-holds c = search needs
@@ -72,7 +66,8 @@ laps-spec =
     (tie.spec
     Inv-loop
     μ-loop
-    short-requires
+    two-bytes-requires
+    cast-reactions
     add-from
     returns
     sub-levels
@@ -81,10 +76,7 @@ laps-spec =
     sub-sets
     part-sets-start
     part-sets-end
-    short-requires-2
-    mul-left
-    short-requires-3
-    add-left
+    four-bytes-requires
     loop-holds
     lap-requires
     sub-left
