@@ -30,6 +30,11 @@ impl Ready {
             actions: Vec::new(),
         }
     }
+
+    /// The tag of one that is within 01's limits.
+    pub fn tag(&self) -> RawTag {
+        RawTag::new(self.offset as u64, self.microstep as u32)
+    }
 }
 
 /// Joined by commas, "-" if empty.

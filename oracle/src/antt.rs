@@ -32,7 +32,7 @@ use Rattle.rows.specs.Rows.{none}
 use Rattle.tags.specs.Tags.{at}
 use Rattle.machine.specs.State.{root}
 use Rattle.machine.specs.Machine.{Call, plain, network, control, action, transit, pop, ok, refusal, nothing, ready, tag, flag, number}
-use Rattle.machine_days.specs.Computed.{dayOf, longDayOf, askedOf, clock, value, bucket}
+use Rattle.machine_days.specs.Computed.{dayOf, longDayOf, askedOf, scope, clock, value, bucket}
 ";
 
 /// Words of a set of reactions.
@@ -358,7 +358,9 @@ fn state(state: &State) -> String {
         .iter()
         .map(|held| format!("bucket {} {} {}", held.action, held.offset, held.next))
         .collect();
-    let clocks: Vec<String> = state.clocks.iter().map(clock).collect();
+    let scopes: Vec<String> = (state.clocks.iter().zip(&state.active).zip(&state.ever))
+        .map(|((k, active), ever)| format!("scope ({}) {active} {ever}", clock(k)))
+        .collect();
     let events: Vec<String> = state.events.iter().map(event).collect();
     let mut out = "record {\n".to_string();
     for (field, items) in [
@@ -366,9 +368,7 @@ fn state(state: &State) -> String {
             "modes",
             &state.modes.iter().map(|&mode| key(mode, "none")).collect(),
         ),
-        ("clocks", &clocks),
-        ("active", &numbers(&state.active)),
-        ("ever", &numbers(&state.ever)),
+        ("scopes", &scopes),
         ("waiting", &events),
     ] {
         let _ = writeln!(out, "            {field} ={};", list(16, items));

@@ -273,6 +273,8 @@ mod tests {
         let mut cases: Vec<Case> = kinds.collect();
         let more = damaged(1, 60, &cases);
         cases.extend(more);
+        let no_scope = assemble("reactor 0 -").unwrap();
+        cases.push(Case::new("a table without a scope".to_string(), no_scope));
         cases
     }
 

@@ -92,48 +92,54 @@ fn follow(day: &[u8], answers: &[u8], seen: Seen<'_>) -> Result<Outcome, String>
     for (index, record) in records.iter().enumerate() {
         let at = index + 1;
         let got = answers.get(at).copied().unwrap_or(NO_LINE);
-        if let Some(number) = record.op.refused_by_bytes(&table) {
-            let expected = format!("refused {number}");
-            seen(at, record, got, &expected);
-            if got != expected {
-                return Ok(difference(at, record, &expected, got));
+        let (expected, same) = match record.op.refused_by_bytes(&table) {
+            Some(number) => {
+                let expected = format!("refused {number}");
+                let same = got == expected;
+                (expected, same)
             }
-            continue;
-        }
-        if record.op == Op::Pop {
-            let expected = pop_line(rust.pop().as_ref());
-            seen(at, record, got, &expected);
-            if !same_pop(&expected, got) {
-                return Ok(difference(at, record, &expected, got));
-            }
-            continue;
-        }
-        if got != "ok" {
-            let open = open_refusals(&record.op);
-            if open.contains(&got) {
-                seen(at, record, got, "not asked: it has no such limit");
-                continue;
-            }
-            let expected = format!("ok or {}", open.join(" or "));
-            seen(at, record, got, &expected);
+            None => match one_call(&mut rust, &record.op, got) {
+                Ok(answered) => answered,
+                Err(why) => return Ok(Outcome::LeftDomain { record: at, why }),
+            },
+        };
+        seen(at, record, got, &expected);
+        if !same {
             return Ok(difference(at, record, &expected, got));
         }
-        if let Some(why) = outside_domain(&record.op) {
-            return Ok(Outcome::LeftDomain { record: at, why });
-        }
-        if let Some(call) = rust.call(&record.op) {
-            rust.apply(&call);
-        }
-        if let Some(why) = rust.left_domain() {
-            return Ok(Outcome::LeftDomain { record: at, why });
-        }
-        seen(at, record, got, "ok");
     }
     Ok(
         extra_line(records.len(), &answers).unwrap_or(Outcome::Agree {
             records: records.len(),
         }),
     )
+}
+
+/// A call that the bytes don't refuse, put to the Rust where it was accepted: what is expected, and whether the answer is that.
+/// `Err` says why 01's domain of comparison is left.
+fn one_call(rust: &mut RustSide, op: &Op, got: &str) -> Result<(String, bool), String> {
+    if *op == Op::Pop {
+        let expected = pop_line(rust.pop().as_ref());
+        let same = same_pop(&expected, got);
+        return Ok((expected, same));
+    }
+    if got != "ok" {
+        let open = open_refusals(op);
+        return Ok(match open.contains(&got) {
+            true => ("not asked: it has no such limit".to_string(), true),
+            false => (format!("ok or {}", open.join(" or ")), false),
+        });
+    }
+    if let Some(why) = outside_domain(op) {
+        return Err(why);
+    }
+    if let Some(call) = rust.call(op) {
+        rust.apply(&call);
+    }
+    match rust.left_domain() {
+        Some(why) => Err(why),
+        None => Ok(("ok".to_string(), true)),
+    }
 }
 
 /// A record's number, its text, our answer and the Rust's.

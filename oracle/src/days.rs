@@ -3,7 +3,7 @@
 use std::path::{Path, PathBuf};
 
 use crate::answers::joined;
-use crate::image;
+use crate::image::{self, LONGEST, MOST_REACTIONS};
 use crate::make::{make, KINDS, LONG_KINDS};
 use crate::records::split;
 use crate::rng::Rng;
@@ -22,7 +22,7 @@ pub struct Case {
 }
 
 impl Case {
-    fn new(name: String, day: Vec<u8>) -> Self {
+    pub fn new(name: String, day: Vec<u8>) -> Self {
         Self {
             name,
             day,
@@ -178,10 +178,15 @@ fn garbage(of: &[u8], length: usize, rng: &mut Rng) -> Vec<u8> {
     (0..length).map(|_| drawn()).collect()
 }
 
-/// A record at the limits of keys and bytes (248 keys are 513 bytes of a plain one, 512 of a network one) or wrong in one
-/// field, or as it should be; and its words.
+/// So many keys that a plain record has a byte too many, and a network one just as many as it may.
+pub const KEYS_PAST_LONGEST: usize = (LONGEST - NETWORK) / 2;
+/// Bytes of a network record without keys, behind its length.
+const NETWORK: usize = 16;
+
+/// A record at the limits of keys and bytes or wrong in one field, or as it should be; and its words.
 fn odd_record(rng: &mut Rng) -> (Vec<u8>, String) {
-    let count = rng.pick(&[0, 1, 128, 129, 247, 248, 248]);
+    let (most, past) = (MOST_REACTIONS, KEYS_PAST_LONGEST);
+    let count = rng.pick(&[0, 1, most, most + 1, past - 1, past, past]);
     let keys = joined(&vec![1; count]);
     let line = match rng.below(8) {
         0 | 1 => format!("plain 5 0 1 {keys}"),
@@ -389,7 +394,7 @@ fn damaged_long(seed: u64, index: usize, rng: &mut Rng) -> Case {
             case.replace(&pops, &format!("pops, {byte} behind each"));
         }
         _ => {
-            let keys = joined(&[1; 128]);
+            let keys = joined(&[1; MOST_REACTIONS]);
             let longest = record(&["act", "0", "5", "0", "1", &keys]).unwrap_or_default();
             let inside = [longest.len() - 1, 1, 4, 5][index / LONG_SORTS % 4];
             let front = (BUFFER - inside - image_end(&case.day)) % longest.len();

@@ -360,24 +360,7 @@ pub fn agree(day: &[u8]) -> Result<(), String> {
     };
     let mut plain = Plain::new(&table);
     let mut rust = RustSide::new(&table, true);
-    let check = |at: usize, rust: &mut RustSide, plain: &Plain<'_>| {
-        if let Some(tag) = rust.beyond_limits() {
-            return Err(format!(
-                "record {at} was accepted, but the Rust now has the tag {tag}"
-            ));
-        }
-        let rust = Snapshot::of_rust(rust, &table);
-        let plain = Snapshot::of_plain(plain, &table);
-        match plain.first_difference(&rust) {
-            None => Ok(()),
-            Some(field) => Err(format!(
-                "after record {at} the states differ in {field}:\n  01   {}\n  Rust {}",
-                plain.line(at),
-                rust.line(at)
-            )),
-        }
-    };
-    check(0, &mut rust, &plain)?;
+    same_state(0, &mut rust, &plain, &table)?;
     let mut accepted = Vec::new();
     for (index, record) in split(records).iter().enumerate() {
         let at = index + 1;
@@ -401,7 +384,31 @@ pub fn agree(day: &[u8]) -> Result<(), String> {
                 accepted.push(record.op.clone());
             }
         }
-        check(at, &mut rust, &plain)?;
+        same_state(at, &mut rust, &plain, &table)?;
     }
     Ok(())
+}
+
+/// Holds the states after so many records to each other.
+fn same_state(
+    at: usize,
+    rust: &mut RustSide,
+    plain: &Plain<'_>,
+    table: &Table,
+) -> Result<(), String> {
+    if let Some(tag) = rust.beyond_limits() {
+        return Err(format!(
+            "record {at} was accepted, but the Rust now has the tag {tag}"
+        ));
+    }
+    let rust = Snapshot::of_rust(rust, table);
+    let plain = Snapshot::of_plain(plain, table);
+    match plain.first_difference(&rust) {
+        None => Ok(()),
+        Some(field) => Err(format!(
+            "after record {at} the states differ in {field}:\n  01   {}\n  Rust {}",
+            plain.line(at),
+            rust.line(at)
+        )),
+    }
 }

@@ -1,17 +1,13 @@
 //! The table image: check with number and place, the rows decoded once (01, "The table image"), and the writer of images
-//! (02, C-11). The rules of counts and rows stand here once, for both.
+//! (02, C-11). The rules of counts and rows stand here once, for both; so do 01's limits, which all else cites.
+
+// ---------------------------------------------------------------- limits
 
 /// Most bytes of an image, its length field included.
 pub const LARGEST: usize = 3287;
-/// Greatest offset of a tag.
-pub const MAX_OFFSET: u64 = (1 << 62) - 1;
-/// Greatest microstep of a tag.
-pub const MAX_MICROSTEP: u32 = u32::MAX;
-
-const NONE: u16 = 65535;
-/// Place of the first count and of the first row.
-pub const COUNTS_AT: usize = 5;
-pub const ROWS_AT: usize = 23;
+/// Bytes of the largest image that is accepted: the first scope has no parent, so there is one mode less. And of the smallest.
+pub const LARGEST_ACCEPTED: usize = LARGEST - KINDS[MODE].1;
+pub const SMALLEST: usize = ROWS_AT + KINDS[SCOPE].1 + KINDS[REACTOR].1;
 /// Most rows and bytes a row of the nine kinds, in the image's order.
 pub const KINDS: [(usize, usize); 9] = [
     (32, 6),
@@ -24,6 +20,37 @@ pub const KINDS: [(usize, usize); 9] = [
     (64, 4),
     (64, 14),
 ];
+/// Greatest level of a reaction.
+pub const MAX_LEVEL: u8 = 15;
+/// Greatest offset of a tag.
+pub const MAX_OFFSET: u64 = (1 << 62) - 1;
+/// Greatest microstep of a tag.
+pub const MAX_MICROSTEP: u32 = u32::MAX;
+/// Most events that wait, and most values and buckets that are held.
+pub const MOST: usize = 256;
+/// Most bytes after a record's length.
+pub const LONGEST: usize = 512;
+/// Most reactions that a record names.
+pub const MOST_REACTIONS: usize = 128;
+
+/// The nine kinds of rows.
+pub const SCOPE: usize = 0;
+pub const REACTOR: usize = 1;
+pub const MODE: usize = 2;
+pub const REACTION: usize = 3;
+pub const ACTION: usize = 4;
+pub const TRIGGER: usize = 5;
+pub const STARTUP: usize = 6;
+pub const RESET: usize = 7;
+pub const TIMER: usize = 8;
+
+/// The key that means "none".
+pub const NONE: u16 = 65535;
+/// Place of the first count and of the first row.
+pub const COUNTS_AT: usize = 5;
+pub const ROWS_AT: usize = 23;
+
+// ---------------------------------------------------------------- an accepted table
 
 /// A tag as the bytes give it; its offset may be beyond the limit.
 #[derive(Debug, Clone, Copy, PartialEq, Eq, PartialOrd, Ord, Hash)]
@@ -45,48 +72,54 @@ impl RawTag {
     pub fn within_limits(self) -> bool {
         self.offset <= MAX_OFFSET
     }
+
+    /// As it stands in images and records.
+    pub fn bytes(self) -> Vec<u8> {
+        let (offset, microstep) = (self.offset.to_be_bytes(), self.microstep.to_be_bytes());
+        [&offset[..], &microstep].concat()
+    }
 }
 
-#[derive(Debug, Clone)]
+#[derive(Debug, Clone, Copy)]
 pub struct Scope {
     pub parent: Option<usize>,
     pub reactor: usize,
     pub mode: Option<usize>,
 }
 
-#[derive(Debug, Clone)]
+#[derive(Debug, Clone, Copy)]
 pub struct Reactor {
     pub root: usize,
     pub initial: Option<usize>,
 }
 
-#[derive(Debug, Clone)]
+#[derive(Debug, Clone, Copy)]
 pub struct Mode {
     pub scope: usize,
     pub reactor: usize,
 }
 
-#[derive(Debug, Clone)]
+#[derive(Debug, Clone, Copy)]
 pub struct Action {
     pub scope: usize,
     pub logical: bool,
 }
 
-#[derive(Debug, Clone)]
+#[derive(Debug, Clone, Copy)]
 pub struct Startup {
     pub scope: usize,
     pub action: usize,
     pub reaction: usize,
 }
 
-#[derive(Debug, Clone)]
+#[derive(Debug, Clone, Copy)]
 pub struct Timer {
     pub action: usize,
     pub tag: RawTag,
 }
 
 /// An accepted table.
-#[derive(Debug, Clone)]
+#[derive(Debug, Clone, Default)]
 pub struct Table {
     pub scopes: Vec<Scope>,
     pub reactors: Vec<Reactor>,
@@ -126,13 +159,9 @@ pub fn number(bytes: &[u8]) -> u64 {
         .fold(0, |value, &byte| (value << 8) | u64::from(byte))
 }
 
-fn short(bytes: &[u8], at: usize) -> u16 {
-    number(&bytes[at..at + 2]) as u16
-}
-
-/// A key that may be none.
-fn optional(key: u16) -> Option<usize> {
-    (key != NONE).then_some(usize::from(key))
+/// Bytes behind their length in four.
+pub fn with_length(bytes: &[u8]) -> Vec<u8> {
+    [&(bytes.len() as u32).to_be_bytes()[..], bytes].concat()
 }
 
 /// Takes a day apart into its checked table and the bytes of its records. An image that is cut short or over the
@@ -189,8 +218,7 @@ pub fn write(counts: &[u8], rows: &[u8], buffer: &mut [u8]) -> Result<usize, Ref
         return refused(1, 0);
     }
     // The reader's 4, at the place where the row stands in the image.
-    let follows = (1 + counts.len() + rows.len()) as u32;
-    let image = [&follows.to_be_bytes()[..], &[1], counts, rows].concat();
+    let image = with_length(&[&[1], counts, rows].concat());
     if let Some(broken) = RawRows::new(&image).broken().next() {
         return refused(4, broken.place);
     }
@@ -226,16 +254,6 @@ pub fn starts(counts: &[u8]) -> [usize; 10] {
     }
     starts
 }
-
-const SCOPE: usize = 0;
-const REACTOR: usize = 1;
-const MODE: usize = 2;
-const REACTION: usize = 3;
-const ACTION: usize = 4;
-const TRIGGER: usize = 5;
-const STARTUP: usize = 6;
-const RESET: usize = 7;
-const TIMER: usize = 8;
 
 /// The rows while they are being checked.
 pub struct RawRows<'a> {
@@ -296,74 +314,45 @@ impl<'a> RawRows<'a> {
         self.starts[kind] + row * KINDS[kind].1
     }
 
-    fn byte(&self, kind: usize, row: usize, at: usize) -> u8 {
-        self.image[self.place(kind, row) + at]
-    }
-
-    fn key(&self, kind: usize, row: usize, at: usize) -> u16 {
-        short(self.image, self.place(kind, row) + at)
-    }
-
-    fn tag(&self, kind: usize, row: usize, at: usize) -> RawTag {
-        let place = self.place(kind, row) + at;
-        RawTag {
-            offset: number(&self.image[place..place + 8]),
-            microstep: number(&self.image[place + 8..place + 12]) as u32,
-        }
+    /// What each row of a kind becomes.
+    fn each<T>(&self, kind: usize, decoded: impl Fn(Row<'_>) -> T) -> Vec<T> {
+        let rows = self;
+        (0..self.counts[kind])
+            .map(|row| decoded(Row { rows, kind, row }))
+            .collect()
     }
 
     fn decode(&self) -> Table {
-        let key = |kind, row, at| usize::from(self.key(kind, row, at));
-        let maybe = |kind, row, at| optional(self.key(kind, row, at));
-        let rows = |kind: usize| 0..self.counts[kind];
         Table {
-            scopes: rows(SCOPE)
-                .map(|row| Scope {
-                    parent: maybe(SCOPE, row, 0),
-                    reactor: key(SCOPE, row, 2),
-                    mode: maybe(SCOPE, row, 4),
-                })
-                .collect(),
-            reactors: rows(REACTOR)
-                .map(|row| Reactor {
-                    root: key(REACTOR, row, 0),
-                    initial: maybe(REACTOR, row, 2),
-                })
-                .collect(),
-            modes: rows(MODE)
-                .map(|row| Mode {
-                    scope: key(MODE, row, 0),
-                    reactor: key(MODE, row, 2),
-                })
-                .collect(),
-            levels: rows(REACTION)
-                .map(|row| self.byte(REACTION, row, 0))
-                .collect(),
-            actions: rows(ACTION)
-                .map(|row| Action {
-                    scope: key(ACTION, row, 0),
-                    logical: self.byte(ACTION, row, 2) == 1,
-                })
-                .collect(),
-            triggers: rows(TRIGGER)
-                .map(|row| (key(TRIGGER, row, 0), key(TRIGGER, row, 2)))
-                .collect(),
-            startups: rows(STARTUP)
-                .map(|row| Startup {
-                    scope: key(STARTUP, row, 0),
-                    action: key(STARTUP, row, 2),
-                    reaction: key(STARTUP, row, 4),
-                })
-                .collect(),
-            resets: rows(RESET)
-                .map(|row| (key(RESET, row, 0), key(RESET, row, 2)))
-                .collect(),
-            timers: rows(TIMER)
-                .map(|row| Timer {
-                    action: key(TIMER, row, 0),
-                    tag: self.tag(TIMER, row, 2),
-                })
-                .collect(),
+            scopes: self.each(SCOPE, |row| Scope {
+                parent: row.optional(0),
+                reactor: row.index(2),
+                mode: row.optional(4),
+            }),
+            reactors: self.each(REACTOR, |row| Reactor {
+                root: row.index(0),
+                initial: row.optional(2),
+            }),
+            modes: self.each(MODE, |row| Mode {
+                scope: row.index(0),
+                reactor: row.index(2),
+            }),
+            levels: self.each(REACTION, |row| row.byte(0)),
+            actions: self.each(ACTION, |row| Action {
+                scope: row.index(0),
+                logical: row.byte(2) == 1,
+            }),
+            triggers: self.each(TRIGGER, |row| (row.index(0), row.index(2))),
+            startups: self.each(STARTUP, |row| Startup {
+                scope: row.index(0),
+                action: row.index(2),
+                reaction: row.index(4),
+            }),
+            resets: self.each(RESET, |row| (row.index(0), row.index(2))),
+            timers: self.each(TIMER, |row| Timer {
+                action: row.index(0),
+                tag: row.tag(2),
+            }),
         }
     }
 }
@@ -377,12 +366,33 @@ pub struct Row<'r> {
 }
 
 impl Row<'_> {
+    /// So many bytes of it from there on.
+    fn bytes(&self, at: usize, count: usize) -> &[u8] {
+        let place = self.rows.place(self.kind, self.row) + at;
+        &self.rows.image[place..place + count]
+    }
+
     fn byte(self, at: usize) -> u8 {
-        self.rows.byte(self.kind, self.row, at)
+        self.bytes(at, 1)[0]
     }
 
     fn key(self, at: usize) -> u16 {
-        self.rows.key(self.kind, self.row, at)
+        number(self.bytes(at, 2)) as u16
+    }
+
+    /// The key there as an index.
+    fn index(self, at: usize) -> usize {
+        usize::from(self.key(at))
+    }
+
+    /// The same where it may be none.
+    fn optional(self, at: usize) -> Option<usize> {
+        (!self.is_none(at)).then_some(self.index(at))
+    }
+
+    fn tag(self, at: usize) -> RawTag {
+        let offset = number(self.bytes(at, 8));
+        RawTag::new(offset, number(self.bytes(at + 8, 4)) as u32)
     }
 
     fn is_none(self, at: usize) -> bool {
@@ -391,25 +401,23 @@ impl Row<'_> {
 
     /// Whether the key there is one of that kind.
     fn has(self, at: usize, kind: usize) -> bool {
-        usize::from(self.key(at)) < self.rows.counts[kind]
+        self.index(at) < self.rows.counts[kind]
     }
 
     /// The row of that kind that the key there names.
     fn named(self, at: usize, kind: usize) -> Self {
-        let row = usize::from(self.key(at));
+        let row = self.index(at);
         Self { kind, row, ..self }
     }
 
     /// Whether the key there is this row's number.
     fn is(self, at: usize, row: Self) -> bool {
-        usize::from(self.key(at)) == row.row
+        self.index(at) == row.row
     }
 
     /// Whether a scope lies strictly under another. A parent that is not lower, or none, ends the walk.
     fn lies_under(self, above: u16) -> bool {
-        let parent = self.key(0);
-        usize::from(parent) < self.row
-            && (parent == above || self.named(0, SCOPE).lies_under(above))
+        self.index(0) < self.row && (self.key(0) == above || self.named(0, SCOPE).lies_under(above))
     }
 }
 
@@ -421,7 +429,7 @@ type Rule = (&'static str, fn(Row<'_>) -> bool);
 pub const RULES: [&[Rule]; 9] = [
     &[
         ("a parent that is not lower", |row| {
-            row.is_none(0) || usize::from(row.key(0)) < row.row
+            row.is_none(0) || row.index(0) < row.row
         }),
         ("no such reactor", |row| row.has(2, REACTOR)),
         ("no such mode", |row| row.is_none(4) || row.has(4, MODE)),
@@ -454,7 +462,7 @@ pub const RULES: [&[Rule]; 9] = [
             row.named(0, SCOPE).is(4, row)
         }),
     ],
-    &[("a level over 15", |row| row.byte(0) <= 15)],
+    &[("a level over 15", |row| row.byte(0) <= MAX_LEVEL)],
     &[
         ("no such scope", |row| row.has(0, SCOPE)),
         ("logical neither 0 nor 1", |row| row.byte(2) <= 1),
@@ -474,9 +482,7 @@ pub const RULES: [&[Rule]; 9] = [
     ],
     &[
         ("no such action", |row| row.has(0, ACTION)),
-        ("a tag beyond the limits", |row| {
-            row.rows.tag(row.kind, row.row, 2).within_limits()
-        }),
+        ("a tag beyond the limits", |row| row.tag(2).within_limits()),
     ],
 ];
 
@@ -484,6 +490,13 @@ impl Table {
     /// Whether some scope names a mode.
     pub fn is_modal(&self) -> bool {
         self.scopes.iter().any(|scope| scope.mode.is_some())
+    }
+
+    /// The scope whose queue takes a push of an action; none for the root's.
+    pub fn queue_of(&self, action: usize) -> Option<usize> {
+        let Action { scope, logical } = self.actions[action];
+        let has_parent = self.scopes[scope].parent.is_some();
+        (logical && has_parent && self.is_modal()).then_some(scope)
     }
 
     /// Whether a scope is `above` or lies under it.

@@ -10,6 +10,7 @@ use std::path::Path;
 use std::time::{Duration, Instant};
 
 use crate::beside::child;
+use crate::image::{KINDS, MAX_LEVEL, REACTION};
 use crate::key_set::KeySet;
 use crate::rng::Rng;
 use crate::schedule::ReactionKey;
@@ -17,8 +18,8 @@ use crate::scripts::Bytes;
 use crate::timing::process;
 use crate::{Level, ReactionSetLimits};
 
-const REACTIONS: usize = 128;
-const LEVELS: usize = 16;
+const REACTIONS: usize = KINDS[REACTION].0;
+const LEVELS: usize = MAX_LEVEL as usize + 1;
 /// Different sets of a script.
 const SETS: usize = 32;
 /// How many keys the sets of a script have.
@@ -36,24 +37,16 @@ const LEVELS_AT: usize = 6;
 fn made(rng: &mut Rng, size: usize) -> Vec<u8> {
     let mut script = Bytes::default();
     script.short(REACTIONS);
-    for key in shuffled(rng) {
+    for key in rng.shuffled(REACTIONS) {
         script.byte((key % LEVELS) as u8);
     }
     for _ in 0..SETS {
         script.short(size);
-        for &key in &shuffled(rng)[..size] {
+        for &key in &rng.shuffled(REACTIONS)[..size] {
             script.short(key);
         }
     }
     script.0
-}
-
-fn shuffled(rng: &mut Rng) -> Vec<usize> {
-    let mut keys: Vec<usize> = (0..REACTIONS).collect();
-    for last in (1..REACTIONS).rev() {
-        keys.swap(last, rng.below(last as u64 + 1) as usize);
-    }
-    keys
 }
 
 /// Whether the Rust's set is one for all walks or a new one for each.

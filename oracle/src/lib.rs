@@ -11,6 +11,7 @@ pub mod image;
 pub mod judge;
 pub mod laps;
 pub mod make;
+pub mod parts;
 pub mod picture;
 pub mod plain;
 mod published;

@@ -1,7 +1,7 @@
 //! The oracle: the published Rust, unchanged over stand-ins, and a plain reading of 01, to hold gate days against.
 
 use std::collections::HashSet;
-use std::io::{self, BufWriter, Read, Write};
+use std::io::{self, BufWriter, Read, StdoutLock, Write};
 use std::path::Path;
 use std::process::ExitCode;
 use std::time::Duration;
@@ -72,7 +72,7 @@ fn main() -> ExitCode {
         .collect();
     let words: Vec<&str> = arguments.iter().map(String::as_str).collect();
     match run(&words) {
-        Ok(code) => code,
+        Ok(()) => ExitCode::SUCCESS,
         Err(Difference(words)) => {
             // Nothing is left to be done if standard output is closed.
             let _ = writeln!(io::stdout(), "{words}");
@@ -85,52 +85,85 @@ fn main() -> ExitCode {
     }
 }
 
-fn run(words: &[&str]) -> Result<ExitCode, Failure> {
+/// Standard output.
+type Out = BufWriter<StdoutLock<'static>>;
+/// Some of the programs: whether what is asked for is one of them.
+type Programs = fn(&[&str], &mut Out) -> Result<bool, Failure>;
+
+fn run(words: &[&str]) -> Result<(), Failure> {
     let mut out = BufWriter::new(io::stdout().lock());
+    let all: [Programs; 6] = [answers, days, files, own_tests, scripted, others];
+    for programs in all {
+        if programs(words, &mut out)? {
+            out.flush()?;
+            return Ok(());
+        }
+    }
+    Err(Fault(format!("what is asked for?\n{USAGE}")))
+}
+
+/// A day's answers, looked at or given.
+fn answers(words: &[&str], out: &mut Out) -> Result<bool, Failure> {
     match *words {
+        ["help"] => writeln!(out, "{USAGE}")?,
         ["compare", day, answers] => {
             let outcome = compare::compare(&read(day)?, &read(answers)?);
-            report(&mut out, day, outcome)?;
+            report(out, day, outcome)?;
         }
         ["judge", day, answers] => {
             let outcome = judge::judge(&read(day)?, &read(answers)?);
-            report(&mut out, day, outcome)?;
+            report(out, day, outcome)?;
+        }
+        ["aside", day, answers] => {
+            let (rows, outcome) = compare::aside(&read(day)?, &read(answers)?).map_err(Fault)?;
+            let table = compare::table(&rows, &outcome);
+            if let Outcome::Differ(_) = outcome {
+                return Err(Difference(table.trim_end_matches('\n').to_string()));
+            }
+            write!(out, "{table}")?;
         }
         ["answer", day] => out.write_all(plain::answer(&read(day)?).as_bytes())?,
-        ["deep", day] => deep::print_rust(&read(day)?, None, &mut out)?,
-        ["deep", day, answers] => {
-            deep::print_rust(&read(day)?, Some(&read(answers)?), &mut out)?;
-        }
-        ["deep-plain", day] => deep::print_plain(&read(day)?, &mut out)?,
-        ["make", seed, kind] => {
-            out.write_all(&made(number(seed)?, kind)?)?;
-        }
+        ["deep", day] => deep::print_rust(&read(day)?, None, out)?,
+        ["deep", day, answers] => deep::print_rust(&read(day)?, Some(&read(answers)?), out)?,
+        ["deep-plain", day] => deep::print_plain(&read(day)?, out)?,
+        _ => return Ok(false),
+    }
+    Ok(true)
+}
+
+/// Days and images, made or rescued.
+fn days(words: &[&str], out: &mut Out) -> Result<bool, Failure> {
+    match *words {
+        ["make", seed, kind] => out.write_all(&made(number(seed)?, kind)?)?,
         ["images", seed, count, folder] => {
             let words = images(number(seed)?, number(count)?, Path::new(folder))?;
             writeln!(out, "{words}")?;
         }
+        ["rescue", day, output] => {
+            let kept = rescue::rescue(&read(day)?);
+            let given = rescues::Given::of(&kept);
+            let kept = kept.map_err(|refused| Fault(format!("{day}: {refused}")))?;
+            put(out, output, &kept.output)?;
+            io::stderr().write_all(&[given.list, given.told].concat())?;
+        }
+        _ => return Ok(false),
+    }
+    Ok(true)
+}
+
+/// Days as texts, pictures and theorems.
+fn files(words: &[&str], out: &mut Out) -> Result<bool, Failure> {
+    match *words {
         ["asm", text, day] => {
-            let words = String::from_utf8(read(text)?).map_err(|error| Fault(error.to_string()))?;
-            let bytes =
-                text::assemble(&words).map_err(|words| Fault(format!("{text}: {words}")))?;
-            put(&mut out, day, &bytes)?;
+            let bytes = from_text(text, text::assemble)?;
+            put(out, day, &bytes)?;
         }
         ["text", day, text] => {
             let lines = text::numbered_lines_of(&read(day)?);
-            put(&mut out, text, (lines.join("\n") + "\n").as_bytes())?;
-        }
-        ["aside", day, answers] => {
-            let (rows, outcome) = compare::aside(&read(day)?, &read(answers)?).map_err(Fault)?;
-            write!(out, "{}", compare::table(&rows, &outcome))?;
-            out.flush()?;
-            if let Outcome::Differ(_) = outcome {
-                return Ok(ExitCode::from(1));
-            }
+            put(out, text, (lines.join("\n") + "\n").as_bytes())?;
         }
         ["picture", text, svg] => {
-            let words = String::from_utf8(read(text)?).map_err(|error| Fault(error.to_string()))?;
-            let drawn =
-                picture::picture(&words).map_err(|words| Fault(format!("{text}: {words}")))?;
+            let drawn = from_text(text, picture::picture)?;
             std::fs::write(svg, drawn)
                 .map_err(|error| Fault(format!("cannot write {svg}: {error}")))?;
         }
@@ -141,55 +174,78 @@ fn run(words: &[&str]) -> Result<ExitCode, Failure> {
                 .collect();
             out.write_all(antt::file(&days?).map_err(Difference)?.as_bytes())?;
         }
-        ["map", seed, count, script, answers] => {
-            let written =
-                scripts::map::write(number(seed)?, number(count)? as usize).map_err(Difference)?;
-            save(written, script, answers)?;
+        _ => return Ok(false),
+    }
+    Ok(true)
+}
+
+/// The oracle's two sides held to each other.
+fn own_tests(words: &[&str], out: &mut Out) -> Result<bool, Failure> {
+    let said = match *words {
+        ["selftest", folder] => {
+            if !Path::new(folder).is_dir() {
+                return Err(Fault(format!("{folder} is no folder")));
+            }
+            selftest::selftest(Path::new(folder))
+        }
+        ["sweep", from, to] => sweep::sweep(number(from)?, number(to)?, None),
+        ["sweep", from, to, kind] => {
+            let from = number(from)?;
+            made(from, kind)?;
+            sweep::sweep(from, number(to)?, Some(kind))
+        }
+        _ => return Ok(false),
+    };
+    writeln!(out, "{}", said.map_err(Difference)?)?;
+    Ok(true)
+}
+
+/// Scripts of single functions.
+fn scripted(words: &[&str], out: &mut Out) -> Result<bool, Failure> {
+    let (written, script, answers) = match *words {
+        ["store-compare", script, answers, ours] => {
+            let (script, answers, ours) = (read(script)?, read(answers)?, read(ours)?);
+            let said = scripts::store_compare::compare(&script, &answers, &ours);
+            writeln!(out, "{}", said.map_err(Difference)?)?;
+            return Ok(true);
         }
         ["store", "exhaustive", depth, script, answers] => {
             let depth = u32::try_from(number(depth)?).unwrap_or(u32::MAX);
-            if !scripts::store::DEPTHS.contains(&depth) {
-                return Err(Fault(format!(
-                    "the depth is one of {:?}",
-                    scripts::store::DEPTHS
-                )));
+            let depths = scripts::store::DEPTHS;
+            if !depths.contains(&depth) {
+                return Err(Fault(format!("the depth is one of {depths:?}")));
             }
-            let written = scripts::store::write_exhaustive(depth).map_err(Difference)?;
-            save(written, script, answers)?;
-        }
-        ["store", seed, count, script, answers] => {
-            let written = scripts::store::write(number(seed)?, number(count)? as usize)
-                .map_err(Difference)?;
-            save(written, script, answers)?;
-        }
-        ["store-compare", script, answers, ours] => {
-            let words =
-                scripts::store_compare::compare(&read(script)?, &read(answers)?, &read(ours)?)
-                    .map_err(Difference)?;
-            writeln!(out, "{words}")?;
+            let written = scripts::store::write_exhaustive(depth);
+            (written.map_err(Difference), script, answers)
         }
         ["table", "days", folder, script, answers] => {
-            let written = scripts::table::write_days(Path::new(folder)).map_err(Fault)?;
-            save(written, script, answers)?;
+            let written = scripts::table::write_days(Path::new(folder));
+            (written.map_err(Fault), script, answers)
         }
-        ["table", seed, count, script, answers] => {
-            let written = scripts::table::write(number(seed)?, number(count)? as usize)
-                .map_err(Difference)?;
-            save(written, script, answers)?;
+        [name, seed, count, script, answers] => {
+            let write = match name {
+                "map" => scripts::map::write,
+                "store" => scripts::store::write,
+                "table" => scripts::table::write,
+                "walk" => scripts::walk::write,
+                _ => return Ok(false),
+            };
+            let written = write(number(seed)?, number(count)? as usize);
+            (written.map_err(Difference), script, answers)
         }
-        ["walk", seed, count, script, answers] => {
-            let written =
-                scripts::walk::write(number(seed)?, number(count)? as usize).map_err(Difference)?;
-            save(written, script, answers)?;
-        }
-        ["time", day, repeat] => {
-            let words = timing::time(&read(day)?, number(repeat)? as usize, None).map_err(Fault)?;
-            writeln!(out, "{day}: {words}")?;
-        }
-        ["time", day, repeat, answers] => {
-            let answers = read(answers)?;
-            let words = timing::time(&read(day)?, number(repeat)? as usize, Some(&answers))
-                .map_err(Fault)?;
+        _ => return Ok(false),
+    };
+    save(written?, script, answers)?;
+    Ok(true)
+}
+
+/// Other programs beside the Rust and the oracle, and the Rust's own times.
+fn others(words: &[&str], out: &mut Out) -> Result<bool, Failure> {
+    match *words {
+        ["time", day, repeat, ref answers @ ..] if answers.len() < 2 => {
+            let answers = answers.first().map(|answers| read(answers)).transpose()?;
+            let repeat = number(repeat)? as usize;
+            let words = timing::time(&read(day)?, repeat, answers.as_deref()).map_err(Fault)?;
             writeln!(out, "{day}: {words}")?;
         }
         ["race", repeat, folder, ref words @ ..] if !words.is_empty() => {
@@ -201,23 +257,6 @@ fn run(words: &[&str]) -> Result<ExitCode, Failure> {
             let repeat = number(repeat)? as usize;
             let table = laps::race(repeat, words, Path::new(folder)).map_err(Difference)?;
             write!(out, "{table}")?;
-        }
-        ["selftest", folder] => {
-            if !Path::new(folder).is_dir() {
-                return Err(Fault(format!("{folder} is no folder")));
-            }
-            let words = selftest::selftest(Path::new(folder)).map_err(Difference)?;
-            writeln!(out, "{words}")?;
-        }
-        ["sweep", from, to] => {
-            let words = sweep::sweep(number(from)?, number(to)?, None).map_err(Difference)?;
-            writeln!(out, "{words}")?;
-        }
-        ["sweep", from, to, kind] => {
-            let from = number(from)?;
-            made(from, kind)?;
-            let words = sweep::sweep(from, number(to)?, Some(kind)).map_err(Difference)?;
-            writeln!(out, "{words}")?;
         }
         ["beside", from, to, damaged, folder, ref words @ ..] if !words.is_empty() => {
             let seeds = (number(from)?, number(to)?);
@@ -231,13 +270,6 @@ fn run(words: &[&str]) -> Result<ExitCode, Failure> {
             let outcome = beside::beside(seeds, damaged, Path::new(folder), &[side]);
             writeln!(out, "{}", outcome.map_err(Fault)?.map_err(Difference)?)?;
         }
-        ["rescue", day, output] => {
-            let kept = rescue::rescue(&read(day)?);
-            let given = rescues::Given::of(&kept);
-            let kept = kept.map_err(|refused| Fault(format!("{day}: {refused}")))?;
-            put(&mut out, output, &kept.output)?;
-            io::stderr().write_all(&[given.list, given.told].concat())?;
-        }
         ["rescues", seed, count, folder, ref words @ ..] => {
             let (seed, count) = (number(seed)?, number(count)? as usize);
             let (rescuer, bench) = match words.iter().position(|&word| word == "--") {
@@ -250,11 +282,9 @@ fn run(words: &[&str]) -> Result<ExitCode, Failure> {
             let outcome = rescues::rescues(seed, count, Path::new(folder), rescuer, bench);
             writeln!(out, "{}", outcome.map_err(Fault)?.map_err(Difference)?)?;
         }
-        ["help"] => writeln!(out, "{USAGE}")?,
-        _ => return Err(Fault(format!("what is asked for?\n{USAGE}"))),
+        _ => return Ok(false),
     }
-    out.flush()?;
-    Ok(ExitCode::SUCCESS)
+    Ok(true)
 }
 
 fn read(path: &str) -> Result<Vec<u8>, Failure> {
@@ -265,6 +295,12 @@ fn read(path: &str) -> Result<Vec<u8>, Failure> {
         std::fs::read(path)
     };
     bytes.map_err(|error| Fault(format!("cannot read {path}: {error}")))
+}
+
+/// What the text in a file comes to; a fault names the file.
+fn from_text<T>(path: &str, of: impl Fn(&str) -> Result<T, String>) -> Result<T, Failure> {
+    let words = String::from_utf8(read(path)?).map_err(|error| Fault(error.to_string()))?;
+    of(&words).map_err(|words| Fault(format!("{path}: {words}")))
 }
 
 /// Into a file, or to standard output.

@@ -6,7 +6,7 @@ use std::fmt::Write;
 
 use crate::deep;
 use crate::image::{self, RawTag, Table};
-use crate::plain::{Clock, Event, Outcome, Plain};
+use crate::plain::{Outcome, Plain, State};
 use crate::records::{split, Op};
 use crate::text;
 
@@ -22,6 +22,7 @@ const INK: &str = "#222222";
 const GRID: f64 = 10.0;
 
 /// What became of an event.
+#[derive(Clone, Copy)]
 enum End {
     Waits,
     Ready(RawTag),
@@ -108,9 +109,10 @@ fn escaped(words: &str) -> String {
 }
 
 /// Where a scope's clock stands at a moment.
-fn reading(active: bool, clock: Clock, now: RawTag) -> f64 {
+fn reading(state: &State, scope: usize, now: RawTag) -> f64 {
+    let clock = state.clocks[scope];
     match clock.to_local(now) {
-        Ok(local) if active => minutes(local),
+        Ok(local) if state.active[scope] => minutes(local),
         _ => minutes(clock.suspended),
     }
 }
@@ -124,28 +126,59 @@ pub fn picture(text: &str) -> Result<String, String> {
     Ok(drawn(&run(text, &table, &ops)))
 }
 
+/// A day being run, and what is drawn of it so far.
+struct Drawing<'t> {
+    table: &'t Table,
+    /// Names of the scopes.
+    names: Vec<String>,
+    plain: Plain<'t>,
+    tracks: Vec<Track>,
+    /// The tracks of the events that wait, in their order; the root's have none.
+    waiting: Vec<Option<usize>>,
+    pieces: Vec<Piece>,
+    turns: Vec<Turn>,
+    /// Each scope's last point.
+    points: Vec<(f64, f64)>,
+}
+
 fn run(text: &str, table: &Table, ops: &[Op]) -> Run {
-    let scope_names = names(text, "scope", table.scopes.len());
-    let current = |modes: &[Option<usize>], scope: usize| {
-        modes[table.scopes[scope].reactor].map(|mode| table.modes[mode].scope)
+    let mut drawing = Drawing {
+        table,
+        names: names(text, "scope", table.scopes.len()),
+        plain: Plain::new(table),
+        tracks: Vec::new(),
+        waiting: Vec::new(),
+        pieces: Vec::new(),
+        turns: Vec::new(),
+        points: vec![(0.0, 0.0); table.scopes.len()],
     };
-    let mut plain = Plain::new(table);
-    let mut tracks: Vec<Track> = Vec::new();
-    // The tracks of the events that wait, in their order; the root's have none.
-    let mut waiting: Vec<Option<usize>> = Vec::new();
-    let mut turns = Vec::new();
-    let mut pieces = Vec::new();
-    // Each scope's last point.
-    let mut points = vec![(0.0, 0.0); table.scopes.len()];
     for op in ops {
-        let before = plain.state.clone();
-        let outcome = plain.step(op);
+        drawing.step(op);
+    }
+    drawing.finish(text)
+}
+
+impl Drawing<'_> {
+    fn step(&mut self, op: &Op) {
+        let before = self.plain.state.clone();
+        let outcome = self.plain.step(op);
         if matches!(outcome, Outcome::Refused(_)) {
-            continue;
+            return;
         }
-        let after = &plain.state;
-        // What left, and how.
-        let (left, end) = match (op, &outcome) {
+        self.leave(op, &outcome, &before);
+        self.arrive();
+        self.note_due(matches!(op, Op::Action { .. }));
+        if let Op::Transition {
+            mode, reset, tag, ..
+        } = *op
+        {
+            self.turn(usize::from(mode), reset, tag, &before);
+        }
+    }
+
+    /// What left, and how.
+    fn leave(&mut self, op: &Op, outcome: &Outcome, before: &State) {
+        let (left, end): (Vec<bool>, End) = match (op, outcome) {
             (
                 Op::Transition {
                     mode,
@@ -155,158 +188,146 @@ fn run(text: &str, table: &Table, ops: &[Op]) -> Run {
                 },
                 _,
             ) => {
-                let target = table.modes[usize::from(*mode)].scope;
-                let inside = |event: &Event| {
-                    event
-                        .scope
-                        .is_some_and(|scope| table.in_subtree(scope, target))
-                };
-                (
-                    before.events.iter().map(inside).collect(),
-                    End::Dropped(*tag),
-                )
+                let target = self.table.modes[usize::from(*mode)].scope;
+                let inside = |scope: usize| self.table.in_subtree(scope, target);
+                let left = before.events.iter();
+                let left = left.map(|event| event.scope.is_some_and(inside));
+                (left.collect(), End::Dropped(*tag))
             }
             (_, Outcome::Popped(Some(ready))) => {
-                let tag = RawTag::new(ready.offset as u64, ready.microstep as u32);
-                let mut rest = after.events.iter().peekable();
-                let left = before
-                    .events
-                    .iter()
-                    .map(|event| rest.next_if(|other| *other == event).is_none());
-                (left.collect(), End::Ready(tag))
+                let mut rest = self.plain.state.events.iter().peekable();
+                let left = before.events.iter();
+                let left = left.map(|event| rest.next_if(|other| *other == event).is_none());
+                (left.collect(), End::Ready(ready.tag()))
             }
-            _ => (vec![false; waiting.len()], End::Waits),
+            _ => return,
         };
         let mut stayed = Vec::new();
-        for (track, gone) in waiting.into_iter().zip::<Vec<bool>>(left) {
-            match (track, &end) {
-                (Some(at), End::Ready(tag)) if gone => tracks[at].end = End::Ready(*tag),
-                (Some(at), End::Dropped(tag)) if gone => tracks[at].end = End::Dropped(*tag),
+        for (track, gone) in std::mem::take(&mut self.waiting).into_iter().zip(left) {
+            match track {
+                Some(at) if gone => self.tracks[at].end = end,
                 _ if gone => {}
                 _ => stayed.push(track),
             }
         }
-        waiting = stayed;
-        for event in &after.events[waiting.len()..] {
-            waiting.push(event.scope.map(|scope| {
-                tracks.push(Track {
-                    scope,
-                    action: event.action.map(|(action, _)| action),
-                    local: event.tag,
-                    due: Vec::new(),
-                    would: None,
-                    end: End::Waits,
-                });
-                tracks.len() - 1
+        self.waiting = stayed;
+    }
+
+    /// Tracks for what waits now.
+    fn arrive(&mut self) {
+        for event in &self.plain.state.events[self.waiting.len()..] {
+            self.waiting.push(event.scope.map(|_| self.tracks.len()));
+            self.tracks.extend(event.scope.map(|scope| Track {
+                scope,
+                action: event.action.map(|(action, _)| action),
+                local: event.tag,
+                due: Vec::new(),
+                would: None,
+                end: End::Waits,
             }));
         }
-        // Where they are due now: known in an active scope, and asked for by a push in any.
-        for (event, at) in after.events.iter().zip(&waiting) {
+    }
+
+    /// Where events are due now: known in an active scope, and asked for by a push in any.
+    fn note_due(&mut self, pushed: bool) {
+        let state = &self.plain.state;
+        for (event, at) in state.events.iter().zip(&self.waiting) {
             let (Some(at), Some(scope)) = (*at, event.scope) else {
                 continue;
             };
-            let clock = after.clocks[scope];
-            let track = &mut tracks[at];
-            let due = match (after.active[scope], event.action) {
-                (true, _) => clock.to_global(event.tag).ok(),
-                (false, Some((_, stored)))
-                    if matches!(op, Op::Action { .. }) && track.due.is_empty() =>
-                {
-                    Some(stored)
-                }
-                _ => None,
+            let (active, clock) = (state.active[scope], state.clocks[scope]);
+            let track = &mut self.tracks[at];
+            let asked = event.action.filter(|_| pushed && track.due.is_empty());
+            let due = match active {
+                true => clock.to_global(event.tag).ok(),
+                false => asked.map(|(_, stored)| stored),
             };
             if due.is_some() && due != track.due.last().copied() {
                 track.due.extend(due);
-                if after.active[scope] && event.tag <= clock.local {
+                if active && event.tag <= clock.local {
                     track.would =
                         Some(minutes(clock.global) + minutes(event.tag) - minutes(clock.local));
                 }
             }
         }
-        let Op::Transition {
-            mode, reset, tag, ..
-        } = *op
-        else {
-            continue;
-        };
+    }
+
+    /// The clocks up to a transition, and over it.
+    fn turn(&mut self, mode: usize, reset: bool, tag: RawTag, before: &State) {
         let kind = if reset { "reset" } else { "history" };
-        let name = &scope_names[table.modes[usize::from(mode)].scope];
-        turns.push(Turn {
+        let name = &self.names[self.table.modes[mode].scope];
+        self.turns.push(Turn {
             at: minutes(tag),
             words: format!("{}: {name} ({kind})", words(tag)),
         });
-        for (scope, point) in points.iter_mut().enumerate() {
-            let here = (
-                minutes(tag),
-                reading(before.active[scope], before.clocks[scope], tag),
-            );
-            let next = (
-                minutes(tag),
-                reading(after.active[scope], after.clocks[scope], tag),
-            );
-            let kind = if before.active[scope] {
-                Kind::Runs
-            } else {
-                Kind::Stands
-            };
-            let current = current(&before.modes, scope);
-            pieces.push(Piece {
+        for scope in 0..self.points.len() {
+            let point = |state: &State| (minutes(tag), reading(state, scope, tag));
+            let (here, next) = (point(before), point(&self.plain.state));
+            self.piece(scope, before, here);
+            self.pieces.push(Piece {
                 scope,
-                current,
-                from: *point,
-                to: here,
-                kind,
-            });
-            pieces.push(Piece {
-                scope,
-                current,
+                current: self.current(scope, before),
                 from: here,
                 to: next,
                 kind: Kind::SetBack,
             });
-            *point = next;
+            self.points[scope] = next;
         }
     }
-    let seen = tracks
-        .iter()
-        .flat_map(|track| track.due.iter().map(|&due| minutes(due)))
-        .chain(turns.iter().map(|turn| turn.at));
-    let end = (seen.fold(0.0, f64::max) / GRID).floor() * GRID + GRID;
-    let now = RawTag::new((end * MINUTE) as u64, 0);
-    for (scope, &from) in points.iter().enumerate() {
-        let (active, clock) = (plain.state.active[scope], plain.state.clocks[scope]);
-        let kind = if active { Kind::Runs } else { Kind::Stands };
-        let current = current(&plain.state.modes, scope);
-        pieces.push(Piece {
+
+    /// The scope of the current mode of a scope's reactor.
+    fn current(&self, scope: usize, state: &State) -> Option<usize> {
+        state.modes[self.table.scopes[scope].reactor].map(|mode| self.table.modes[mode].scope)
+    }
+
+    /// A scope's clock from its last point on.
+    fn piece(&mut self, scope: usize, state: &State, to: (f64, f64)) {
+        let kind = match state.active[scope] {
+            true => Kind::Runs,
+            false => Kind::Stands,
+        };
+        self.pieces.push(Piece {
             scope,
-            current,
-            from,
-            to: (end, reading(active, clock, now)),
+            current: self.current(scope, state),
+            from: self.points[scope],
+            to,
             kind,
         });
     }
-    let scopes: Vec<usize> = (0..table.scopes.len())
-        .filter(|&scope| tracks.iter().any(|track| track.scope == scope))
-        .collect();
-    let drawn = |piece: &&Piece| scopes.contains(&piece.scope);
-    let top = pieces
-        .iter()
-        .filter(drawn)
-        .map(|piece| piece.to.1)
-        .fold(0.0, f64::max);
-    Run {
-        title: text::about(text)
-            .first()
-            .map_or(String::new(), |line| escaped(line)),
-        actions: names(text, "action", table.actions.len()),
-        last: (end, (top / GRID).floor() * GRID + GRID),
-        names: scope_names,
-        scopes,
-        tracks,
-        pieces,
-        turns,
+
+    fn finish(mut self, text: &str) -> Run {
+        let due = self.tracks.iter().flat_map(|track| &track.due);
+        let seen = due.map(|&due| minutes(due));
+        let seen = seen.chain(self.turns.iter().map(|turn| turn.at));
+        let end = next_line(seen.fold(0.0, f64::max));
+        let now = RawTag::new((end * MINUTE) as u64, 0);
+        let last = self.plain.state.clone();
+        for scope in 0..self.points.len() {
+            self.piece(scope, &last, (end, reading(&last, scope, now)));
+        }
+        let mut scopes: Vec<usize> = (0..self.table.scopes.len()).collect();
+        scopes.retain(|&scope| self.tracks.iter().any(|track| track.scope == scope));
+        let drawn = self.pieces.iter();
+        let drawn = drawn.filter(|piece| scopes.contains(&piece.scope));
+        let top = drawn.map(|piece| piece.to.1).fold(0.0, f64::max);
+        Run {
+            title: text::about(text)
+                .first()
+                .map_or(String::new(), |line| escaped(line)),
+            actions: names(text, "action", self.table.actions.len()),
+            last: (end, next_line(top)),
+            names: self.names,
+            scopes,
+            tracks: self.tracks,
+            pieces: self.pieces,
+            turns: self.turns,
+        }
     }
+}
+
+/// The grid's next line after a minute.
+fn next_line(minute: f64) -> f64 {
+    (minute / GRID).floor() * GRID + GRID
 }
 
 /// Writes a line of the picture; writing to a string cannot fail.
@@ -420,49 +441,8 @@ fn drawn(run: &Run) -> String {
 /// Where the first drawn scope stands still, the lines at every ten minutes, the axes and the transitions.
 fn grid(out: &mut String, run: &Run) {
     let (top, bottom) = (y(run, run.last.1), y(run, 0.0));
-    if let Some(first) = run.scopes.first() {
-        for piece in &run.pieces {
-            let width = x(run, piece.to.0) - x(run, piece.from.0);
-            if piece.scope == *first && piece.kind == Kind::Stands && width > 0.0 {
-                put!(out, "<rect x=\"{:.1}\" y=\"{top:.1}\" width=\"{width:.1}\" height=\"{:.1}\" fill=\"#eeeeee\"/>", x(run, piece.from.0), bottom - top);
-                let name = piece
-                    .current
-                    .map_or("off", |scope| run.names[scope].as_str());
-                label(
-                    out,
-                    (x(run, piece.from.0) + width / 2.0, top + 18.0),
-                    "text-anchor=\"middle\" fill=\"#666666\"",
-                    name,
-                );
-            }
-        }
-    }
-    let thin = "stroke=\"#dddddd\"";
-    for step in 0..=(run.last.0 / GRID) as usize {
-        let minute = step as f64 * GRID;
-        line(out, (x(run, minute), top), (x(run, minute), bottom), thin);
-        put!(
-            out,
-            "<text x=\"{:.1}\" y=\"{:.1}\" text-anchor=\"middle\">{minute}</text>",
-            x(run, minute),
-            bottom + 17.0
-        );
-    }
-    for step in 0..=(run.last.1 / GRID) as usize {
-        let minute = step as f64 * GRID;
-        line(
-            out,
-            (x(run, 0.0), y(run, minute)),
-            (x(run, run.last.0), y(run, minute)),
-            thin,
-        );
-        put!(
-            out,
-            "<text x=\"{:.1}\" y=\"{:.1}\" text-anchor=\"end\">{minute}</text>",
-            MARGINS.0 - 8.0,
-            y(run, minute) + 4.0
-        );
-    }
+    standing(out, run, top, bottom);
+    grid_lines(out, run, top, bottom);
     let axis = format!("stroke=\"{INK}\"");
     line(
         out,
@@ -490,6 +470,56 @@ fn grid(out: &mut String, run: &Run) {
     }
 }
 
+/// Where the first drawn scope stands still.
+fn standing(out: &mut String, run: &Run, top: f64, bottom: f64) {
+    let first = run.scopes.first();
+    for piece in &run.pieces {
+        let width = x(run, piece.to.0) - x(run, piece.from.0);
+        if Some(&piece.scope) == first && piece.kind == Kind::Stands && width > 0.0 {
+            put!(out, "<rect x=\"{:.1}\" y=\"{top:.1}\" width=\"{width:.1}\" height=\"{:.1}\" fill=\"#eeeeee\"/>", x(run, piece.from.0), bottom - top);
+            let name = piece
+                .current
+                .map_or("off", |scope| run.names[scope].as_str());
+            label(
+                out,
+                (x(run, piece.from.0) + width / 2.0, top + 18.0),
+                "text-anchor=\"middle\" fill=\"#666666\"",
+                name,
+            );
+        }
+    }
+}
+
+/// The lines at every ten minutes, with their minutes.
+fn grid_lines(out: &mut String, run: &Run, top: f64, bottom: f64) {
+    let thin = "stroke=\"#dddddd\"";
+    for step in 0..=(run.last.0 / GRID) as usize {
+        let minute = step as f64 * GRID;
+        line(out, (x(run, minute), top), (x(run, minute), bottom), thin);
+        put!(
+            out,
+            "<text x=\"{:.1}\" y=\"{:.1}\" text-anchor=\"middle\">{minute}</text>",
+            x(run, minute),
+            bottom + 17.0
+        );
+    }
+    for step in 0..=(run.last.1 / GRID) as usize {
+        let minute = step as f64 * GRID;
+        line(
+            out,
+            (x(run, 0.0), y(run, minute)),
+            (x(run, run.last.0), y(run, minute)),
+            thin,
+        );
+        put!(
+            out,
+            "<text x=\"{:.1}\" y=\"{:.1}\" text-anchor=\"end\">{minute}</text>",
+            MARGINS.0 - 8.0,
+            y(run, minute) + 4.0
+        );
+    }
+}
+
 /// An event's way: it stays at its local time while its global time moves.
 fn event(out: &mut String, run: &Run, track: &Track) {
     let colour = run
@@ -499,9 +529,6 @@ fn event(out: &mut String, run: &Run, track: &Track) {
         .map_or(INK, |at| COLOURS[at % COLOURS.len()]);
     let height = y(run, minutes(track.local));
     let place = |tag: RawTag| (x(run, minutes(tag)), height);
-    let name = track
-        .action
-        .map_or("event", |action| run.actions[action].as_str());
     let way = format!("stroke=\"{colour}\" stroke-width=\"1.2\"");
     let last = match track.end {
         End::Ready(tag) | End::Dropped(tag) => Some(tag),
@@ -511,49 +538,44 @@ fn event(out: &mut String, run: &Run, track: &Track) {
         return;
     };
     line(out, place(first), place(last), &way);
-    let end = place(last);
     for &due in track.due.iter().filter(|&&due| due != last) {
         asked(out, place(due), colour);
     }
+    ending(out, run, track, place(last), colour);
+}
+
+/// What became of an event, at the end of its way.
+fn ending(out: &mut String, run: &Run, track: &Track, end: (f64, f64), colour: &str) {
+    let name = track
+        .action
+        .map_or("event", |action| run.actions[action].as_str());
     // Below the clock's line; above it where the picture ends.
     let (beside, side) = match end.0 > SIZE.0 - 110.0 {
         true => ((end.0 - 9.0, end.1 - 7.0), "end"),
         false => ((end.0 + 9.0, end.1 + 16.0), "start"),
     };
     let plain = format!("text-anchor=\"{side}\" fill=\"{colour}\"");
-    let alarm = format!("text-anchor=\"{side}\" fill=\"{ALARM}\"");
     match (&track.end, track.would) {
         (End::Ready(tag), Some(would)) => {
             let foot = (end.0 + 50.0, y(run, 0.0) - 21.0);
-            line(
-                out,
-                end,
-                (foot.0 - 4.0, foot.1 - 4.0),
-                &format!("stroke=\"{ALARM}\" stroke-width=\"0.8\""),
-            );
-            asked(out, (x(run, would), height), ALARM);
+            let thin = format!("stroke=\"{ALARM}\" stroke-width=\"0.8\"");
+            let alarm = format!("text-anchor=\"{side}\" fill=\"{ALARM}\"");
+            let below = format!("held back to {}", words(*tag));
+            line(out, end, (foot.0 - 4.0, foot.1 - 4.0), &thin);
+            asked(out, (x(run, would), end.1), ALARM);
             held(out, end);
             label(out, foot, &alarm, &format!("{name}: would be {would} min,"));
-            label(
-                out,
-                (foot.0, foot.1 + 14.0),
-                &alarm,
-                &format!("held back to {}", words(*tag)),
-            );
+            label(out, (foot.0, foot.1 + 14.0), &alarm, &below);
         }
         (End::Ready(tag), None) => {
             handed(out, end, colour);
             label(out, beside, &plain, &format!("{name} {}", words(*tag)));
         }
         (End::Dropped(_), _) => {
+            let (before, style) = ((end.0 - 9.0, end.1 - 8.0), "text-anchor=\"end\"");
+            let style = format!("{style} fill=\"{ALARM}\"");
             cross(out, end);
-            let before = format!("text-anchor=\"end\" fill=\"{ALARM}\"");
-            label(
-                out,
-                (end.0 - 9.0, end.1 - 8.0),
-                &before,
-                &format!("{name} dropped"),
-            );
+            label(out, before, &style, &format!("{name} dropped"));
         }
         (End::Waits, _) => {
             asked(out, end, colour);

@@ -5,11 +5,8 @@
 use std::cmp::Reverse;
 
 use crate::answers::{call_line, pop_line, Ready};
-use crate::image::{self, RawTag, Table, MAX_MICROSTEP, MAX_OFFSET};
+use crate::image::{self, RawTag, Table, MAX_MICROSTEP, MAX_OFFSET, MOST};
 use crate::records::{split, Op};
-
-/// Most events, values and buckets.
-const MOST: usize = 256;
 
 /// Numbers of refusal.
 pub const KEY: u8 = 5;
@@ -56,7 +53,7 @@ impl Clock {
     }
 
     /// Offset and microstep of a tag carried from one base to the other; not yet held against the limits.
-    fn carried(tag: RawTag, from: RawTag, to: RawTag) -> (i128, i128) {
+    pub fn carried(tag: RawTag, from: RawTag, to: RawTag) -> (i128, i128) {
         let offset = i128::from(to.offset) + (i128::from(tag.offset) - i128::from(from.offset));
         let microstep = if tag.offset == from.offset && tag.microstep >= from.microstep {
             i128::from(to.microstep) + (i128::from(tag.microstep) - i128::from(from.microstep))
@@ -247,6 +244,7 @@ pub struct State {
     pub store: Store,
 }
 
+#[derive(Clone)]
 pub struct Plain<'t> {
     table: &'t Table,
     pub state: State,
@@ -364,18 +362,16 @@ impl<'t> Plain<'t> {
         terminal: bool,
         reactions: Vec<usize>,
     ) -> Answer<()> {
-        let row = &self.table.actions[action];
         let mut event = Event {
+            scope: self.table.queue_of(action),
             terminal,
             action: Some((action, tag)),
             ..Event::plain(tag, reactions)
         };
-        let has_parent = self.table.scopes[row.scope].parent.is_some();
-        if self.table.is_modal() && row.logical && has_parent {
-            let clock = self.state.clocks[row.scope];
-            event.scope = Some(row.scope);
+        if let Some(scope) = event.scope {
+            let clock = self.state.clocks[scope];
             event.tag = clock.to_local(tag)?;
-            if self.state.active[row.scope] {
+            if self.state.active[scope] {
                 clock.to_global(event.tag)?;
             }
         }

@@ -1,13 +1,9 @@
 //! The records of a day: parse, and the text form of tools/daytext.
 
-use std::fmt::Write;
+use std::fmt::{self, Display, Formatter, Write};
 
-use crate::image::{number, RawTag, Table};
-
-/// Most bytes after a record's length.
-const LONGEST: usize = 512;
-/// Most reactions a record names.
-const MOST_REACTIONS: usize = 128;
+use crate::answers::joined;
+use crate::image::{number, with_length, RawTag, Table, LONGEST, MOST_REACTIONS};
 
 /// What a record asks for. Keys and tags are as the bytes give them.
 #[derive(Debug, Clone, PartialEq, Eq)]
@@ -164,6 +160,54 @@ fn parse(body: &[u8]) -> Option<Op> {
 }
 
 impl Op {
+    /// Version, op and operands, as they stand after a record's length; nothing for one that is malformed.
+    pub fn body(&self) -> Vec<u8> {
+        let keys = |reactions: &[u16]| {
+            let count = reactions.len() as u16;
+            let keys = [count].into_iter().chain(reactions.iter().copied());
+            keys.flat_map(u16::to_be_bytes).collect::<Vec<u8>>()
+        };
+        let (op, operands) = match self {
+            Op::Plain {
+                tag,
+                terminal,
+                reactions,
+            } => {
+                let flag = vec![u8::from(*terminal)];
+                (1, [tag.bytes(), flag, keys(reactions)].concat())
+            }
+            Op::Network { tag, reactions } => (2, [tag.bytes(), keys(reactions)].concat()),
+            Op::Control { tag } => (3, tag.bytes()),
+            Op::Action {
+                action,
+                tag,
+                terminal,
+                reactions,
+            } => {
+                let (key, flag) = (action.to_be_bytes().to_vec(), vec![u8::from(*terminal)]);
+                (4, [key, tag.bytes(), flag, keys(reactions)].concat())
+            }
+            Op::Transition {
+                reactor,
+                mode,
+                reset,
+                tag,
+            } => {
+                let target = [reactor.to_be_bytes(), mode.to_be_bytes()].concat();
+                let flag = vec![u8::from(!reset)];
+                (5, [target, flag, tag.bytes()].concat())
+            }
+            Op::Pop => (6, Vec::new()),
+            Op::Malformed | Op::Broken => return Vec::new(),
+        };
+        [&[1, op], &operands[..]].concat()
+    }
+
+    /// The record as it stands in a day.
+    pub fn bytes(&self) -> Vec<u8> {
+        with_length(&self.body())
+    }
+
     /// Whether a record is one at all.
     pub fn is_formed(&self) -> bool {
         !matches!(self, Op::Malformed | Op::Broken)
@@ -216,69 +260,62 @@ impl Op {
 /// Bytes of a raw record that are worth showing.
 const SHOWN: usize = 64;
 
-impl std::fmt::Display for Record<'_> {
-    fn fmt(&self, f: &mut std::fmt::Formatter<'_>) -> std::fmt::Result {
-        let keys = |reactions: &[u16]| crate::answers::joined(reactions);
-        match &self.op {
+impl Display for Record<'_> {
+    fn fmt(&self, f: &mut Formatter<'_>) -> fmt::Result {
+        if self.op.is_formed() {
+            return self.op.fmt(f);
+        }
+        let mut hex = String::new();
+        for byte in self.bytes.iter().take(SHOWN) {
+            write!(hex, "{byte:02x}")?;
+        }
+        if self.bytes.len() > SHOWN {
+            hex.push_str("..");
+        }
+        write!(f, "raw {hex}")
+    }
+}
+
+impl Display for RawTag {
+    fn fmt(&self, f: &mut Formatter<'_>) -> fmt::Result {
+        write!(f, "{} {}", self.offset, self.microstep)
+    }
+}
+
+/// The text of a record; "raw" for a malformed one, whose bytes follow.
+impl Display for Op {
+    fn fmt(&self, f: &mut Formatter<'_>) -> fmt::Result {
+        match self {
             Op::Plain {
                 tag,
                 terminal,
                 reactions,
-            } => write!(
-                f,
-                "plain {} {} {} {}",
-                tag.offset,
-                tag.microstep,
-                u8::from(*terminal),
-                keys(reactions)
-            ),
-            Op::Network { tag, reactions } => write!(
-                f,
-                "network {} {} {}",
-                tag.offset,
-                tag.microstep,
-                keys(reactions)
-            ),
-            Op::Control { tag } => write!(f, "control {} {}", tag.offset, tag.microstep),
+            } => {
+                let flag = u8::from(*terminal);
+                write!(f, "plain {tag} {flag} {}", joined(reactions))
+            }
+            Op::Network { tag, reactions } => write!(f, "network {tag} {}", joined(reactions)),
+            Op::Control { tag } => write!(f, "control {tag}"),
             Op::Action {
                 action,
                 tag,
                 terminal,
                 reactions,
-            } => write!(
-                f,
-                "act {} {} {} {} {}",
-                action,
-                tag.offset,
-                tag.microstep,
-                u8::from(*terminal),
-                keys(reactions)
-            ),
+            } => {
+                let flag = u8::from(*terminal);
+                write!(f, "act {action} {tag} {flag} {}", joined(reactions))
+            }
             Op::Transition {
                 reactor,
                 mode,
                 reset,
                 tag,
-            } => write!(
-                f,
-                "transition {} {} {} {} {}",
-                reactor,
-                mode,
-                if *reset { "reset" } else { "history" },
-                tag.offset,
-                tag.microstep
-            ),
-            Op::Pop => f.write_str("pop"),
-            Op::Malformed | Op::Broken => {
-                let mut hex = String::new();
-                for byte in self.bytes.iter().take(SHOWN) {
-                    write!(hex, "{byte:02x}")?;
-                }
-                if self.bytes.len() > SHOWN {
-                    hex.push_str("..");
-                }
-                write!(f, "raw {hex}")
+            } => {
+                let kind = if *reset { "reset" } else { "history" };
+                write!(f, "transition {reactor} {mode} {kind} {tag}")
             }
+            Op::Pop => f.write_str("pop"),
+            Op::Malformed | Op::Broken => f.write_str("raw"),
         }
     }
 }

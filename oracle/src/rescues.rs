@@ -15,8 +15,8 @@ use std::time::{Duration, SystemTime, UNIX_EPOCH};
 use crate::answers::lines;
 use crate::beside::{child, child_in_pieces, Runner, LIMIT, SHORT_LIMIT};
 use crate::compare::NO_LINE;
-use crate::days::{to_rescue, Case, Damaged};
-use crate::image::Refused;
+use crate::days::{to_rescue, Case, Damaged, KEYS_PAST_LONGEST};
+use crate::image::{Refused, LONGEST, MOST_REACTIONS};
 use crate::rescue::{rescue, Rescue, Run};
 use crate::several::several;
 use crate::shrink::shown;
@@ -207,7 +207,11 @@ impl Folder {
     /// A rescuer that cannot write says so.
     fn unwritten(&self, words: &[&str]) -> Result<(), String> {
         let day = assemble("scope - 0 -; reactor 0 -; pop; raw 00")?;
-        for (others, due) in [(">/dev/full", "unwritten\n"), ("2>/dev/full", "untold\n"), ("</", "unread\n")] {
+        for (others, due) in [
+            (">/dev/full", "unwritten\n"),
+            ("2>/dev/full", "untold\n"),
+            ("</", "unread\n"),
+        ] {
             let told = self.child(words, (&day, usize::MAX), others, LIMIT)?.told;
             if told != due.as_bytes() {
                 let told = String::from_utf8_lossy(&told);
@@ -249,6 +253,8 @@ pub fn rescues(
 /// Whether a day and what it comes to show something.
 type Shows = fn(&[u8], &Result<Rescue, Refused>) -> bool;
 
+/// Bytes of a record's length.
+const LENGTH: usize = 4;
 /// What must be shown where there are so many days or more.
 const MANY: usize = 3000;
 const CLASSES: [(&str, Shows); 17] = [
@@ -276,23 +282,24 @@ const CLASSES: [(&str, Shows); 17] = [
         run_is(came, |_, length| length == 1)
     }),
     ("longer than any record", |_, came| {
-        run_is(came, |_, length| length > 516)
+        run_is(came, |_, length| length > LENGTH + LONGEST)
     }),
     ("than a buffer", |_, came| {
         run_is(came, |_, length| length > 65_536)
     }),
     ("with a plain record of 513 bytes", |day, came| {
         run_is(came, |place, length| {
-            let mut there = day[place..place + length].windows(517);
-            there
-                .any(|record| record.starts_with(&[0, 0, 2, 1, 1, 1]) && record[19..21] == [0, 248])
+            let mut there = day[place..place + length].windows(LENGTH + LONGEST + 1);
+            let keys = (KEYS_PAST_LONGEST as u16).to_be_bytes();
+            there.any(|record| record.starts_with(&[0, 0, 2, 1, 1, 1]) && record[19..21] == keys)
         })
     }),
     ("a record of 128 keys kept", |_, came| {
+        let count = MOST_REACTIONS as u8;
         let keys = |kept: &Rescue| {
             kept.output
                 .windows(6)
-                .any(|some| some == [0, 128, 0, 1, 0, 1])
+                .any(|some| some == [0, count, 0, 1, 0, 1])
         };
         came.as_ref().is_ok_and(keys)
     }),

@@ -67,74 +67,70 @@ pub struct TableSchedule {
     modal: bool,
 }
 
+/// Reactions of some rows with their levels.
+fn leveled(table: &Table, keys: impl Iterator<Item = usize>) -> Vec<(Level, ReactionKey)> {
+    let level = |key: usize| Level(usize::from(table.levels[key]));
+    keys.map(|key| (level(key), ReactionKey::from(key)))
+        .collect()
+}
+
+impl ScopeRows {
+    fn new(table: &Table, scope: usize) -> Self {
+        let row = &table.scopes[scope];
+        let inside = |other: usize| table.in_subtree(other, scope);
+        let own = table.startups.iter().filter(|row| row.scope == scope);
+        let startups = own.clone().map(|row| ActionKey::from(row.action));
+        let timers = table.timers.iter();
+        let timers = timers.filter(|row| inside(table.actions[row.action].scope));
+        let resets = table.resets.iter().filter(|row| inside(row.0));
+        let logical = |&action: &usize| {
+            let row = &table.actions[action];
+            row.logical && inside(row.scope)
+        };
+        Self {
+            parent: row.parent.map(ScopeKey::from),
+            mode: row.mode.map(ModeKey::from),
+            reactor: ReactorKey::from(row.reactor),
+            descendants: (0..table.scopes.len())
+                .filter(|&other| inside(other))
+                .map(ScopeKey::from)
+                .collect(),
+            logical_actions: (0..table.actions.len())
+                .filter(logical)
+                .map(ActionKey::from)
+                .collect(),
+            startups: startups
+                .zip(leveled(table, own.map(|row| row.reaction)))
+                .collect(),
+            timers: timers
+                .map(|row| (ActionKey::from(row.action), rust_tag(row.tag)))
+                .collect(),
+            resets: leveled(table, resets.map(|row| row.1)),
+        }
+    }
+}
+
+impl ActionRows {
+    fn new(table: &Table, action: usize) -> Self {
+        let row = &table.actions[action];
+        let triggers = table.triggers.iter().filter(|row| row.0 == action);
+        Self {
+            scope: ScopeKey::from(row.scope),
+            logical: row.logical,
+            triggers: leveled(table, triggers.map(|row| row.1)),
+        }
+    }
+}
+
 impl TableSchedule {
     pub fn new(table: &Table) -> Self {
-        let levels: Vec<Level> = table
-            .levels
-            .iter()
-            .map(|&level| Level(usize::from(level)))
-            .collect();
-        let leveled = |reaction: usize| (levels[reaction], ReactionKey::from(reaction));
-        let scopes = (0..table.scopes.len())
-            .map(|scope| {
-                let inside = |other: usize| table.in_subtree(other, scope);
-                ScopeRows {
-                    parent: table.scopes[scope].parent.map(ScopeKey::from),
-                    mode: table.scopes[scope].mode.map(ModeKey::from),
-                    reactor: ReactorKey::from(table.scopes[scope].reactor),
-                    descendants: (0..table.scopes.len())
-                        .filter(|&other| inside(other))
-                        .map(ScopeKey::from)
-                        .collect(),
-                    logical_actions: (0..table.actions.len())
-                        .filter(|&action| {
-                            table.actions[action].logical && inside(table.actions[action].scope)
-                        })
-                        .map(ActionKey::from)
-                        .collect(),
-                    startups: table
-                        .startups
-                        .iter()
-                        .filter(|row| row.scope == scope)
-                        .map(|row| (ActionKey::from(row.action), leveled(row.reaction)))
-                        .collect(),
-                    timers: table
-                        .timers
-                        .iter()
-                        .filter(|row| inside(table.actions[row.action].scope))
-                        .map(|row| (ActionKey::from(row.action), rust_tag(row.tag)))
-                        .collect(),
-                    resets: table
-                        .resets
-                        .iter()
-                        .filter(|row| inside(row.0))
-                        .map(|row| leveled(row.1))
-                        .collect(),
-                }
-            })
-            .collect();
-        let actions = table
-            .actions
-            .iter()
-            .enumerate()
-            .map(|(action, row)| ActionRows {
-                scope: ScopeKey::from(row.scope),
-                logical: row.logical,
-                triggers: table
-                    .triggers
-                    .iter()
-                    .filter(|trigger| trigger.0 == action)
-                    .map(|trigger| leveled(trigger.1))
-                    .collect(),
-            })
-            .collect();
+        let scopes = 0..table.scopes.len();
+        let reactors = table.reactors.iter().enumerate();
+        let levels = table.levels.iter();
         Self {
-            scope_keys: (0..table.scopes.len()).map(ScopeKey::from).collect(),
-            scopes,
-            root_scopes: table
-                .reactors
-                .iter()
-                .enumerate()
+            scope_keys: scopes.clone().map(ScopeKey::from).collect(),
+            scopes: scopes.map(|scope| ScopeRows::new(table, scope)).collect(),
+            root_scopes: reactors
                 .map(|(reactor, row)| (ReactorKey::from(reactor), ScopeKey::from(row.root)))
                 .collect(),
             initial_modes: table
@@ -147,8 +143,10 @@ impl TableSchedule {
                 .iter()
                 .map(|row| ScopeKey::from(row.scope))
                 .collect(),
-            actions,
-            levels,
+            actions: (0..table.actions.len())
+                .map(|action| ActionRows::new(table, action))
+                .collect(),
+            levels: levels.map(|&level| Level(usize::from(level))).collect(),
             modal: table.is_modal(),
         }
     }

@@ -8,7 +8,9 @@
 use std::collections::BTreeMap;
 use std::path::{Path, PathBuf};
 
+use crate::answers::joined;
 use crate::compare::{compare, Outcome};
+use crate::image::{ACTION, KINDS, MAX_LEVEL, REACTION};
 use crate::judge::judge;
 use crate::{deep, plain};
 
@@ -154,7 +156,7 @@ const ALL_KINDS: &[&str] = &[
 ];
 
 /// The wrong lines that a right line can be turned into, with their kinds.
-fn wrong_lines(line: &str) -> Vec<(&'static str, String)> {
+fn wrong_lines(line: &str) -> Vec<Wrong> {
     if line == "ok" {
         let mut wrong: Vec<_> = REFUSALS
             .iter()
@@ -182,135 +184,178 @@ fn wrong_lines(line: &str) -> Vec<(&'static str, String)> {
     wrong_ready(line)
 }
 
-fn wrong_ready(line: &str) -> Vec<(&'static str, String)> {
+/// A wrong line, and its kind.
+type Wrong = (&'static str, String);
+
+fn plus_one(word: &str) -> String {
+    (word.parse::<u128>().unwrap_or(0) + 1).to_string()
+}
+
+/// The words of a ready line with another in one place.
+fn with_word(words: &[&str], at: usize, word: &str) -> String {
+    let mut words = words.to_vec();
+    words[at] = word;
+    words.join(" ")
+}
+
+/// The same with another list.
+fn with_list(words: &[&str], at: usize, items: &[String]) -> String {
+    with_word(words, at, &joined(items))
+}
+
+/// The items of a list.
+fn list(word: &str) -> Vec<String> {
+    match word {
+        "-" => Vec::new(),
+        _ => word.split(',').map(str::to_string).collect(),
+    }
+}
+
+fn wrong_ready(line: &str) -> Vec<Wrong> {
     let words: Vec<&str> = line.split(' ').collect();
     if words.len() != 13 {
         return Vec::new();
     }
-    let with = |at: usize, word: String| {
-        let mut words: Vec<String> = words.iter().map(|word| word.to_string()).collect();
-        words[at] = word;
-        words.join(" ")
-    };
-    let plus_one = |word: &str| (word.parse::<u128>().unwrap_or(0) + 1).to_string();
-    let flipped = |word: &str| if word == "0" { "1" } else { "0" }.to_string();
+    let more = |at: usize| with_word(&words, at, &plus_one(words[at]));
+    let flipped = |at: usize| with_word(&words, at, if words[at] == "0" { "1" } else { "0" });
     let mut wrong = vec![
         ("ready to nothing", "nothing".to_string()),
-        ("ready offset", with(1, plus_one(words[1]))),
-        ("ready microstep", with(2, plus_one(words[2]))),
-        ("ready terminal", with(4, flipped(words[4]))),
-        ("ready work", with(6, flipped(words[6]))),
-        ("ready network", with(8, flipped(words[8]))),
+        ("ready offset", more(1)),
+        ("ready microstep", more(2)),
+        ("ready terminal", flipped(4)),
+        ("ready work", flipped(6)),
+        ("ready network", flipped(8)),
     ];
-    let list = |word: &str| -> Vec<String> {
-        match word {
-            "-" => Vec::new(),
-            _ => word.split(',').map(str::to_string).collect(),
-        }
+    wrong.extend(wrong_reactions(&words, 10));
+    wrong.extend(wrong_actions(&words, 12));
+    wrong
+}
+
+fn wrong_reactions(words: &[&str], at: usize) -> Vec<Wrong> {
+    let reactions = list(words[at]);
+    let with = |front: &[String], last: String| {
+        let items = [front, &[last]].concat();
+        with_list(words, at, &items)
     };
-    let joined = |items: &[String]| match items {
-        [] => "-".to_string(),
-        _ => items.join(","),
-    };
-    let (reactions, actions) = (list(words[10]), list(words[12]));
-    let mut more = reactions.clone();
-    more.push("15:127".to_string());
-    wrong.push(("ready reaction added", with(10, joined(&more))));
-    if let Some((level, key)) = reactions.last().and_then(|last| last.split_once(':')) {
-        let all_but_last = &reactions[..reactions.len() - 1];
-        let changed = |last: String| {
-            let mut reactions = all_but_last.to_vec();
-            reactions.push(last);
-            with(10, joined(&reactions))
-        };
-        wrong.push((
-            "ready reaction key",
-            changed(format!("{level}:{}", plus_one(key))),
-        ));
-        wrong.push((
-            "ready reaction level",
-            changed(format!("{}:{key}", plus_one(level))),
-        ));
-        wrong.push(("ready reaction dropped", with(10, joined(all_but_last))));
-    }
-    let mut more = actions.clone();
-    more.push("64".to_string());
-    wrong.push(("ready action added", with(12, joined(&more))));
-    if let Some(first) = actions.first() {
-        let mut changed = actions.clone();
-        changed[0] = plus_one(first);
-        wrong.push(("ready action changed", with(12, joined(&changed))));
-        wrong.push(("ready action dropped", with(12, joined(&actions[1..]))));
-        let mut repeated = actions.clone();
-        repeated.push(first.clone());
-        wrong.push(("ready action repeated", with(12, joined(&repeated))));
+    let greatest = format!("{MAX_LEVEL}:{}", KINDS[REACTION].0 - 1);
+    let mut wrong = vec![("ready reaction added", with(&reactions, greatest))];
+    if let Some((last, front)) = reactions.split_last() {
+        let (level, key) = last.split_once(':').unwrap_or((last, ""));
+        let (other_key, other_level) = (plus_one(key), plus_one(level));
+        let (key, level) = (
+            format!("{level}:{other_key}"),
+            format!("{other_level}:{key}"),
+        );
+        wrong.push(("ready reaction key", with(front, key)));
+        wrong.push(("ready reaction level", with(front, level)));
+        wrong.push(("ready reaction dropped", with_list(words, at, front)));
     }
     wrong
 }
 
-/// Makes lines of a day wrong, one at a time.
-fn mutate(day: &[u8], lines: &[&str], end: Option<usize>, tally: &mut Tally) -> Result<(), String> {
-    let mut trial = |kind: &'static str, place: Place, text: String| {
-        let caught = caught(day, text.as_bytes(), place);
-        let (tried, all_caught) = tally.entry(kind).or_insert((0, 0));
+fn wrong_actions(words: &[&str], at: usize) -> Vec<Wrong> {
+    let actions = list(words[at]);
+    let with = |last: &str| {
+        let items = [&actions[..], &[last.to_string()]].concat();
+        with_list(words, at, &items)
+    };
+    let past = KINDS[ACTION].0.to_string();
+    let mut wrong = vec![("ready action added", with(&past))];
+    if let Some((first, others)) = actions.split_first() {
+        let changed = [&[plus_one(first)], others].concat();
+        let changed = with_list(words, at, &changed);
+        wrong.push(("ready action changed", changed));
+        wrong.push(("ready action dropped", with_list(words, at, others)));
+        wrong.push(("ready action repeated", with(first)));
+    }
+    wrong
+}
+
+/// A day whose lines are made wrong, one at a time.
+struct Trial<'t> {
+    day: &'t [u8],
+    lines: &'t [&'t str],
+    tally: &'t mut Tally,
+}
+
+impl Trial<'_> {
+    /// A wrong answer must be caught.
+    fn of(&mut self, kind: &'static str, place: Place, text: &str) -> Result<(), String> {
+        let caught = caught(self.day, text.as_bytes(), place);
+        let (tried, all_caught) = self.tally.entry(kind).or_insert((0, 0));
         *tried += 1;
         *all_caught += usize::from(caught);
         if caught {
-            Ok(())
-        } else {
-            let at = match place {
-                Place::Table => "the table's line".to_string(),
-                Place::Record(at) => format!("record {at}"),
-                Place::Anywhere => "some line".to_string(),
-            };
-            Err(format!("a wrong answer was not caught: {kind}, at {at}"))
+            return Ok(());
         }
-    };
-    let with = |at: usize, line: &str| {
-        let mut lines = lines.to_vec();
+        let at = match place {
+            Place::Table => "the table's line".to_string(),
+            Place::Record(at) => format!("record {at}"),
+            Place::Anywhere => "some line".to_string(),
+        };
+        Err(format!("a wrong answer was not caught: {kind}, at {at}"))
+    }
+
+    /// The lines with another in one place.
+    fn with(&self, at: usize, line: &str) -> String {
+        let mut lines = self.lines.to_vec();
         lines[at] = line;
         lines.join("\n") + "\n"
-    };
-
-    for (kind, line) in wrong_table_lines(lines[0]) {
-        trial(kind, Place::Table, with(0, &line))?;
     }
 
-    let mut candidates: BTreeMap<&'static str, Vec<(usize, String)>> = BTreeMap::new();
-    for (at, line) in lines.iter().enumerate().skip(1) {
-        let is_pop = *line == "nothing" || line.starts_with("ready ");
-        if is_pop && end.is_some_and(|end| at >= end) {
-            continue;
+    /// Wrong lines of each kind, up to so many; none for pops from the record on where the domain is left.
+    fn wrong_records(&mut self, end: Option<usize>, most: usize) -> Result<(), String> {
+        let mut candidates: BTreeMap<&'static str, Vec<(usize, String)>> = BTreeMap::new();
+        for (at, line) in self.lines.iter().enumerate().skip(1) {
+            let is_pop = *line == "nothing" || line.starts_with("ready ");
+            if is_pop && end.is_some_and(|end| at >= end) {
+                continue;
+            }
+            for (kind, wrong) in wrong_lines(line) {
+                candidates.entry(kind).or_default().push((at, wrong));
+            }
         }
-        for (kind, wrong) in wrong_lines(line) {
-            candidates.entry(kind).or_default().push((at, wrong));
+        for (kind, candidates) in &candidates {
+            for (at, wrong) in spread(candidates, most) {
+                self.of(kind, Place::Record(*at), &self.with(*at, wrong))?;
+            }
         }
+        Ok(())
     }
+
+    /// Lines dropped and lines twice.
+    fn wrong_numbers(&mut self, most: usize) -> Result<(), String> {
+        let places: Vec<usize> = (0..self.lines.len()).collect();
+        for &at in spread(&places, most) {
+            let mut dropped = self.lines.to_vec();
+            dropped.remove(at);
+            let text: String = dropped.iter().map(|line| format!("{line}\n")).collect();
+            self.of("line dropped", Place::Anywhere, &text)?;
+            let twice = [self.lines[at]; 2].join("\n");
+            self.of("line added", Place::Anywhere, &self.with(at, &twice))?;
+        }
+        Ok(())
+    }
+}
+
+/// Makes lines of a day wrong, one at a time.
+fn mutate(day: &[u8], lines: &[&str], end: Option<usize>, tally: &mut Tally) -> Result<(), String> {
     let most = if lines.len() > LONG {
         SAMPLES_LONG
     } else {
         SAMPLES
     };
-    for (kind, candidates) in &candidates {
-        for (at, wrong) in spread(candidates, most) {
-            trial(kind, Place::Record(*at), with(*at, wrong))?;
-        }
+    let mut trial = Trial { day, lines, tally };
+    for (kind, line) in wrong_table_lines(lines[0]) {
+        trial.of(kind, Place::Table, &trial.with(0, &line))?;
     }
-
-    let places: Vec<usize> = (0..lines.len()).collect();
-    for &at in spread(&places, most) {
-        let mut dropped = lines.to_vec();
-        dropped.remove(at);
-        let text = dropped.iter().map(|line| format!("{line}\n")).collect();
-        trial("line dropped", Place::Anywhere, text)?;
-        let mut added = lines.to_vec();
-        added.insert(at + 1, lines[at]);
-        trial("line added", Place::Anywhere, added.join("\n") + "\n")?;
-    }
-    trial("last newline dropped", Place::Anywhere, lines.join("\n"))
+    trial.wrong_records(end, most)?;
+    trial.wrong_numbers(most)?;
+    let text = lines.join("\n");
+    trial.of("last newline dropped", Place::Anywhere, &text)
 }
 
-fn wrong_table_lines(line: &str) -> Vec<(&'static str, String)> {
+fn wrong_table_lines(line: &str) -> Vec<Wrong> {
     let words: Vec<&str> = line.split(' ').collect();
     match words[..] {
         ["table", "refused", number, place] => {

@@ -16,7 +16,8 @@
 
 use std::fmt::Write;
 
-use crate::image::number;
+use crate::image::{number, with_length, COUNTS_AT, NONE, ROWS_AT};
+use crate::parts::Parts;
 use crate::records::{split, Op};
 
 /// Bytes a field of each kind of row, in the image's order.
@@ -44,8 +45,7 @@ const OPS: [(&str, u8, &[usize], bool); 6] = [
 
 /// The bytes of a day; an error names the line that is not understood.
 pub fn assemble(text: &str) -> Result<Vec<u8>, String> {
-    let mut counts = [0u16; 9];
-    let mut rows: [Vec<u8>; 9] = Default::default();
+    let mut parts = Parts::default();
     let (mut whole, mut records) = (None, Vec::new());
     for line in text.lines().flat_map(|line| bare(line).split(';')) {
         let words: Vec<&str> = line.split_whitespace().collect();
@@ -53,10 +53,7 @@ pub fn assemble(text: &str) -> Result<Vec<u8>, String> {
             continue;
         };
         let understood = match ROWS.iter().position(|row| row.0 == name) {
-            Some(kind) => fields(rest, ROWS[kind].1).map(|bytes| {
-                counts[kind] += 1;
-                rows[kind].extend(bytes);
-            }),
+            Some(kind) => fields(rest, ROWS[kind].1).map(|row| parts.push(kind, &row)),
             None if name == "image" => match rest {
                 [] => Some(whole = Some(Vec::new())),
                 [hex] => raw(hex).map(|bytes| whole = Some(bytes)),
@@ -66,10 +63,7 @@ pub fn assemble(text: &str) -> Result<Vec<u8>, String> {
         };
         understood.ok_or_else(|| format!("what is \"{}\"?", line.trim()))?;
     }
-    let mut body = vec![1];
-    body.extend(counts.iter().flat_map(|count| count.to_be_bytes()));
-    body.extend(rows.concat());
-    Ok([whole.unwrap_or_else(|| with_length(body)), records].concat())
+    Ok([whole.unwrap_or_else(|| parts.image()), records].concat())
 }
 
 /// The text of a day, one row or record a line; `assemble` gives the day again.
@@ -112,14 +106,12 @@ pub fn numbered_lines_of(day: &[u8]) -> Vec<String> {
 
 /// The rows of an image of version 1 that they fill exactly, right or wrong.
 fn rows_of(image: &[u8]) -> Option<Vec<String>> {
-    let counts_end = 5 + 2 * ROWS.len();
-    let fits = image.len() >= counts_end
-        && number(&image[..4]) as usize == image.len() - 4
-        && image[4] == 1;
-    let (counts, mut rest) = image.split_at(if fits { counts_end } else { return None });
+    let fits =
+        image.len() >= ROWS_AT && number(&image[..4]) as usize == image.len() - 4 && image[4] == 1;
+    let (counts, mut rest) = image.split_at(if fits { ROWS_AT } else { return None });
     let mut lines = Vec::new();
     for (kind, &(name, widths)) in ROWS.iter().enumerate() {
-        for _ in 0..number(&counts[5 + 2 * kind..7 + 2 * kind]) {
+        for _ in 0..number(&counts[COUNTS_AT + 2 * kind..][..2]) {
             let mut line = name.to_string();
             for &width in widths {
                 let (field, after) = rest.split_at(if width <= rest.len() {
@@ -129,7 +121,7 @@ fn rows_of(image: &[u8]) -> Option<Vec<String>> {
                 });
                 rest = after;
                 match number(field) {
-                    65535 => line.push_str(" -"),
+                    value if value == u64::from(NONE) => line.push_str(" -"),
                     value => line.push_str(&format!(" {value}")),
                 }
             }
@@ -160,10 +152,6 @@ fn bare(line: &str) -> &str {
     line.split('#').next().unwrap_or("")
 }
 
-fn with_length(body: Vec<u8>) -> Vec<u8> {
-    [(body.len() as u32).to_be_bytes().to_vec(), body].concat()
-}
-
 /// The bytes of a record, or of several.
 pub fn record(words: &[&str]) -> Option<Vec<u8>> {
     match *words {
@@ -175,9 +163,8 @@ pub fn record(words: &[&str]) -> Option<Vec<u8>> {
                 Some((&list, words)) if has_keys => (words, keys(list)?),
                 _ => (words, Vec::new()),
             };
-            Some(with_length(
-                [vec![1, op], fields(words, widths)?, list].concat(),
-            ))
+            let body = [vec![1, op], fields(words, widths)?, list].concat();
+            Some(with_length(&body))
         }
         [] => None,
     }
@@ -213,7 +200,7 @@ fn fields(words: &[&str], widths: &[usize]) -> Option<Vec<u8>> {
 
 fn field(word: &str, width: usize) -> Option<Vec<u8>> {
     let value: u64 = match word {
-        "-" => 65535,
+        "-" => u64::from(NONE),
         "reset" => 0,
         "history" => 1,
         _ => word.parse().ok()?,

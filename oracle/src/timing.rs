@@ -78,8 +78,8 @@ pub fn time(day: &[u8], repeat: usize, answers: Option<&[u8]>) -> Result<String,
     ))
 }
 
-/// Seed of the long days that are raced over.
-const RACED: u64 = 1;
+/// Seed of the long days that are raced over: their tables have 11, 19 and 11 scopes, as those of the first raced days had.
+const RACED: u64 = 170_879;
 /// Time for one of them.
 const LIMIT: Duration = Duration::from_secs(60);
 

@@ -36,7 +36,7 @@ fn paper() -> Vec<Case> {
         (false, (100, 2), (40, 9), (40, 7)),
         (false, (100, 2), (40, 9), (40, 9)),
         (false, (7, 0), (7, 0), (7, 0)),
-        (false, (100, 4_294_967_295), (0, 0), (0, 0)),
+        (false, (100, MAX_MICROSTEP), (0, 0), (0, 0)),
     ];
     let tag = |(offset, microstep)| RawTag::new(offset, microstep);
     cases
@@ -107,7 +107,7 @@ fn case(rng: &mut Rng) -> Case {
         case.tag = RawTag::new(base.offset, microstep(rng, &near));
     }
     if rng.chance(8) {
-        let beyond = rng.pick(&[1 << 62, (1 << 62) + 1, 1 << 63, u64::MAX]);
+        let beyond = rng.pick(&[MAX_OFFSET + 1, MAX_OFFSET + 2, 1 << 63, u64::MAX]);
         match rng.below(5) {
             0 => case.global.offset = beyond,
             1 => case.local.offset = beyond,

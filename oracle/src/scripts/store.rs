@@ -26,7 +26,7 @@ use std::ops::RangeInclusive;
 
 use super::{Bytes, Written};
 use crate::action::store::ActionStore;
-use crate::image::{RawTag, MAX_MICROSTEP, MAX_OFFSET};
+use crate::image::{RawTag, MAX_MICROSTEP, MAX_OFFSET, MOST};
 use crate::plain::{Store, ARGUMENT, KEY};
 use crate::rng::Rng;
 use crate::schedule::rust_tag;
@@ -287,7 +287,7 @@ fn filling(rng: &mut Rng) -> Vec<(usize, Call)> {
     let few_buckets = rng.chance(50);
     let actions = 2;
     let mut calls = Vec::new();
-    for index in 0..280u64 {
+    for index in 0..MOST as u64 + 24 {
         let tag = if few_buckets {
             RawTag::new(index % 7, (index / 7) as u32)
         } else {

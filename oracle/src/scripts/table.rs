@@ -12,12 +12,12 @@
 use std::path::Path;
 
 use super::{Bytes, Written};
-use crate::image;
+use crate::image::{self, with_length};
 use crate::make;
 use crate::rng::Rng;
 
 /// The image that a day begins with, or what there is of it.
-pub fn image_of(day: &[u8]) -> Vec<u8> {
+fn image_of(day: &[u8]) -> Vec<u8> {
     let end = match day.get(..4) {
         Some(length) => (image::number(length) as usize).saturating_add(4),
         None => day.len(),
@@ -27,16 +27,19 @@ pub fn image_of(day: &[u8]) -> Vec<u8> {
 
 /// The same with a length field that fits.
 fn fitted(mut image: Vec<u8>) -> Vec<u8> {
-    if let Some(rest) = image.len().checked_sub(4) {
-        image[..4].copy_from_slice(&(rest as u32).to_be_bytes());
+    if let Some(rest) = image.get(4..) {
+        image = with_length(rest);
     }
     image
 }
 
 fn made(rng: &mut Rng, seed: u64, index: usize) -> Vec<u8> {
     let kind = rng.pick(&["badimg", "badimg", "valid", "nested", "edge"]);
-    let day = make::make(seed.wrapping_mul(1_000_003).wrapping_add(index as u64), kind);
-    let mut image = image_of(&day.unwrap_or_default());
+    let seed = seed.wrapping_mul(1_000_003).wrapping_add(index as u64);
+    let mut image = match kind {
+        "badimg" => image_of(&make::make(seed, kind).unwrap_or_default()),
+        _ => make::image(seed, kind).unwrap_or_default(),
+    };
     match rng.below(8) {
         0 | 1 => {
             for _ in 0..1 + rng.below(2) {
@@ -81,7 +84,7 @@ pub fn write_days(folder: &Path) -> Result<Written, String> {
     let mut days: Vec<_> = std::fs::read_dir(folder)
         .map_err(fault)?
         .filter_map(|entry| entry.ok().map(|entry| entry.path()))
-        .filter(|path| path.extension().map_or(false, |end| end == "day"))
+        .filter(|path| path.extension().is_some_and(|end| end == "day"))
         .collect();
     days.sort();
     let (mut script, mut answers, mut count) = (Bytes::default(), Bytes::default(), 0);
@@ -113,7 +116,7 @@ pub fn write_days(folder: &Path) -> Result<Written, String> {
 
 pub fn write(seed: u64, count: usize) -> Result<Written, String> {
     let mut rng = Rng::new(seed);
-    let whole = image_of(&make::make(seed, "nested").unwrap_or_default());
+    let whole = make::image(seed, "nested").unwrap_or_default();
     let cuts = (0..=whole.len()).flat_map(|end| {
         let cut = whole[..end].to_vec();
         [cut.clone(), fitted(cut)]

@@ -4,18 +4,16 @@
 //! What an input shows is looked up in its bytes, by the rules of image.rs. Where one of `classes` is shown by none, or
 //! not between a quarter and a half of the inputs are refused, there are no inputs, but an error that says so.
 
-use super::table::image_of;
-use crate::image::{self, past_limits, Broken, RawRows, Refused};
-use crate::image::{COUNTS_AT, KINDS, LARGEST, ROWS_AT, RULES};
+use crate::image::{self, past_limits, with_length, Broken, RawRows, Refused, Table};
+use crate::image::{COUNTS_AT, KINDS, LARGEST, LARGEST_ACCEPTED, MODE, NONE};
+use crate::image::{REACTOR, ROWS_AT, RULES, SCOPE, SMALLEST};
 use crate::make;
+use crate::parts::Parts;
 use crate::rng::Rng;
 use crate::text::ROWS;
 
 /// Bytes of the nine counts.
 const COUNTS: usize = ROWS_AT - COUNTS_AT;
-/// Bytes of the smallest image, and of the largest that is accepted: the first scope has no parent, so 31 modes at most.
-const SMALLEST: usize = 33;
-const LARGEST_ACCEPTED: usize = LARGEST - 4;
 /// Far more bytes than any image has, and one past what two bytes count.
 const FAR: usize = 100_000;
 const TWO_BYTES: usize = 65_536;
@@ -40,8 +38,7 @@ impl Input {
 
     /// The image that these counts and rows would have, right or wrong.
     pub fn image(&self) -> Vec<u8> {
-        let follows = (1 + self.counts.len() + self.rows.len()) as u32;
-        [&follows.to_be_bytes()[..], &[1], &self.counts, &self.rows].concat()
+        with_length(&[&[1], &self.counts[..], &self.rows].concat())
     }
 }
 
@@ -94,61 +91,30 @@ const SPOILED: [&[Fault]; 20] = [
     &[Count, Fit, Room],
 ];
 
-/// The rows of a table by kind, right or wrong.
-struct Parts {
-    counts: [u16; 9],
-    rows: [Vec<u8>; 9],
+/// All of it, into no room yet.
+fn joined(parts: &Parts) -> Input {
+    Input {
+        counts: parts.counted(),
+        rows: parts.rows.concat(),
+        room: 0,
+    }
 }
 
-impl Parts {
-    fn of(image: &[u8]) -> Self {
-        let counted = &image[COUNTS_AT..ROWS_AT];
-        let starts = image::starts(counted);
-        let count = |kind| image::number(&counted[2 * kind..2 * kind + 2]) as u16;
-        Self {
-            counts: std::array::from_fn(count),
-            rows: std::array::from_fn(|kind| image[starts[kind]..starts[kind + 1]].to_vec()),
+/// A count past its limits: with its rows, or alone.
+fn spoil_count(parts: &mut Parts, rng: &mut Rng) {
+    let with_rows = rng.chance(50);
+    let kind = rng.below(11) as usize;
+    match KINDS.get(kind) {
+        Some(&(most, _)) if with_rows => parts.resize(kind, most + 1 + rng.below(3) as usize),
+        Some(&(most, _)) => {
+            let most = most as u16;
+            let more = most + 1 + rng.below(300) as u16;
+            let swapped = most.swap_bytes();
+            parts.counts[kind] = rng.pick(&[most + 1, most + 1, more, u16::MAX, swapped]);
         }
-    }
-
-    /// All of it, into no room yet.
-    fn joined(&self) -> Input {
-        let counts = self.counts.iter().flat_map(|count| count.to_be_bytes());
-        Input {
-            counts: counts.collect(),
-            rows: self.rows.concat(),
-            room: 0,
-        }
-    }
-
-    /// So many rows of a kind: the first ones, and copies of the first for those that are lacking.
-    fn resize(&mut self, kind: usize, count: usize) {
-        let width = KINDS[kind].1;
-        let rows = &mut self.rows[kind];
-        let mut first = rows.clone();
-        first.resize(width, 0);
-        rows.truncate(count * width);
-        while rows.len() < count * width {
-            rows.extend(&first);
-        }
-        self.counts[kind] = count as u16;
-    }
-
-    /// A count past its limits: with its rows, or alone.
-    fn spoil_count(&mut self, rng: &mut Rng) {
-        let with_rows = rng.chance(50);
-        let kind = rng.below(11) as usize;
-        match KINDS.get(kind) {
-            Some(&(most, _)) if with_rows => self.resize(kind, most + 1 + rng.below(3) as usize),
-            Some(&(most, _)) => {
-                let most = most as u16;
-                let more = most + 1 + rng.below(300) as u16;
-                self.counts[kind] = rng.pick(&[most + 1, most + 1, more, 65535, most.swap_bytes()]);
-            }
-            // No scope, or no reactor.
-            None if with_rows => self.resize(kind - 9, 0),
-            None => self.counts[kind - 9] = 0,
-        }
+        // No scope, or no reactor.
+        None if with_rows => parts.resize(kind - KINDS.len(), 0),
+        None => parts.counts[kind - KINDS.len()] = 0,
     }
 }
 
@@ -171,32 +137,23 @@ fn spoil_fit(rows: &mut Vec<u8>, rng: &mut Rng) {
     }
 }
 
-/// One scope, one reactor, and nothing else.
-fn smallest() -> make::Table {
-    make::Table {
-        scopes: vec![[65535, 0, 65535]],
-        reactors: vec![[0, 65535]],
-        ..make::Table::default()
-    }
-}
-
 /// An image that is accepted.
 fn accepted(rng: &mut Rng) -> Vec<u8> {
     loop {
         let seed = rng.next();
         let image = match rng.below(40) {
-            0 => make::largest(31).encode(),
-            1 => smallest().encode(),
+            0 => make::largest().image(),
+            1 => Table::smallest().image(),
             2..=9 => {
-                let mut parts = Parts::of(&make::table(seed).encode());
+                let mut parts = Parts::from(&make::table(seed));
                 let kind = rng.below(9) as usize;
                 parts.resize(kind, KINDS[kind].0);
-                parts.joined().image()
+                parts.image()
             }
-            10..=19 => make::table(seed).encode(),
+            10..=19 => make::table(seed).image(),
             _ => {
                 let kind = rng.pick(&["valid", "nested", "edge"]);
-                image_of(&make::make(seed, kind).unwrap_or_default())
+                make::image(seed, kind).unwrap_or_default()
             }
         };
         if image::check(&image).is_ok() {
@@ -212,25 +169,25 @@ const TRIES: usize = 400;
 /// its kind, and in the table's last row if that is wanted too.
 fn with_broken_rows(rng: &mut Rng, breaks: usize, wanted: (usize, usize), last: bool) -> Vec<u8> {
     // One mode too many for its scopes.
-    let mut image = make::largest(32).encode();
+    let mut image = make::too_many_modes().image();
     if rng.chance(5) {
         return image;
     }
     let table = make::table(rng.next());
     for _ in 0..TRIES {
         let mut broken = make::broken(&table, rng.next(), breaks);
-        if rng.chance(10) && broken.reactors.len() < KINDS[1].0 {
+        let (scopes, none) = (broken.len(SCOPE) as u64, u64::from(NONE));
+        if rng.chance(10) && broken.len(REACTOR) < KINDS[REACTOR].0 {
             // A reactor of no scope's: its own row answers for a root that isn't there.
-            let scopes = table.scopes.len() as u16;
-            broken.reactors.push([rng.pick(&[scopes, 65535]), 65535]);
+            broken.push_fields(REACTOR, &[rng.pick(&[scopes, none]), none]);
         }
-        if rng.chance(10) && broken.modes.len() < KINDS[2].0 {
+        if rng.chance(10) && broken.len(MODE) < KINDS[MODE].0 {
             // A mode that no scope names: likewise for a scope or a reactor.
-            let (scopes, reactors) = (table.scopes.len() as u16, broken.reactors.len() as u16);
-            let further = [[scopes, 0], [65535, 0], [0, reactors], [0, 65535]];
-            broken.modes.push(rng.pick(&further));
+            let reactors = broken.len(REACTOR) as u64;
+            let further = [[scopes, 0], [none, 0], [0, reactors], [0, none]];
+            broken.push_fields(MODE, &rng.pick(&further));
         }
-        let tried = broken.encode();
+        let tried = broken.image();
         let Some(first) = RawRows::new(&tried).broken().next() else {
             continue;
         };
@@ -263,9 +220,9 @@ fn made(rng: &mut Rng, index: usize) -> Input {
     };
     let mut parts = Parts::of(&image);
     for _ in 0..times(Count) {
-        parts.spoil_count(rng);
+        spoil_count(&mut parts, rng);
     }
-    let mut input = parts.joined();
+    let mut input = joined(&parts);
     if times(Fit) > 0 {
         spoil_fit(&mut input.rows, rng);
     }
@@ -379,53 +336,75 @@ struct Class {
     shown: Box<dyn Fn(&Seen<'_>) -> bool>,
 }
 
-/// Whether a row of several bytes has so many.
-fn is_width(bytes: i64) -> bool {
-    bytes > 1 && KINDS.iter().any(|&(_, width)| width as i64 == bytes)
+impl Class {
+    fn new(heading: &str, name: &str, shown: impl Fn(&Seen<'_>) -> bool + 'static) -> Self {
+        Self {
+            heading: heading.to_string(),
+            name: name.to_string(),
+            shown: Box::new(shown),
+        }
+    }
 }
+
+/// A name, and what must hold of an input.
+type Named = (&'static str, fn(&Seen<'_>) -> bool);
 
 /// Everything that must be shown.
 fn classes() -> Vec<Class> {
-    let mut classes = Vec::new();
-    let mut class = |heading: &str, name: &str, shown: Box<dyn Fn(&Seen<'_>) -> bool>| {
-        classes.push(Class {
-            heading: heading.to_string(),
-            name: name.to_string(),
-            shown,
-        });
-    };
-    for length in [0, 17, 19, 40] {
-        class(
+    let mut classes = lengths();
+    classes.extend(counts());
+    classes.extend(fits());
+    classes.extend(rows());
+    classes.extend(rooms());
+    classes.extend(written());
+    classes.extend(several());
+    classes
+}
+
+fn lengths() -> Vec<Class> {
+    let class = |length: usize| {
+        let shown = move |seen: &Seen<'_>| seen.input.counts.len() == length;
+        Class::new(
             "1, counts not of 18 bytes",
             &format!("{length} bytes"),
-            Box::new(move |seen| seen.input.counts.len() == length),
-        );
-    }
+            shown,
+        )
+    };
+    [0, 17, 19, 40].map(class).into()
+}
+
+fn counts() -> Vec<Class> {
     let at = |kind: usize| {
         let place = COUNTS_AT + 2 * kind;
         let name = format!("{} at {place}", ROWS[kind].0);
         let refused = Refused { number: 3, place };
         (name, move |seen: &Seen<'_>| seen.answer == Err(refused))
     };
-    for kind in 0..KINDS.len() {
+    let mut classes = Vec::new();
+    for (kind, &(most, _)) in KINDS.iter().enumerate() {
         let (name, answered) = at(kind);
-        let shown = move |seen: &Seen<'_>| answered(seen) && seen.count(kind) > KINDS[kind].0;
-        class("3, a count past its limit", &name, Box::new(shown));
+        let shown = move |seen: &Seen<'_>| answered(seen) && seen.count(kind) > most;
+        classes.push(Class::new("3, a count past its limit", &name, shown));
     }
-    for kind in [0, 1] {
+    for kind in [SCOPE, REACTOR] {
         let (name, answered) = at(kind);
         let shown = move |seen: &Seen<'_>| answered(seen) && seen.count(kind) == 0;
-        class("3, none where one is needed", &name, Box::new(shown));
+        classes.push(Class::new("3, none where one is needed", &name, shown));
     }
-    for (kind, (name, _)) in ROWS.iter().enumerate() {
-        let shown =
-            move |seen: &Seen<'_>| seen.past.is_empty() && seen.count(kind) == KINDS[kind].0;
-        class(
-            "a count at its limit, not refused for it",
-            name,
-            Box::new(shown),
-        );
+    let heading = "a count at its limit, not refused for it";
+    for (kind, &(most, _)) in KINDS.iter().enumerate() {
+        let shown = move |seen: &Seen<'_>| seen.past.is_empty() && seen.count(kind) == most;
+        classes.push(Class::new(heading, ROWS[kind].0, shown));
     }
+    classes
+}
+
+/// Whether a row of several bytes has so many.
+fn is_width(bytes: i64) -> bool {
+    bytes > 1 && KINDS.iter().any(|&(_, width)| width as i64 == bytes)
+}
+
+fn fits() -> Vec<Class> {
     type Measure = fn(i64, usize) -> bool;
     let fits: [(&str, Measure); 7] = [
         ("a byte short", |more, _| more == -1),
@@ -436,23 +415,26 @@ fn classes() -> Vec<Class> {
         ("100,000 bytes", |_, rows| rows == FAR),
         ("65,536 bytes long", |more, _| more == TWO_BYTES as i64),
     ];
-    for (name, measure) in fits {
+    let class = |(name, measure): (&str, Measure)| {
         let shown = move |seen: &Seen<'_>| {
             seen.decided_by(Fit) && measure(seen.more_rows.unwrap_or(0), seen.input.rows.len())
         };
-        class("1, rows that don't fit the counts", name, Box::new(shown));
-    }
+        Class::new("1, rows that don't fit the counts", name, shown)
+    };
+    fits.map(class).into()
+}
+
+fn rows() -> Vec<Class> {
+    let mut classes = Vec::new();
     for (kind, rules) in RULES.iter().enumerate() {
         for (rule, (name, _)) in rules.iter().enumerate() {
             let first = move |broken: &Broken| (broken.kind, broken.rule) == (kind, rule);
-            class(
-                &format!("4, a row of kind {}", ROWS[kind].0),
-                name,
-                Box::new(move |seen| seen.decided_by(Row) && first(&seen.broken[0])),
-            );
+            let heading = format!("4, a row of kind {}", ROWS[kind].0);
+            let shown = move |seen: &Seen<'_>| seen.decided_by(Row) && first(&seen.broken[0]);
+            classes.push(Class::new(&heading, name, shown));
         }
     }
-    let places: [(&str, fn(&Seen<'_>) -> bool); 3] = [
+    let places: [Named; 3] = [
         ("the first of its kind", |seen| seen.broken[0].row == 0),
         ("a later one", |seen| seen.broken[0].row > 0),
         ("the table's last", |seen| {
@@ -460,35 +442,48 @@ fn classes() -> Vec<Class> {
             place + KINDS[kind].1 == ROWS_AT + seen.input.rows.len()
         }),
     ];
-    for (name, place) in places {
+    classes.extend(places.map(|(name, place)| {
         let shown = move |seen: &Seen<'_>| seen.decided_by(Row) && place(seen);
-        class("4, which row", name, Box::new(shown));
-    }
-    let rooms: [(&str, fn(&Seen<'_>) -> bool); 3] = [
+        Class::new("4, which row", name, shown)
+    }));
+    classes
+}
+
+fn rooms() -> Vec<Class> {
+    let rooms: [Named; 3] = [
         ("of 0 bytes", |seen| seen.input.room == 0),
         ("a byte short", |seen| seen.more_room == -1),
         ("of less", |seen| seen.more_room < -1 && seen.input.room > 0),
     ];
-    for (name, room) in rooms {
+    let class = |(name, room): Named| {
         let shown = move |seen: &Seen<'_>| seen.decided_by(Room) && room(seen);
-        class("1, a buffer too short", name, Box::new(shown));
-    }
-    let written: [(&str, fn(&Seen<'_>, usize) -> bool); 6] = [
-        ("into a buffer that fits", |seen, _| seen.more_room == 0),
-        ("a byte longer", |seen, _| seen.more_room == 1),
-        ("longer", |seen, _| seen.more_room > 1),
-        ("65,536 bytes longer", |seen, _| {
+        Class::new("1, a buffer too short", name, shown)
+    };
+    rooms.map(class).into()
+}
+
+fn written() -> Vec<Class> {
+    let written: [Named; 6] = [
+        ("into a buffer that fits", |seen| seen.more_room == 0),
+        ("a byte longer", |seen| seen.more_room == 1),
+        ("longer", |seen| seen.more_room > 1),
+        ("65,536 bytes longer", |seen| {
             seen.more_room == TWO_BYTES as i64
         }),
-        ("33 bytes, the smallest", |_, length| length == SMALLEST),
-        ("3,283 bytes, the largest", |_, length| {
-            length == LARGEST_ACCEPTED
+        ("33 bytes, the smallest", |seen| seen.answer == Ok(SMALLEST)),
+        ("3,283 bytes, the largest", |seen| {
+            seen.answer == Ok(LARGEST_ACCEPTED)
         }),
     ];
-    for (name, which) in written {
-        let shown = move |seen: &Seen<'_>| seen.answer.is_ok_and(|length| which(seen, length));
-        class("written", name, Box::new(shown));
-    }
+    let class = |(name, which): Named| {
+        let shown = move |seen: &Seen<'_>| seen.answer.is_ok() && which(seen);
+        Class::new("written", name, shown)
+    };
+    written.map(class).into()
+}
+
+fn several() -> Vec<Class> {
+    let heading = "several faults, the first is answered";
     // Those of two that are both answered 1 at 0 show no order.
     let together: [(&str, &'static [Fault]); 9] = [
         ("counts' length, a count", &[Length, Count]),
@@ -504,24 +499,17 @@ fn classes() -> Vec<Class> {
             &[Count, Fit, Room],
         ),
     ];
-    for (name, faults) in together {
+    let class = |(name, faults)| {
         let shown = move |seen: &Seen<'_>| seen.faults == faults;
-        class(
-            "several faults, the first is answered",
-            name,
-            Box::new(shown),
-        );
-    }
-    class(
-        "several faults, the first is answered",
-        "two counts",
-        Box::new(|seen| seen.decided_by(Count) && seen.past.len() > 1),
-    );
-    class(
-        "several faults, the first is answered",
-        "two rows",
-        Box::new(|seen| seen.decided_by(Row) && seen.broken.len() > 1),
-    );
+        Class::new(heading, name, shown)
+    };
+    let mut classes: Vec<Class> = together.map(class).into();
+    classes.push(Class::new(heading, "two counts", |seen| {
+        seen.decided_by(Count) && seen.past.len() > 1
+    }));
+    classes.push(Class::new(heading, "two rows", |seen| {
+        seen.decided_by(Row) && seen.broken.len() > 1
+    }));
     classes
 }
 
