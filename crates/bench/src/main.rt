@@ -1,5 +1,5 @@
-// The bench program: an image and its records from standard input, the answers to standard output. Document 01, "The bench program".
-// A day of any length runs in the memory of a small one: records come and lines go through fixed buffers.
+// The bench program: document 01, "Standard input: an image, then big-endian records"; the answers go to standard output.
+// A day of any length runs in the memory of a small one: records come and lines go through fixed buffers. What is answered is gate_day's.
 ghost use mathlib.Core.Path.{_≡_};
 ghost use mathlib.Core.Bool.{true};
 ghost use Prim.Native.Nat.{_≤_};

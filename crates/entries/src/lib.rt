@@ -1,4 +1,5 @@
-// Values and buckets as rows of words in two lent arrays: document 01, "Values and level walks". Only the four functions here know the words.
+// Values and buckets as rows of words in two lent arrays: document 01, "A value is a u64 under action and tag", "A bucket remembers the next microstep".
+// Only the four functions here know the words: another width or field comes in here, and in `encodeValue`, `decodeValue` and the bucket's two of specs/.
 ghost use mathlib.Core.Path.{_≡_};
 ghost use lib.ListN.{getD, set};
 ghost use Rattle.entries.specs.Entries.{ofValue, ofBucket, blankValue, blankBucket};

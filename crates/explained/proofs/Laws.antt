@@ -10,16 +10,15 @@ use Rattle.lists.specs.Lists.{lose, lose-shorter}
 use Rattle.rows.specs.Bytes.{Image}
 use Rattle.machine.specs.State.{Event, mostWaiting}
 use Rattle.slots.specs.Slots.{Whole}
-use Rattle.unpacked.specs.Unpacked.{waits}
-use Rattle.gate_day.specs.Views.{Kept, viewOf}
-use Rattle.gate_day.specs.declared.Day.{Day}
+use Rattle.lens.specs.Holds.{Rows, waits}
+use Rattle.gate_day.specs.Views.{Kept}
 
-module _ {img : Image} {d : Day} (k : Kept img d) where
-  pub few-wait : d .counts .waiting ≤ mostWaiting
-  few-wait = waits img (viewOf img d) (k .keeps) _ _ _ _ _ _ _ (k .unpacked) .few
+module _ {img : Image} {r : Rows} (k : Kept img r) where
+  pub few-wait : r .ledger .counts .waiting ≤ mostWaiting
+  few-wait = waits img _ r (k .holds) .few
 
-  pub whole-events : Whole (d .events)
-  whole-events = k .unpacked .in-events .held .whole
+  pub whole-events : Whole (r .events)
+  whole-events = k .holds .queued .held .whole
 
 -- no more are left than there were
 pub left-few : (p : Event → Bool) (n : ℕ) (l : List Event) {k : ℕ} → n ≤ mostWaiting → k ≡ length (lose p (take n l)) → k ≤ mostWaiting

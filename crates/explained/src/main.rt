@@ -1,19 +1,22 @@
-// The facts of a gate day: an image and its records from standard input; to standard output, for each record, what it asks, what stood before,
-// the line that the bench answers, and what stands after, a fact a line, as numbers. Folder words makes words and pictures of them.
+// The facts of a gate day, made of document 01's sentences: an image and its records from standard input; to standard output, for each record, what it
+// asks, what stood before, the line that the bench answers, and what stands after, a fact a line, as numbers. Folder words makes words and pictures of
+// them. A new fact comes in here as a line with its name; what it says is computed in facts and faults.
 ghost use mathlib.Core.Path.{_≡_};
 ghost use mathlib.Core.Bool.{true};
 ghost use Prim.Native.Nat.{_<_, _≤_};
 ghost use lib.ListN.{length};
+ghost use Rattle.lists.specs.Lent.{was, is};
 ghost use Rattle.machine.specs.State.{mostWaiting};
 ghost use Rattle.records.specs.Records.{mostKeys};
 ghost use Rattle.slots.specs.Slots.{Whole};
 ghost use Rattle.table.specs.Check.{isTable};
 ghost use Rattle.rows.specs.Kinds.{largest};
+ghost use Rattle.lens.specs.Holds.{rowsOf};
 ghost use Rattle.gate_day.specs.Views.{Kept};
-use gate_day::Day;
 use heads::Head;
 use heads::HeadAt;
 use key_set::KeySet;
+use lens::Room;
 use libc::STDIN_FILENO;
 use libc::STDOUT_FILENO;
 use queue::Earliest;
@@ -296,10 +299,10 @@ fn say_scopes(desk: &mut Desk, image: &[u8], scopes: &[u64; scopes::ROOM]) {
 }
 
 // Each reactor's current mode.
-fn say_modes(desk: &mut Desk, image: &[u8], modes: &[u16; plan::MOST_REACTORS]) {
+fn say_modes(desk: &mut Desk, image: &[u8], modes: &[u16; lens::MOST_REACTORS]) {
     let total = rows::count(image, rows::REACTOR) as usize;
     let mut i: usize = 0;
-    while i < plan::MOST_REACTORS {
+    while i < lens::MOST_REACTORS {
         let mode = wide(modes[i]);
         let reactor = i;
         i += 1;
@@ -403,7 +406,7 @@ fn take(
 ) -> usize
     requires { ⌜ Whole (now events) ⌝ }
     requires { ⌜ waiting ≤ mostWaiting ⌝ }
-    ensures { λ r. ⌜ Whole (now (events .exit)) × (r ≤ mostWaiting) ⌝ }
+    ensures { λ r. ⌜ Whole (is events) × (r ≤ mostWaiting) ⌝ }
 {
     let stamp = h.stamp;
     say_place(desk, b"take", scopes, h.queue, stamp);
@@ -428,7 +431,7 @@ fn take_root(
 ) -> usize
     requires { ⌜ Whole (now events) ⌝ }
     requires { ⌜ waiting ≤ mostWaiting ⌝ }
-    ensures { λ r. ⌜ Whole (now (events .exit)) × (r ≤ mostWaiting) ⌝ }
+    ensures { λ r. ⌜ Whole (is events) × (r ≤ mostWaiting) ⌝ }
 {
     match root_head(events, waiting) {
         Head::Empty => waiting,
@@ -476,24 +479,26 @@ fn take_scopes(
 }
 
 // What a pop takes, in its own order.
-fn say_sources(desk: &mut Desk, image: &[u8], day: Day, t: GlobalTag)
-    requires { ⌜ Kept (now image) day ⌝ }
+fn say_sources(desk: &mut Desk, image: &[u8], day: Room, t: GlobalTag)
+    requires { ⌜ Kept (now image) (rowsOf day) ⌝ }
 {
     let scopes = day.scopes;
     let mut events = day.events;
-    let counts = day.counts;
+    let ledger = day.ledger;
+    let counts = ledger.counts;
     let waiting = counts.waiting;
     let left = take_root(desk, &scopes, &mut events, waiting, t);
     take_scopes(desk, image, &scopes, &mut events, left, t);
 }
 
 // What a pop finds.
-fn say_pop(desk: &mut Desk, image: &[u8], day: Day)
-    requires { ⌜ Kept (now image) day ⌝ }
+fn say_pop(desk: &mut Desk, image: &[u8], day: Room)
+    requires { ⌜ Kept (now image) (rowsOf day) ⌝ }
 {
     let scopes = day.scopes;
     let events = day.events;
-    let counts = day.counts;
+    let ledger = day.ledger;
+    let counts = ledger.counts;
     let waiting = counts.waiting;
     say_queues(desk, image, &scopes, &events, waiting);
     match peek(image, &scopes, &events, waiting) {
@@ -582,8 +587,8 @@ fn say_locals(desk: &mut Desk, image: &[u8], scopes: &[u64; scopes::ROOM], t: Gl
 }
 
 // What stands before a record that depends on it.
-fn say_before(desk: &mut Desk, image: &[u8], day: Day, parsed: Parsed)
-    requires { ⌜ Kept (now image) day ⌝ }
+fn say_before(desk: &mut Desk, image: &[u8], day: Room, parsed: Parsed)
+    requires { ⌜ Kept (now image) (rowsOf day) ⌝ }
 {
     let scopes = day.scopes;
     match parsed {
@@ -601,10 +606,11 @@ fn say_before(desk: &mut Desk, image: &[u8], day: Day, parsed: Parsed)
 }
 
 // The event that was accepted last.
-fn say_last(desk: &mut Desk, day: Day) {
+fn say_last(desk: &mut Desk, day: Room) {
     let scopes = day.scopes;
     let events = day.events;
-    let counts = day.counts;
+    let ledger = day.ledger;
+    let counts = ledger.counts;
     let waiting = counts.waiting;
     if 0 < waiting {
         let s = slots::slot_at(&events, waiting - 1);
@@ -613,13 +619,14 @@ fn say_last(desk: &mut Desk, day: Day) {
 }
 
 // Modes, scopes and the least tag of every queue.
-fn say_turned(desk: &mut Desk, image: &[u8], day: Day)
-    requires { ⌜ Kept (now image) day ⌝ }
+fn say_turned(desk: &mut Desk, image: &[u8], day: Room)
+    requires { ⌜ Kept (now image) (rowsOf day) ⌝ }
 {
-    let modes = day.modes;
     let scopes = day.scopes;
     let events = day.events;
-    let counts = day.counts;
+    let ledger = day.ledger;
+    let modes = ledger.modes;
+    let counts = ledger.counts;
     let waiting = counts.waiting;
     say_modes(desk, image, &modes);
     say_scopes(desk, image, &scopes);
@@ -627,9 +634,10 @@ fn say_turned(desk: &mut Desk, image: &[u8], day: Day)
 }
 
 // How many events wait, how many of them are ordinary, how many values and buckets are held.
-fn say_held(desk: &mut Desk, day: Day) {
-    let counts = day.counts;
-    let held = day.held;
+fn say_held(desk: &mut Desk, day: Room) {
+    let ledger = day.ledger;
+    let counts = ledger.counts;
+    let held = ledger.held;
     let words = [
         counts.waiting as u64,
         counts.work as u64,
@@ -640,8 +648,8 @@ fn say_held(desk: &mut Desk, day: Day) {
 }
 
 // What stands after a record that changes it.
-fn say_after(desk: &mut Desk, image: &[u8], day: Day, parsed: Parsed)
-    requires { ⌜ Kept (now image) day ⌝ }
+fn say_after(desk: &mut Desk, image: &[u8], day: Room, parsed: Parsed)
+    requires { ⌜ Kept (now image) (rowsOf day) ⌝ }
 {
     say_held(desk, day);
     match parsed {
@@ -675,10 +683,10 @@ fn say_end(desk: &mut Desk) {
 }
 
 // One record, its length included: what it asks, its line, and the day after it.
-fn tell(desk: &mut Desk, image: &[u8], day: Day, bytes: &[u8]) -> Day
-    requires { ⌜ Kept (now image) day ⌝ }
+fn tell(desk: &mut Desk, image: &[u8], day: Room, bytes: &[u8]) -> Room
+    requires { ⌜ Kept (now image) (rowsOf day) ⌝ }
     requires { ⌜ 4 ≤ length (now bytes) ⌝ }
-    ensures { λ r. ⌜ Kept (now (image .entry)) r ⌝ }
+    ensures { λ r. ⌜ Kept (was image) (rowsOf r) ⌝ }
 {
     begin_record(desk, bytes);
     let parsed = say_asked(desk, image, &bytes[LENGTH..]);
@@ -738,7 +746,7 @@ fn say_cut(desk: &mut Desk, said: u64, there: u64) {
 // The next record over the front of the space; how many bytes it has, or 0 where the run ends.
 fn read_record(desk: &mut Desk, space: &mut [u8]) -> usize
     requires { ⌜ 4096 ≤ length (now space) ⌝ }
-    ensures { λ r. ⌜ (r ≤ length (now (space .exit))) × (length (now (space .exit)) ≡ length (now (space .entry))) ⌝ }
+    ensures { λ r. ⌜ (r ≤ length (is space)) × (length (is space) ≡ length (was space)) ⌝ }
 {
     let got = io::read_full(STDIN_FILENO, &mut space[..LENGTH]);
     if got == 0 {
@@ -763,8 +771,8 @@ fn read_record(desk: &mut Desk, space: &mut [u8]) -> usize
 }
 
 // What stands before the first record.
-fn say_start(desk: &mut Desk, image: &[u8], day: Day)
-    requires { ⌜ Kept (now image) day ⌝ }
+fn say_start(desk: &mut Desk, image: &[u8], day: Room)
+    requires { ⌜ Kept (now image) (rowsOf day) ⌝ }
 {
     say_turned(desk, image, day);
     put(desk, b"records\n");
@@ -823,7 +831,7 @@ fn say_no_image(desk: &mut Desk, said: u64, there: u64) {
 // The image by its length, over the front of the space; how many bytes it has, or 0 where it is cut short or longer than the largest.
 fn read_image(desk: &mut Desk, space: &mut [u8]) -> usize
     requires { ⌜ largest ≤ length (now space) ⌝ }
-    ensures { λ r. ⌜ r ≤ length (now (space .exit)) ⌝ }
+    ensures { λ r. ⌜ r ≤ length (is space) ⌝ }
 {
     let got = io::read_full(STDIN_FILENO, &mut space[..LENGTH]);
     if got < LENGTH {

@@ -13,14 +13,13 @@ use Rattle.lists.specs.Tests.{same?}
 use Rattle.rows.specs.Bytes.{Image}
 use Rattle.machine.specs.State.{State, fresh}
 use Rattle.machine.specs.Machine.{rules, run}
-use Rattle.unpacked.specs.Unpacked.{state-is}
+use Rattle.lens.specs.Holds.{Rows, rowsOf, stateIn, state-is}
 use Rattle.records.specs.Records.{recordsFrom}
 use Rattle.records.proofs.DayLaws.{records-behind}
 use Rattle.gate_day.specs.Days.{Next, pending, broken, whole, Ran, bodyAt, nextAt, longest, callsOf, ranIn, ranOn, ran}
 use Rattle.gate_day.proofs.RunLaws.{state-keeps}
 use Rattle.gate_day.proofs.WholeLaws.{rest-is, over-rests, ran-state, rests-calls}
-use Rattle.gate_day.specs.Views.{Kept, Pieced, viewOf}
-use Rattle.gate_day.specs.declared.Day.{Day}
+use Rattle.gate_day.specs.Views.{Kept, Pieced}
 use Rattle.gate_day.specs.declared.Pieces.{Pieces}
 use Rattle.exports.specs.State.{afterAll}
 
@@ -100,70 +99,72 @@ pub ran-keeps : (img : Image) (bytes : List ℕ) (s : State) (room : ℕ) → ru
 unfolding ran
 ran-keeps img bytes s room k = in-keeps (length bytes) img bytes s 0 room k
 
-module _ {img : Image} {bytes : List ℕ} {d : Day} {p : Pieces} {old new : List ℕ} (k : Kept img d) (w : Pieced (ran img bytes (viewOf img d) scratch) p bytes old new) where
+module _ {img : Image} {bytes : List ℕ} {d : Rows} {p : Pieces} {old new : List ℕ} (k : Kept img d) (w : Pieced img (ran img bytes (stateIn img d) scratch) p bytes old new) where
   abbrev R : Ran
-  R = ran img bytes (viewOf img d) scratch
+  R = ran img bytes (stateIn img d) scratch
 
-  pub view-is : viewOf img (p .day) ≡ R .state
-  view-is = state-is img (R .state) (ran-keeps img bytes (viewOf img d) scratch (k .keeps)) _ _ _ _ _ _ _ (w .unpacked)
+  pub view-is : stateIn img (rowsOf (p .day)) ≡ R .state
+  view-is = state-is img (R .state) (rowsOf (p .day)) (w .holds)
 
   module _ (n : ℕ) where
     abbrev test : Bool → ℕ → State
     test e u = cond (e || eqb u 0) (R .state) (afterIn n img (drop (R .used) bytes) (R .state))
 
-    unrolled : afterIn (suc n) img bytes (viewOf img d) ≡ test (R .ended) (R .used)
+    unrolled : afterIn (suc n) img bytes (stateIn img d) ≡ test (R .ended) (R .used)
     unfolding afterIn
     unrolled = refl
 
     -- a bad length ended the run
-    pub ends : p .ended ≡ true → viewOf img (p .day) ≡ afterIn (suc n) img bytes (viewOf img d)
+    pub ends : p .ended ≡ true → stateIn img (rowsOf (p .day)) ≡ afterIn (suc n) img bytes (stateIn img d)
     ends e = view-is ∙ sym (unrolled ∙ ap (λ t. test t (R .used)) (sym (w .ended) ∙ e))
 
     -- nothing more was taken
-    pub rests : p .ended ≡ false → p .used ≡ 0 → viewOf img (p .day) ≡ afterIn (suc n) img bytes (viewOf img d)
+    pub rests : p .ended ≡ false → p .used ≡ 0 → stateIn img (rowsOf (p .day)) ≡ afterIn (suc n) img bytes (stateIn img d)
     rests e u =
-        view-is ∙ sym (unrolled ∙ (ap (λ t. test t (R .used)) (sym (w .ended) ∙ e) ∙ ap (λ b. cond b (R .state) (afterIn n img (drop (R .used) bytes) (R .state))) (eq-eqb (R .used) 0 (sym (w .used) ∙ u))))
+        view-is ∙ sym (unrolled ∙ (ap (λ t. test t (R .used)) (sym (w .ended) ∙ e) ∙
+        ap (λ b. cond b (R .state) (afterIn n img (drop (R .used) bytes) (R .state))) (eq-eqb (R .used) 0 (sym (w .used) ∙ u))))
 
     -- one piece more
-    pub goes-on : p .ended ≡ false → (p .used ≡ 0 → ⊥) → afterIn (suc n) img bytes (viewOf img d) ≡ afterIn n img (drop (p .used) bytes) (viewOf img (p .day))
+    pub goes-on : p .ended ≡ false → (p .used ≡ 0 → ⊥) → afterIn (suc n) img bytes (stateIn img d) ≡ afterIn n img (drop (p .used) bytes) (stateIn img (rowsOf (p .day)))
     goes-on e u =
         unrolled ∙ (ap (λ t. test t (R .used)) (sym (w .ended) ∙ e) ∙
         (ap (λ b. cond b (R .state) (afterIn n img (drop (R .used) bytes) (R .state))) (ne-eqb (R .used) 0 (λ z. u (w .used ∙ z))) ∙
         (ap (λ m. afterIn n img (drop m bytes) (R .state)) (sym (w .used)) ∙ ap (afterIn n img (drop (p .used) bytes)) (sym view-is))))
 
-pub after-begins : (img : Image) (records : List ℕ) (d : Day) → viewOf img d ≡ fresh img → afterAll img records ≡ afterIn (length records) img (drop 0 records) (viewOf img d)
+pub after-begins : (img : Image) (records : List ℕ) (d : Rows) → stateIn img d ≡ fresh img → afterAll img records ≡ afterIn (length records) img (drop 0 records) (stateIn img d)
 unfolding afterAll
 after-begins img records d e =
     sym (after-called (length records) img records (fresh img) (omega arith)) ∙ ap (afterIn (length records) img records) (sym e)
 
 -- ---- one turn of the loop
 
-module _ (img : Image) (records : List ℕ) (at turns : ℕ) (d : Day) (p : Pieces) (lines new : List ℕ) (k : Kept img d) (l : scratch ≡ length lines)
-    (i : afterAll img records ≡ afterIn turns img (drop at records) (viewOf img d)) (t : 0 < turns)
-    (w : Pieced (ran img (take (length records - at) (drop at records)) (viewOf img d) (length lines)) p (take (length records - at) (drop at records)) lines new) where
-  piece : Pieced (ran img (drop at records) (viewOf img d) scratch) p (drop at records) lines new
+module _ (img : Image) (records : List ℕ) (at turns : ℕ) (d : Rows) (p : Pieces) (lines new : List ℕ) (k : Kept img d) (l : scratch ≡ length lines)
+    (i : afterAll img records ≡ afterIn turns img (drop at records) (stateIn img d)) (t : 0 < turns)
+    (w : Pieced img (ran img (take (length records - at) (drop at records)) (stateIn img d) (length lines)) p (take (length records - at) (drop at records)) lines new) where
+  piece : Pieced img (ran img (drop at records) (stateIn img d) scratch) p (drop at records) lines new
   piece = rw l (rw (rest-is records at) at w)
 
   unrolls : turns ≡ suc (turns - 1)
   unrolls = omega (arith, t)
 
-  unrolled-here : afterAll img records ≡ afterIn (suc (turns - 1)) img (drop at records) (viewOf img d)
-  unrolled-here = i ∙ ap (λ n. afterIn n img (drop at records) (viewOf img d)) unrolls
+  unrolled-here : afterAll img records ≡ afterIn (suc (turns - 1)) img (drop at records) (stateIn img d)
+  unrolled-here = i ∙ ap (λ n. afterIn n img (drop at records) (stateIn img d)) unrolls
 
-  pub all-ends : p .ended ≡ true → viewOf img (p .day) ≡ afterAll img records
+  pub all-ends : p .ended ≡ true → stateIn img (rowsOf (p .day)) ≡ afterAll img records
   all-ends e = ends k piece (turns - 1) e ∙ sym unrolled-here
 
-  pub all-rests : p .ended ≡ false → p .used ≡ 0 → viewOf img (p .day) ≡ afterAll img records
+  pub all-rests : p .ended ≡ false → p .used ≡ 0 → stateIn img (rowsOf (p .day)) ≡ afterAll img records
   all-rests e u = rests k piece (turns - 1) e u ∙ sym unrolled-here
 
-  pub all-on : p .ended ≡ false → (p .used ≡ 0 → ⊥) → afterAll img records ≡ afterIn (turns - 1) img (drop (at + p .used) records) (viewOf img (p .day))
-  all-on e u = unrolled-here ∙ (goes-on k piece (turns - 1) e u ∙ ap (λ r. afterIn (turns - 1) img r (viewOf img (p .day))) (drop-drop (p .used) at records))
+  pub all-on : p .ended ≡ false → (p .used ≡ 0 → ⊥) → afterAll img records ≡ afterIn (turns - 1) img (drop (at + p .used) records) (stateIn img (rowsOf (p .day)))
+  all-on e u = unrolled-here ∙ (goes-on k piece (turns - 1) e u ∙ ap (λ r. afterIn (turns - 1) img r (stateIn img (rowsOf (p .day)))) (drop-drop (p .used) at records))
 
   pub all-inside : at ≤ length records → at + p .used ≤ length records
   all-inside h = let b = piece .inside in let e = length-drop at records in omega (arith, h, b, e)
 
-pub all-over : (img : Image) (records : List ℕ) (at turns : ℕ) (d : Day) → turns ≤ 0 → afterAll img records ≡ afterIn turns img (drop at records) (viewOf img d) → viewOf img d ≡ afterAll img records
+pub all-over : (img : Image) (records : List ℕ) (at turns : ℕ) (d : Rows) → turns ≤ 0 → afterAll img records ≡ afterIn turns img (drop at records) (stateIn img d) →
+    stateIn img d ≡ afterAll img records
 unfolding afterIn
 all-over img records at turns d t i =
     let z : turns ≡ 0 = omega (arith, t) in
-    sym (i ∙ ap (λ n. afterIn n img (drop at records) (viewOf img d)) z)
+    sym (i ∙ ap (λ n. afterIn n img (drop at records) (stateIn img d)) z)

@@ -10,8 +10,7 @@ use Rattle.table.specs.declared.Checked.the-variants.{Accepted, Refused}
 use Rattle.table.specs.declared.ImageRefusal.{ImageRefusal}
 use Rattle.puts.specs.Written.{Written}
 use Rattle.gate_day.specs.Days.{imageEnd, opened}
-use Rattle.gate_day.specs.Views.{viewOf}
-use Rattle.gate_day.specs.declared.Day.{Day}
+use Rattle.lens.specs.Holds.{Rows, stateIn}
 use Rattle.writer.specs.Writer as writer
 use Rattle.writer.specs.Writer.{wrote, writing, placeOf}
 use Rattle.writer.specs.declared.Wrote.{Wrote}
@@ -44,8 +43,8 @@ module _ (day : List ℕ) {state : List ℕ} (room : stateLength ≤ length stat
   image-refused q m = in-room stateLength state _ room (ap (λ n. told n state) m ∙ ap (λ x. stateBy x day state) (sym q ∙ e))
 
   pub all-told : c ≡ Accepted → {end : ℕ} → end ≡ imageEnd day → {records : List ℕ} → records ≡ drop end day →
-      (d : Day) → viewOf (take end day) d ≡ afterAll (take end day) records →
-      {new : List ℕ} {at : ℕ} → Written state 0 (stateBytes (take end day) (viewOf (take end day) d)) new at → told 0 new ≡ stateTold day state
+      (d : Rows) → stateIn (take end day) d ≡ afterAll (take end day) records →
+      {new : List ℕ} {at : ℕ} → Written state 0 (stateBytes (take end day) (stateIn (take end day) d)) new at → told 0 new ≡ stateTold day state
   unfolding stateTold
   all-told q {end} i {records} s d v w =
       in-room stateLength state _ room

@@ -15,7 +15,7 @@ use Rattle.slots.specs.Slots as slot
 use Rattle.scopes.specs.Scopes as scope
 use Rattle.scopes.specs.Scopes.{mostScopes}
 use Rattle.lens.specs.Padded.{padded, padded-length}
-use Rattle.lens.specs.Lens.{scopesFrom, mostReactors}
+use Rattle.lens.specs.Lens.{mostReactors}
 use Rattle.puts.proofs.NumberLaws.{number-length}
 use Rattle.exports.specs.Told.{wordBytes}
 use Rattle.exports.specs.State.{peekWords, firstWords, modesIn, stateBytes, stateLength}
@@ -45,7 +45,7 @@ peek-long (number n) = record { is = refl }
 
 first-long : (img : Image) (s : State) → Long (firstWords img s) 8
 unfolding firstWords
-first-long img s = then-long (peek-long (peekAt (peek img s))) (record { is = refl })
+first-long img s = then-long (peek-long (peekAt (peek img (s .scopes) (s .waiting)))) (record { is = refl })
 
 modes-long : (s : State) → Long (modesIn s) mostReactors
 modes-long s = record { is = padded-length 0 mostReactors (s .modes) }
@@ -58,7 +58,7 @@ unfolding stateBytes
 all-long img s =
     then-long (bytes-long (first-long img s))
     (then-long (bytes-long (modes-long s))
-    (then-long (bytes-long (rows-long scope.encode scope.scopeWords scope.encode-long scope.blank mostScopes (scopesFrom s)))
+    (then-long (bytes-long (rows-long scope.encode scope.scopeWords scope.encode-long scope.blank mostScopes (s .scopes)))
     (then-long (bytes-long (rows-long slot.encode slot.slotWords slot.encode-long slot.blank mostWaiting (s .waiting)))
     (then-long (bytes-long (rows-long encodeValue valueWords long-value blankValue mostHeld (s .store .values)))
     (bytes-long (rows-long encodeBucket bucketWords long-bucket blankBucket mostHeld (s .store .buckets)))))))

@@ -98,5 +98,6 @@ module _ (day out report : List ℕ) {head : ℕ} (g : head ≡ min reportHead (
     told-saved u v w =
         let all = written-then (written-then u v) w in
         let h : (beBytes 8 (t .written) ++ beBytes 8 (t .records)) ++ beBytes 8 (t .listed / 16) ≡ headOf t =
-        append-assoc (beBytes 8 (t .written)) (beBytes 8 (t .records)) (beBytes 8 (t .listed / 16)) ∙ ap (λ x. beBytes 8 (t .written) ++ (beBytes 8 (t .records) ++ x)) (sym (append-nil (beBytes 8 (t .listed / 16)))) in
+        append-assoc (beBytes 8 (t .written)) (beBytes 8 (t .records)) (beBytes 8 (t .listed / 16)) ∙
+        ap (λ x. beBytes 8 (t .written) ++ (beBytes 8 (t .records) ++ x)) (sym (append-nil (beBytes 8 (t .listed / 16)))) in
         ap (answered 0 after) (written-as all h .all) ∙ (ap (λ x. rescueBy x after mid) (sym e) ∙ told-by)

@@ -17,7 +17,7 @@ use Rattle.slots.specs.Slots as slot
 use Rattle.scopes.specs.Scopes as scope
 use Rattle.scopes.specs.Scopes.{mostScopes}
 use Rattle.lens.specs.Padded.{padded}
-use Rattle.lens.specs.Lens.{scopesFrom, mostReactors}
+use Rattle.lens.specs.Lens.{mostReactors}
 use Rattle.records.specs.Records.{recordsFrom}
 use Rattle.gate_day.specs.Days.{callsOf, imageIn, recordBytes, opened}
 use Rattle.exports.specs.Told.{Told, told, front, withRoom, wordBytes}
@@ -44,14 +44,14 @@ flagWord b = cond b 1 0
 -- the peek tag, control only, work, and how many events, values and buckets there are
 unfoldable pub firstWords : Image → State → List ℕ
 firstWords img s =
-    peekWords (peekAt (peek img s)) ++
-    (flagWord (controlOnly img s) ∷ s .work ∷ length (s .waiting) ∷ length (s .store .values) ∷ length (s .store .buckets) ∷ [])
+    peekWords (peekAt (peek img (s .scopes) (s .waiting))) ++
+    (flagWord (controlOnly img (s .scopes) (s .waiting)) ∷ s .work ∷ length (s .waiting) ∷ length (s .store .values) ∷ length (s .store .buckets) ∷ [])
 
 abbrev pub modesIn : State → List ℕ
 modesIn s = padded 0 mostReactors (s .modes)
 
 abbrev pub scopesIn : State → List ℕ
-scopesIn s = wordsOf scope.decode scope.encode scope.scopeWords mostScopes scope.encode-long (padded scope.blank mostScopes (scopesFrom s))
+scopesIn s = wordsOf scope.decode scope.encode scope.scopeWords mostScopes scope.encode-long (padded scope.blank mostScopes (s .scopes))
 
 abbrev pub eventsIn : State → List ℕ
 eventsIn s = wordsOf slot.decode slot.encode slot.slotWords mostWaiting slot.encode-long (padded slot.blank mostWaiting (s .waiting))

@@ -1,14 +1,17 @@
-// The proved functions for programs in C and Rust: harness/barnshiver.h says what each number and byte is.
+// The proved functions for programs in C and Rust: document 01, "Numbers and byte slices are exported to the Rust harness as C functions".
+// harness/barnshiver.h says what each number and byte is; a new function comes in here, there, and in the wrapper (harness/src).
 ghost use mathlib.Core.Path.{_≡_};
 ghost use mathlib.Core.Bool.{true};
 ghost use mathlib.Core.List.{[], _∷_};
 ghost use Prim.Native.Nat.{_+_, _≤_, min};
 ghost use lib.ListN.{length};
+ghost use Rattle.lists.specs.Lent.{was, is};
 ghost use Rattle.table.specs.Check.{isTable, check};
 ghost use Rattle.pops.specs.Pops.{replyOf};
 ghost use Rattle.puts.specs.Written.{Written};
 ghost use Rattle.gate_day.specs.Days.{fitting, dayAnswers};
-ghost use Rattle.gate_day.specs.Views.{Kept, viewOf};
+ghost use Rattle.lens.specs.Holds.{rowsOf, stateIn};
+ghost use Rattle.gate_day.specs.Views.{Kept};
 ghost use Rattle.tags.specs.Tags.{at, globalToLocal, localToGlobal};
 ghost use Rattle.tags.specs.Views.{ofClock, mappedLocal, mappedGlobal};
 ghost use Rattle.exports.specs.Told.{wordBytes, tagBytes, told};
@@ -16,7 +19,7 @@ ghost use Rattle.exports.specs.State.{peekWords, flagWord, firstWords, s
 ghost use Rattle.writer.specs.Writer.{writing};
 ghost use Rattle.rescue.specs.Rescue.{answered};
 ghost use Rattle.exports.specs.Answers.{checkNumber, checkPlace, checkTold, writeTold, reportHead, rescueBytes, clockIn, isClock, mapped, mapTold};
-use gate_day::Day;
+use lens::Room;
 use pops::Peeked;
 use refusals::Refusal;
 use rescue::Rescued;
@@ -35,7 +38,7 @@ const NO_ROOM: u8 = 255;
 // Numbers of eight bytes.
 fn put_words(bytes: &mut [u8], at: usize, words: &[u64]) -> usize
     requires { ⌜ at ≤ length (now bytes) ⌝ }
-    ensures { λ r. ⌜ Written (now (bytes .entry)) at (wordBytes (now (words .entry))) (now (bytes .exit)) r ⌝ }
+    ensures { λ r. ⌜ Written (was bytes) at (wordBytes (was words)) (is bytes) r ⌝ }
 {
     let mut end = at;
     let mut i: usize = 0;
@@ -56,7 +59,7 @@ fn wide(key: u16) -> u64
 // The same of shorter numbers.
 fn put_keys(bytes: &mut [u8], at: usize, keys: &[u16]) -> usize
     requires { ⌜ at ≤ length (now bytes) ⌝ }
-    ensures { λ r. ⌜ Written (now (bytes .entry)) at (wordBytes (now (keys .entry))) (now (bytes .exit)) r ⌝ }
+    ensures { λ r. ⌜ Written (was bytes) at (wordBytes (was keys)) (is bytes) r ⌝ }
 {
     let mut end = at;
     let mut i: usize = 0;
@@ -79,7 +82,7 @@ const FIRST_WORDS: usize = 8;
 // Bytes of a state; `stateLength` of specs/ says the same.
 const STATE_BYTES: usize = 8
     * (FIRST_WORDS
-        + plan::MOST_REACTORS
+        + lens::MOST_REACTORS
         + scopes::ROOM
         + slots::ROOM
         + entries::MOST_HELD * entries::VALUE_WORDS
@@ -94,10 +97,10 @@ fn behind(bytes: &[u8], at: usize, n: usize) -> usize
 }
 
 // The records piece by piece, their lines given up.
-fn run_all(image: &[u8], records: &[u8]) -> Day
+fn run_all(image: &[u8], records: &[u8]) -> Room
     requires { ⌜ isTable (now image) ≡ true ⌝ }
-    ensures { λ r. ⌜ Kept (now (image .entry)) r ⌝ }
-    ensures { λ r. ⌜ viewOf (now (image .entry)) r ≡ afterAll (now (image .entry)) (now (records .entry)) ⌝ }
+    ensures { λ r. ⌜ Kept (was image) (rowsOf r) ⌝ }
+    ensures { λ r. ⌜ stateIn (was image) (rowsOf r) ≡ afterAll (was image) (was records) ⌝ }
 {
     let mut day = gate_day::start(image);
     let mut lines = [0u8; SCRATCH];
@@ -150,14 +153,15 @@ fn flag_word(b: bool) -> u64
 }
 
 // The words before the arrays.
-fn first_words(image: &[u8], day: Day) -> [u64; FIRST_WORDS]
-    requires { ⌜ Kept (now image) day ⌝ }
-    ensures { λ r. ⌜ r ≡ firstWords (now (image .entry)) (viewOf (now (image .entry)) day) ⌝ }
+fn first_words(image: &[u8], day: Room) -> [u64; FIRST_WORDS]
+    requires { ⌜ Kept (now image) (rowsOf day) ⌝ }
+    ensures { λ r. ⌜ r ≡ firstWords (was image) (stateIn (was image) (rowsOf day)) ⌝ }
 {
     let scopes = day.scopes;
     let events = day.events;
-    let counts = day.counts;
-    let held = day.held;
+    let ledger = day.ledger;
+    let counts = ledger.counts;
+    let held = ledger.held;
     let peeked = pops::peek_tag(image, &scopes, &events, counts);
     let p = peek_words(peeked);
     let only = pops::peek_is_control_only(image, &scopes, &events, counts);
@@ -175,12 +179,13 @@ fn first_words(image: &[u8], day: Day) -> [u64; FIRST_WORDS]
 }
 
 // All bytes of a state, over the front.
-fn put_state(state: &mut [u8], image: &[u8], day: Day) -> usize
-    requires { ⌜ Kept (now image) day ⌝ }
-    ensures { λ r. ⌜ Written (now (state .entry)) 0 (stateBytes (now (image .entry)) (viewOf (now (image .entry)) day)) (now (state .exit)) r ⌝ }
+fn put_state(state: &mut [u8], image: &[u8], day: Room) -> usize
+    requires { ⌜ Kept (now image) (rowsOf day) ⌝ }
+    ensures { λ r. ⌜ Written (was state) 0 (stateBytes (was image) (stateIn (was image) (rowsOf day))) (is state) r ⌝ }
 {
     let first = first_words(image, day);
-    let modes = day.modes;
+    let ledger = day.ledger;
+    let modes = ledger.modes;
     let scopes = day.scopes;
     let events = day.events;
     let values = day.values;
@@ -196,7 +201,7 @@ fn put_state(state: &mut [u8], image: &[u8], day: Day) -> usize
 // The state after a day's records, over the front of the bytes: 0. Or the image's refusal, and they stay as they were.
 #[no_mangle]
 pub extern "C" fn barnshiver_state_after(day: &[u8], state: &mut [u8]) -> u8
-    ensures { λ r. ⌜ told r (now (state .exit)) ≡ stateTold (now (day .entry)) (now (state .entry)) ⌝ }
+    ensures { λ r. ⌜ told r (is state) ≡ stateTold (was day) (was state) ⌝ }
 {
     if state.len() < STATE_BYTES {
         return NO_ROOM;
@@ -218,7 +223,7 @@ pub extern "C" fn barnshiver_state_after(day: &[u8], state: &mut [u8]) -> u8
 // The lines of a day's answers over the front of the buffer, as many as there are while the longest line still has room; how many bytes they take.
 #[no_mangle]
 pub extern "C" fn barnshiver_run_day(day: &[u8], lines: &mut [u8]) -> usize
-    ensures { λ r. ⌜ Written (now (lines .entry)) 0 (fitting (length (now (lines .entry))) (dayAnswers (now (day .entry)))) (now (lines .exit)) r ⌝ }
+    ensures { λ r. ⌜ Written (was lines) 0 (fitting (length (was lines)) (dayAnswers (was day))) (is lines) r ⌝ }
 {
     gate_day::run_day(day, lines)
 }
@@ -248,7 +253,7 @@ const PLACE_BYTES: usize = 8;
 // Whether an image is a table: 0, or the refusal's number; and its place.
 #[no_mangle]
 pub extern "C" fn barnshiver_check_table(image: &[u8], place: &mut [u8]) -> u8
-    ensures { λ r. ⌜ told r (now (place .exit)) ≡ checkTold (check (now (image .entry))) (now (place .entry)) ⌝ }
+    ensures { λ r. ⌜ told r (is place) ≡ checkTold (check (was image)) (was place) ⌝ }
 {
     if place.len() < PLACE_BYTES {
         return NO_ROOM;
@@ -267,7 +272,7 @@ const HALF: u64 = 4294967296;
 // The image of counts and rows over the front of the buffer; or the refusal, and the buffer stays as it was.
 #[no_mangle]
 pub extern "C" fn barnshiver_write_table(counts: &[u8], rows: &[u8], buffer: &mut [u8]) -> u64
-    ensures { λ r. ⌜ told r (now (buffer .exit)) ≡ writeTold (writing (now (counts .entry)) (now (rows .entry)) (now (buffer .entry))) ⌝ }
+    ensures { λ r. ⌜ told r (is buffer) ≡ writeTold (writing (was counts) (was rows) (was buffer)) ⌝ }
 {
     let answer = writer::write(counts, rows, buffer);
     let number = writer::number_of(answer) as u64;
@@ -281,7 +286,7 @@ pub extern "C" fn barnshiver_write_table(counts: &[u8], rows: &[u8], buffer: &mu
 const REPORT_HEAD: usize = 24;
 
 fn report_head(report: &[u8]) -> usize
-    ensures { λ r. ⌜ r ≡ min reportHead (length (now (report .entry))) ⌝ }
+    ensures { λ r. ⌜ r ≡ min reportHead (length (was report)) ⌝ }
 {
     if report.len() < REPORT_HEAD {
         return report.len();
@@ -293,7 +298,7 @@ fn report_head(report: &[u8]) -> usize
 // the high half and its place in the low one, or 255 in the high half for too little room; and both stay as they were.
 #[no_mangle]
 pub extern "C" fn barnshiver_rescue(day: &[u8], output: &mut [u8], report: &mut [u8]) -> u64
-    ensures { λ r. ⌜ answered r (now (output .exit)) (now (report .exit)) ≡ rescueBytes (now (day .entry)) (now (output .entry)) (now (report .entry)) ⌝ }
+    ensures { λ r. ⌜ answered r (is output) (is report) ≡ rescueBytes (was day) (was output) (was report) ⌝ }
 {
     let head = report_head(report);
     match rescue::rescue(day, output, &mut report[head..]) {
@@ -321,7 +326,7 @@ const CLOCK_BYTES: usize = 37;
 const TAG_BYTES: usize = 12;
 
 fn is_clock(clock: &[u8]) -> bool
-    ensures { λ r. ⌜ r ≡ isClock (now (clock .entry)) ⌝ }
+    ensures { λ r. ⌜ r ≡ isClock (was clock) ⌝ }
 {
     if clock.len() == CLOCK_BYTES {
         return records::is_bit(clock, 24);
@@ -330,7 +335,7 @@ fn is_clock(clock: &[u8]) -> bool
 }
 
 fn clock_in(clock: &[u8]) -> ScopeClock
-    ensures { λ r. ⌜ ofClock r ≡ clockIn (now (clock .entry)) ⌝ }
+    ensures { λ r. ⌜ ofClock r ≡ clockIn (was clock) ⌝ }
 {
     let g = records::tag_at(clock, 0);
     let l = records::tag_at(clock, 12);
@@ -345,7 +350,7 @@ fn clock_in(clock: &[u8]) -> ScopeClock
 }
 
 fn mapped_local(clock: &[u8], tag: GlobalTag) -> MappedLocal
-    ensures { λ r. ⌜ mappedLocal r ≡ mapped globalToLocal (now (clock .entry)) (at (tag .0) (tag .1)) ⌝ }
+    ensures { λ r. ⌜ mappedLocal r ≡ mapped globalToLocal (was clock) (at (tag .0) (tag .1)) ⌝ }
 {
     if is_clock(clock) {
         let c = clock_in(clock);
@@ -355,7 +360,7 @@ fn mapped_local(clock: &[u8], tag: GlobalTag) -> MappedLocal
 }
 
 fn mapped_global(clock: &[u8], tag: LocalTag) -> MappedGlobal
-    ensures { λ r. ⌜ mappedGlobal r ≡ mapped localToGlobal (now (clock .entry)) (at (tag .0) (tag .1)) ⌝ }
+    ensures { λ r. ⌜ mappedGlobal r ≡ mapped localToGlobal (was clock) (at (tag .0) (tag .1)) ⌝ }
 {
     if is_clock(clock) {
         let c = clock_in(clock);
@@ -366,7 +371,7 @@ fn mapped_global(clock: &[u8], tag: LocalTag) -> MappedGlobal
 
 // A tag as a record has it, over the front.
 fn put_tag(tag: &mut [u8], offset: u64, microstep: u32) -> usize
-    ensures { λ r. ⌜ Written (now (tag .entry)) 0 (tagBytes (at offset microstep)) (now (tag .exit)) r ⌝ }
+    ensures { λ r. ⌜ Written (was tag) 0 (tagBytes (at offset microstep)) (is tag) r ⌝ }
 {
     let next = puts::put_number(tag, 0, 8, offset);
     puts::put_number(tag, next, 4, microstep as u64)
@@ -380,7 +385,7 @@ pub extern "C" fn barnshiver_global_to_local(
     microstep: u32,
     tag: &mut [u8],
 ) -> u8
-    ensures { λ r. ⌜ told r (now (tag .exit)) ≡ mapTold (mapped globalToLocal (now (clock .entry)) (at offset microstep)) (now (tag .entry)) ⌝ }
+    ensures { λ r. ⌜ told r (is tag) ≡ mapTold (mapped globalToLocal (was clock) (at offset microstep)) (was tag) ⌝ }
 {
     if tag.len() < TAG_BYTES {
         return NO_ROOM;
@@ -402,7 +407,7 @@ pub extern "C" fn barnshiver_local_to_global(
     microstep: u32,
     tag: &mut [u8],
 ) -> u8
-    ensures { λ r. ⌜ told r (now (tag .exit)) ≡ mapTold (mapped localToGlobal (now (clock .entry)) (at offset microstep)) (now (tag .entry)) ⌝ }
+    ensures { λ r. ⌜ told r (is tag) ≡ mapTold (mapped localToGlobal (was clock) (at offset microstep)) (was tag) ⌝ }
 {
     if tag.len() < TAG_BYTES {
         return NO_ROOM;

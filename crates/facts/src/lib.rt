@@ -1,5 +1,5 @@
-// What a day's tale is told from: times split, tags mapped and held back, calls and what they lack, each as a line of numbers.
-// The words and the picture are made of these lines outside the proofs (folder words), and compute nothing.
+// What a day's tale is told from, made of document 01's sentences: times split, tags mapped and held back, calls and what they lack, each as a line of
+// numbers. The words and the picture are made of these lines outside the proofs (folder words), and compute nothing: what is told is computed here.
 ghost use mathlib.Core.Path.{_≡_};
 ghost use Prim.Native.Nat.{_≤_};
 ghost use lib.ListN.{length, getD};

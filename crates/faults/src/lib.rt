@@ -1,8 +1,10 @@
-// Why an image's row is refused: which row, and the first rule of document 01's list that it breaks. For people; the check itself is crate table.
+// Why an image's row is refused, for people: which row, and the first rule of document 01's list, "Also: ..", that it breaks. The check itself is
+// crate table. A new rule of a row comes in here too, as a case of `Rule`; law `rule-tells` holds the two together.
 ghost use mathlib.Core.Path.{_≡_};
 ghost use Rattle.table.specs.Check.{badKind};
 ghost use Rattle.table.specs.Rules.{parentRule};
-ghost use Rattle.faults.specs.Faults.{missingKey, modeFault, scopeFault, initialFault, reactorFault, modeRowFault, levelFault, logicalFault, timerFault, ownFault, brokenRule, ruleNumber, fieldOf, faultWords, rowWords};
+ghost use Rattle.faults.specs.Faults.{missingKey, modeFault, scopeFault, initialFault, reactorFault, modeRowFault, levelFault};
+ghost use Rattle.faults.specs.Faults.{logicalFault, timerFault, ownFault, brokenRule, ruleNumber, fieldOf, faultWords, rowWords};
 use tags::LocalTag;
 
 const MAX_LEVEL: u8 = 15;

@@ -1,4 +1,4 @@
--- A fresh manager's scopes, one by one, and that arrays of these and of nothing hold a fresh state. Assumes nothing.
+-- A fresh manager's scopes, one by one, and that a room of these and of nothing holds a fresh state. Assumes nothing.
 use mathlib.Core.Bool.{Bool, true}
 use mathlib.Core.Path.{_≡_, refl, ap, _∙_, sym}
 use mathlib.Core.List.{List, [], _∷_, map}
@@ -9,23 +9,17 @@ use Rattle.lists.specs.Every.{length-from}
 use Rattle.rows.specs.Bytes.{Image}
 use Rattle.rows.specs.Rows.{initialMode}
 use Rattle.table.specs.Check.{isTable}
-use Rattle.tags.specs.Tags.{freshClock}
 use Rattle.schedule.specs.Schedule.{isActive}
 use Rattle.entries.specs.Entries.{mostHeld, blankValue, blankBucket}
 use Rattle.entries.specs.Words.{HeldValues, HeldBuckets}
-use Rattle.store_calls.specs.declared.Counts as store
+use Rattle.store.specs.Store.{emptyStore}
 use Rattle.machine.specs.Table.{scopes, reactors}
-use Rattle.machine.specs.State.{State, fresh, mostWaiting}
+use Rattle.machine.specs.State.{Scope, State, freshScope, fresh, mostWaiting}
 use Rattle.slots.specs.Slots as slot
-use Rattle.scopes.specs.Scopes.{Scope}
-use Rattle.lens.specs.declared.Counts.{Counts}
 use Rattle.lens.specs.Padded.{padded, padded-none, padded-length, padded-take}
-use Rattle.lens.specs.Lens.{Scoped, joined, scopesFrom, mostReactors}
-use Rattle.unpacked.specs.Unpacked.{Unpacked, most-reactors}
-
--- "clocks fresh, allowed if the scope starts active"; what is active counts as active before
-abbrev pub freshScope : Bool → Scope
-freshScope b = record { clock = freshClock b; active = b; ever = b }
+use Rattle.lens.specs.Lens.{Queued, Stored, Scoped, mostReactors}
+use Rattle.kept.specs.Kept.{fresh-rules}
+use Rattle.lens.specs.Holds.{Rows, Holds, ruled-holds, most-reactors}
 
 abbrev pub freshModes : Image → List ℕ
 freshModes img = map (initialMode img) (from 0 (reactors img))
@@ -33,40 +27,38 @@ freshModes img = map (initialMode img) (from 0 (reactors img))
 abbrev pub freshScopes : Image → List ℕ → List Scope
 freshScopes img modes = map (λ i. freshScope (isActive img modes i)) (from 0 (scopes img))
 
--- nothing waits, nothing is held
-abbrev pub noEvents : Counts
-noEvents = record { waiting = 0; work = 0 }
+-- these modes and scopes, and nothing waits or is held
+pub record Bare (modes ss : List ℕ) (r : Rows) : Type 0 where
+  pub scopes-are : r .scopes ≡ ss
+  pub events : slot.Held (r .events) (replicate mostWaiting slot.blank)
+  pub values : HeldValues (r .values) (replicate mostHeld blankValue)
+  pub buckets : HeldBuckets (r .buckets) (replicate mostHeld blankBucket)
+  pub ledger-is : r .ledger ≡ record { modes = modes; counts = record { waiting = 0; work = 0 }; held = record { values = 0; buckets = 0 } }
 
-abbrev pub noValues : store.Counts
-noValues = record { values = 0; buckets = 0 }
+scopes-fresh : (f : ℕ → Bool) (l : List ℕ) → map freshScope (map f l) ≡ map (λ i. freshScope (f i)) l
+scopes-fresh f [] = refl
+scopes-fresh f (i ∷ l) = ap (freshScope (f i) ∷_) (scopes-fresh f l)
 
-joined-fresh : (f : ℕ → Bool) (l : List ℕ) → joined (map freshClock (map f l)) (map f l) (map f l) ≡ map (λ i. freshScope (f i)) l
-unfolding joined
-joined-fresh f [] = refl
-joined-fresh f (i ∷ l) = ap (freshScope (f i) ∷_) (joined-fresh f l)
+-- no event waits, no value and no bucket is held
+pub bare-queued : {modes ss : List ℕ} {r : Rows} → Bare modes ss r → Queued [] 0 (r .events) (r .ledger .counts)
+bare-queued h = rw (h .ledger-is) (record { held = rw (padded-none slot.blank mostWaiting) (h .events); waiting = refl; work = refl })
 
-pub scopes-fresh : (img : Image) → scopesFrom (fresh img) ≡ freshScopes img (freshModes img)
+pub bare-stored : {modes ss : List ℕ} {r : Rows} → Bare modes ss r → Stored emptyStore (r .values) (r .buckets) (r .ledger .held)
+bare-stored h =
+    rw (h .ledger-is)
+    (record {
+      values = rw (padded-none blankValue mostHeld) (h .values);
+      buckets = rw (padded-none blankBucket mostHeld) (h .buckets);
+      some-values = refl;
+      some-buckets = refl;
+    })
+
+pub fresh-holds : (img : Image) → isTable img ≡ true → (modes ss : List ℕ) (r : Rows) → modes ≡ padded 0 mostReactors (freshModes img) →
+    Scoped (freshScopes img (freshModes img)) ss → Bare modes ss r → Holds img (fresh img) r
 unfolding fresh
-scopes-fresh img = joined-fresh (isActive img (freshModes img)) (from 0 (scopes img))
-
-pub fresh-unpacked :
-    (img : Image) (modes ss events values buckets : List ℕ) → modes ≡ padded 0 mostReactors (freshModes img) → Scoped (freshScopes img (freshModes img)) ss →
-    slot.Held events (replicate mostWaiting slot.blank) → HeldValues values (replicate mostHeld blankValue) → HeldBuckets buckets (replicate mostHeld blankBucket) →
-    Unpacked (fresh img) modes ss events values buckets noEvents noValues
-unfolding fresh
-fresh-unpacked img modes ss events values buckets m s e v b =
-    record {
-      in-modes = m;
-      in-scopes = rw (scopes-fresh img) s;
-      in-events = record { held = rw (padded-none slot.blank mostWaiting) e; waiting = refl; work = refl };
-      in-store =
-          record {
-            values = rw (padded-none blankValue mostHeld) v;
-            buckets = rw (padded-none blankBucket mostHeld) b;
-            some-values = refl;
-            some-buckets = refl;
-          };
-    }
+fresh-holds img t modes ss r m s b =
+    ruled-holds img (fresh img) (fresh-rules img t) r (rw (b .ledger-is) m)
+    (rw (b .scopes-are, scopes-fresh (isActive img (freshModes img)) (from 0 (scopes img))) s) (bare-queued b) (bare-stored b)
 
 -- ---- the modes in use, read back
 

@@ -1,4 +1,5 @@
-// A fresh manager's arrays: document 01, "A fresh manager has the initial modes, and nothing waits or is held."
+// A fresh manager's room: document 01, "A fresh manager has the initial modes, and nothing waits or is held."
+// What a new part of the state is at first comes in here, in `bare`; callers use `room` and `bare` alone.
 ghost use mathlib.Core.Path.{_≡_};
 ghost use mathlib.Core.Bool.{true};
 ghost use mathlib.Core.List.{map};
@@ -8,24 +9,29 @@ ghost use Rattle.rows.specs.Rows.{initialMode};
 ghost use Rattle.schedule.specs.Schedule.{isActive};
 ghost use Rattle.table.specs.Check.{isTable};
 ghost use Rattle.machine.specs.Table.{scopes as scopesIn, reactors};
+ghost use Rattle.machine.specs.State.{freshScope, fresh};
 ghost use Rattle.scopes.specs.Scopes.{scopeOf};
 ghost use Rattle.lens.specs.Padded.{padded};
 ghost use Rattle.lens.specs.Lens.{Scoped, mostReactors};
 ghost use lib.ListN.{replicate};
+ghost use Rattle.lists.specs.Lent.{was};
+ghost use Rattle.lens.specs.Holds.{rowsOf, Holds};
+ghost use Rattle.fresh.specs.Fresh.{Bare};
 ghost use Rattle.entries.specs.Entries.{mostHeld, blankValue, blankBucket};
 ghost use Rattle.entries.specs.Words.{HeldValues, HeldBuckets};
-ghost use Rattle.fresh.specs.Fresh.{freshScope};
 use entries::BucketRows;
 use entries::ValueRows;
+use lens::Counts;
+use lens::Ledger;
+use lens::MOST_REACTORS;
+use lens::Room;
 use scopes::Scope;
 use tags::ScopeClock;
 
-pub const MOST_REACTORS: usize = 16;
-
 // Each reactor's initial mode, zeros behind them.
-pub fn modes(image: &[u8]) -> [u16; MOST_REACTORS]
+fn modes(image: &[u8]) -> [u16; MOST_REACTORS]
     requires { ⌜ isTable (now image) ≡ true ⌝ }
-    ensures { λ r. ⌜ r ≡ padded 0 mostReactors (map (initialMode (now (image .entry))) (from 0 (reactors (now (image .entry))))) ⌝ }
+    ensures { λ r. ⌜ r ≡ padded 0 mostReactors (map (initialMode (was image)) (from 0 (reactors (was image)))) ⌝ }
 {
     let n = rows::count(image, rows::REACTOR);
     let mut out = [0u16; MOST_REACTORS];
@@ -52,9 +58,9 @@ fn scope(active: bool) -> Scope
 }
 
 // Each scope by these modes, blanks behind them.
-pub fn scopes(image: &[u8], modes: &[u16]) -> [u64; scopes::ROOM]
+fn scopes(image: &[u8], modes: &[u16]) -> [u64; scopes::ROOM]
     requires { ⌜ isTable (now image) ≡ true ⌝ }
-    ensures { λ r. ⌜ Scoped (map (λ i. freshScope (isActive (now (image .entry)) (now (modes .entry)) i)) (from 0 (scopesIn (now (image .entry))))) r ⌝ }
+    ensures { λ r. ⌜ Scoped (map (λ i. freshScope (isActive (was image) (was modes) i)) (from 0 (scopesIn (was image)))) r ⌝ }
 {
     let n = rows::count(image, rows::SCOPE);
     let mut out = scopes::blank_rows();
@@ -70,15 +76,56 @@ pub fn scopes(image: &[u8], modes: &[u16]) -> [u64; scopes::ROOM]
 }
 
 // No value is held.
-pub fn values() -> ValueRows
+fn values() -> ValueRows
     ensures { λ r. ⌜ HeldValues r (replicate mostHeld blankValue) ⌝ }
 {
     [0; entries::MOST_HELD * entries::VALUE_WORDS]
 }
 
 // No bucket is held.
-pub fn buckets() -> BucketRows
+fn buckets() -> BucketRows
     ensures { λ r. ⌜ HeldBuckets r (replicate mostHeld blankBucket) ⌝ }
 {
     [0; entries::MOST_HELD * entries::BUCKET_WORDS]
+}
+
+// A room with these modes and scopes, in which nothing waits and nothing is held.
+pub fn bare(modes: [u16; MOST_REACTORS], scopes: [u64; scopes::ROOM]) -> Room
+    ensures { λ r. ⌜ Bare modes scopes (rowsOf r) ⌝ }
+{
+    let events = slots::blank_rows();
+    let values = values();
+    let buckets = buckets();
+    let counts = Counts {
+        waiting: 0,
+        work: 0,
+    };
+    let held = store_calls::Counts {
+        values: 0,
+        buckets: 0,
+    };
+    let ledger = Ledger {
+        modes,
+        counts,
+        held,
+    };
+    Room {
+        scopes,
+        events,
+        values,
+        buckets,
+        ledger,
+    }
+}
+
+// A fresh manager's room over an accepted table.
+pub fn room(image: &[u8]) -> Room
+    requires { ⌜ isTable (now image) ≡ true ⌝ }
+    ensures { λ r. ⌜ Holds (was image) (fresh (was image)) (rowsOf r) ⌝ }
+{
+    let first = modes(image);
+    let n = rows::count(image, rows::REACTOR);
+    let end = n as usize;
+    let all = scopes(image, &first[..end]);
+    bare(first, all)
 }

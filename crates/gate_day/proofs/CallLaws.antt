@@ -1,179 +1,150 @@
--- A record's call on the unpacked state is the machine's step: its line, and the arrays hold the new state. Assumes nothing.
-use mathlib.Core.Bool.{Bool, true, false, cond}
-use mathlib.Core.Path.{_≡_, refl, ap, _∙_, sym}
+-- A record's call on the rows is the machine's step: its line, and the rows hold the new state. Assumes nothing.
+use mathlib.Core.Bool.{Bool, true, false}
+use mathlib.Core.Path.{_≡_, refl, ap, _∙_, sym, subst}
 use mathlib.Core.List.{List, []}
-use Prim.Native.Nat.{ℕ, _≤_, _<_}
-use lib.ListN.{length, take}
+use Prim.Native.Nat.{ℕ, _≤_}
+use native.Mathlib.Omega.{arith}
+use lib.ListN.{length}
 use Rattle.lists.specs.Every.{no-way}
+use Rattle.refusals.specs.declared.Outcome.{Outcome}
+use Rattle.refusals.specs.declared.Outcome.the-variants as O
 use Rattle.rows.specs.Bytes.{Image}
-use Rattle.rows.specs.Rows.{actionScope}
-use Rattle.table.specs.Check.{isTable}
-use Rattle.table.proofs.TableLaws.{action-scope}
-use Rattle.tags.specs.Views.{ofGlobal}
-use Rattle.store_calls.specs.declared.Counts as store
-use Rattle.store_calls.specs.Lent.{storeOf}
-use Rattle.machine.specs.Table.{scopes, actions}
-use Rattle.machine.specs.State.{Event, State, withQueue}
+use Rattle.machine.specs.State.{State, mostWaiting, withQueue}
 use Rattle.machine.specs.Machine as M
-use Rattle.machine.specs.Machine.{Call, Reply, Outcome, answer, rules, perform, step}
-use Rattle.kept.specs.Kept.{table-is, step-performs, step-keeps}
-use Rattle.slots.specs.Slots.{eventsOf}
-use Rattle.scopes.specs.Scopes.{scopesOf}
+use Rattle.machine.specs.Machine.{Call, Reply, rules, perform}
+use Rattle.kept.specs.Kept.{step-performs, step-keeps}
 use Rattle.lens.specs.declared.Counts.{Counts}
-use Rattle.lens.specs.Lens.{Queued, stateIn}
-use Rattle.unpacked.specs.Unpacked.{Unpacked, state-is, most-scopes, rules-table}
-use Rattle.pushes.specs.Pushes.{Push, Pushes, replyOf}
-use Rattle.pushes.specs.declared.Pushed.{Pushed}
-use Rattle.pushes.specs.declared.Outcome as pushes
-use Rattle.pushes.specs.declared.Outcome.the-variants as O
-use Rattle.pushes.proofs.AsMachine as push
-use Rattle.pops.specs.Pops.{Pops, popOf, popReply}
-use Rattle.pops.specs.declared.Popped.{Popped}
-use Rattle.pops.proofs.AsMachine as pop
-use Rattle.records.specs.Records as R
-use Rattle.records.specs.Views.{ofParsed, keyCount}
+use Rattle.lens.specs.Padded.{padded}
+use Rattle.lens.specs.Lens.{mostReactors, Queued, Waits, Shows, Scoped, Stored}
+use Rattle.lens.specs.Holds.{Rows, Holds, Held, stateIn, waits, shows, ruled-holds, Performs, replyOf}
+use Rattle.lens.specs.Parts.{changed}
 use Rattle.plan.specs.declared.Request.{Request}
-use Rattle.gate_day.specs.declared.Op.{Op}
-use Rattle.gate_day.specs.declared.Op.the-variants as A
+use Rattle.pushes.specs.Pushes.{Pushes}
+use Rattle.pushes.specs.declared.Pushed.{Pushed}
+use Rattle.pushes.proofs.PushLaws.{push-frame}
+use Rattle.pops.specs.Pops.{Pops, popReply}
+use Rattle.pops.specs.declared.Popped.{Popped}
+use Rattle.pops.proofs.PopLaws.{pop-frame}
+use Rattle.transition.specs.Transiting.{callOf}
+use Rattle.records.specs.Records as R
+use Rattle.records.specs.Records.{Record}
+use Rattle.records.specs.Views.{ofParsed}
 use Rattle.records.specs.declared.Parsed.{Parsed}
 use Rattle.records.specs.declared.Parsed.the-variants.{Plain, Network, Control, Action, Transition, Pop, Malformed}
 use Rattle.lines.specs.Lines.{lineOf}
-use Rattle.gate_day.specs.Days.{lineAt, stateAt}
-use Rattle.gate_day.specs.Views.{pushBy, opOf, popReplyOf}
+use Rattle.gate_day.specs.Days.{malformedLine}
+use Rattle.gate_day.specs.Views.{opOf, pushBy, Kept, Takes}
+use Rattle.gate_day.specs.declared.Op.{Op}
+use Rattle.gate_day.specs.declared.Op.the-variants as A
+use Rattle.gate_day.proofs.PartLaws.{push-by}
 
 -- the line of done or refused needs no table
-pub line-bare : (img : Image) (o : pushes.Outcome) → lineOf img (replyOf o) ≡ lineOf [] (replyOf o)
+pub line-bare : (img : Image) (o : Outcome) → lineOf [] (replyOf o) ≡ lineOf img (replyOf o)
 line-bare img O.Done = refl
 line-bare img (O.Refused n) = refl
 
 -- ---- what a record asks for
 
-abbrev isPush : Op → Bool
-isPush A.Push = true
-isPush (A.Transition q) = false
-isPush A.Pop = false
-isPush A.Malformed = false
+abbrev isCall : Record → Bool
+isCall (R.call c) = true
+isCall R.malformed = false
+isCall R.cut = false
+isCall R.over = false
 
-abbrev isPop : Op → Bool
-isPop A.Push = false
-isPop (A.Transition q) = false
-isPop A.Pop = true
-isPop A.Malformed = false
+abbrev Asks : Record → Op → Type 0
+Asks w A.Push = isCall w ≡ true
+Asks w (A.Transition q) = w ≡ R.call (callOf q)
+Asks w A.Pop = w ≡ R.call M.pop
+Asks w A.Malformed = w ≡ R.malformed
 
-abbrev isMalformed : Op → Bool
-isMalformed A.Push = false
-isMalformed (A.Transition q) = false
-isMalformed A.Pop = false
-isMalformed A.Malformed = true
+asks : (parsed : Parsed) (keys : List ℕ) → Asks (ofParsed parsed keys) (opOf parsed)
+asks (Plain t terminal n) keys = refl
+asks (Network t n) keys = refl
+asks (Control t) keys = refl
+asks (Action a t terminal n) keys = refl
+asks (Transition r m reset t) keys = refl
+asks Pop keys = refl
+asks Malformed keys = refl
 
-abbrev requestOr : Request → Op → Request
-requestOr d A.Push = d
-requestOr d (A.Transition q) = q
-requestOr d A.Pop = d
-requestOr d A.Malformed = d
+-- ---- what its functions ask of a day that keeps the rules
 
-abbrev isTransition : Op → Bool
-isTransition A.Push = false
-isTransition (A.Transition q) = true
-isTransition A.Pop = false
-isTransition A.Malformed = false
+module _ {img : Image} {d : Rows} (k : Kept img d) where
+  abbrev view : State
+  view = stateIn img d
 
-pub pop-record : (parsed : Parsed) (keys : List ℕ) → opOf parsed ≡ A.Pop → ofParsed parsed keys ≡ R.call M.pop
-pop-record (Plain t terminal n) keys e = no-way (ap isPop e)
-pop-record (Network t n) keys e = no-way (ap isPop e)
-pop-record (Control t) keys e = no-way (ap isPop e)
-pop-record (Action a t terminal n) keys e = no-way (ap isPop e)
-pop-record (Transition q m reset t) keys e = no-way (ap isPop e)
-pop-record Pop keys e = refl
-pop-record Malformed keys e = no-way (ap isPop e)
+  pub kept-waits : Waits (d .events) (d .ledger .counts)
+  kept-waits = waits img view d (k .holds)
 
-pub malformed-record : (parsed : Parsed) (keys : List ℕ) → opOf parsed ≡ A.Malformed → ofParsed parsed keys ≡ R.malformed
-malformed-record (Plain t terminal n) keys e = no-way (ap isMalformed e)
-malformed-record (Network t n) keys e = no-way (ap isMalformed e)
-malformed-record (Control t) keys e = no-way (ap isMalformed e)
-malformed-record (Action a t terminal n) keys e = no-way (ap isMalformed e)
-malformed-record (Transition q m reset t) keys e = no-way (ap isMalformed e)
-malformed-record Pop keys e = no-way (ap isMalformed e)
-malformed-record Malformed keys e = refl
+  pub kept-held : Held img d
+  kept-held = record { state = view; holds = k .holds }
 
-abbrev transitBy : Request → Call
-transitBy q = M.transit (q .reactor) (q .mode) (q .reset) (ofGlobal (q .c))
+  pub popped-room : {p : Popped} {was events actions : List ℕ} →
+      ((s : State) → Queued (s .waiting) (s .work) (d .events) (d .ledger .counts) → Shows s (d .scopes) → Pops (perform img s M.pop) p was events actions) →
+      length was ≡ mostWaiting → (length actions ≡ mostWaiting) × (p .gathered .actions ≤ mostWaiting)
+  popped-room f h = let x = f view (k .holds .queued) (shows img view d (k .holds)) in (x .grown .long ∙ h, omega (arith, x .room))
 
-pub transit-record : (parsed : Parsed) (keys : List ℕ) (q : Request) → opOf parsed ≡ A.Transition q → ofParsed parsed keys ≡ R.call (transitBy q)
-transit-record (Plain t terminal n) keys q e = no-way (ap isTransition e)
-transit-record (Network t n) keys q e = no-way (ap isTransition e)
-transit-record (Control t) keys q e = no-way (ap isTransition e)
-transit-record (Action a t terminal n) keys q e = no-way (ap isTransition e)
-transit-record (Transition r m reset t) keys q e = ap (λ x. R.call (transitBy x)) (ap (requestOr q) e)
-transit-record Pop keys q e = no-way (ap isTransition e)
-transit-record Malformed keys q e = no-way (ap isTransition e)
+  -- no more wait after a transition than may
+  pub transited-few : (q : Request) {x : Reply} (after : Rows) → Performs img (callOf q) d x after → after .ledger .counts .waiting ≤ mostWaiting
+  transited-few q after f = waits img _ after (f view (k .keeps) (k .holds) .holds) .few
 
-module _ (img : Image) (s : State) (k : rules img s ≡ true) (modes ss events values buckets : List ℕ) (c : Counts) (h : store.Counts)
-    (u : Unpacked s modes ss events values buckets c h) where
-  abbrev es : List Event
-  es = take (c .waiting) (eventsOf events)
+-- ---- its line, and the state after it
 
-  abbrev before : State
-  before = stateIn img modes (scopesOf ss) es (c .work) (storeOf values buckets h)
+module _ (img : Image) (s : State) (k : rules img s ≡ true) where
+  -- what the machine performs
+  lands : {w : Record} {call : Call} {reply : Reply} {d : Rows} → w ≡ R.call call → reply ≡ perform img s call .reply → Holds img (perform img s call .state) d →
+      Takes img s w (lineOf img reply) d
+  lands {w} {call} {reply} {d} i e u =
+      let o = sym (step-performs img s call k) in
+      subst (λ x. Takes img s x (lineOf img reply) d) (sym i)
+      (record { says = ap (lineOf img) (e ∙ ap (λ x. x .reply) o); holds = subst (λ x. Holds img (x .state) d) o u })
 
-  same : before ≡ s
-  same = state-is img s k modes ss events values buckets c h u
+  module _ (d : Rows) (u : Holds img s d) where
+    abbrev counted : List ℕ → Counts → Rows
+    counted es c = changed d es (d .values) (d .buckets) c (d .ledger .held)
 
-  -- a call that changes the queue alone
-  module _ (call : Call) (reply : Reply) (new : List Event) (work : ℕ) (e : perform img before call ≡ answer reply (stateIn img modes (scopesOf ss) new work (storeOf values buckets h))) where
-    queue-step : step img s call ≡ answer reply (withQueue s new work)
-    queue-step =
-        step-performs img s call k ∙
-        (ap (λ t. perform img t call) (sym same) ∙ (e ∙ ap (λ t. answer reply (withQueue t new work)) same))
+    -- where the queue alone changes
+    requeued : {t : State} {events : List ℕ} {c : Counts} → rules img t ≡ true → t ≡ withQueue s (t .waiting) (t .work) → Queued (t .waiting) (t .work) events c →
+        Holds img t (counted events c)
+    requeued {t} {events} {c} y f q =
+        ruled-holds img t y (counted events c) (u .moded ∙ ap (λ x. padded 0 mostReactors (x .modes)) (sym f))
+        (subst (λ x. Scoped (x .scopes) (d .scopes)) (sym f) (u .scoped)) q (subst (λ x. Stored (x .store) (d .values) (d .buckets) (d .ledger .held)) (sym f) (u .stored))
 
-    queue-reply : step img s call .reply ≡ reply
-    queue-reply = ap (λ o. o .reply) queue-step
+    performs-keeps : (c : Call) → rules img (perform img s c .state) ≡ true
+    performs-keeps c = subst (λ o. rules img (o .state) ≡ true) (step-performs img s c k) (step-keeps img s c k)
 
-    queue-unpacked : (events-end : List ℕ) (m : Counts) → Queued new work events-end m → Unpacked (step img s call .state) modes ss events-end values buckets m h
-    queue-unpacked events-end m q =
-        rw queue-step (record { in-modes = u .in-modes; in-scopes = u .in-scopes; in-events = q; in-store = u .in-store })
+    push-lands : (w : Record) → isCall w ≡ true → {p : Pushed} {events : List ℕ} → (let t = pushBy img s A.Push w .state in t ≡ withQueue s (t .waiting) (t .work)) →
+        Pushes (pushBy img s A.Push w) p events → Takes img s w (lineOf img (replyOf (p .outcome))) (counted events (p .counts))
+    push-lands (R.call c) i f x = lands refl (x .reply) (requeued (performs-keeps c) f (x .queued))
+    push-lands R.malformed i f x = no-way i
+    push-lands R.cut i f x = no-way i
+    push-lands R.over i f x = no-way i
 
-  -- ---- pop
+    -- ---- by what the record asks for
 
-  module _ (p : Popped) {was : List ℕ} (events-end keys : List ℕ) (w : Pops (popOf (scopesOf ss) (scopes img) es (c .work)) p was events-end keys) where
-    abbrev popped : perform img before M.pop ≡ answer (popReply (popOf (scopesOf ss) (scopes img) es (c .work))) (stateIn img modes (scopesOf ss) (popOf (scopesOf ss) (scopes img) es (c .work) .took .waiting) (popOf (scopesOf ss) (scopes img) es (c .work) .took .work) (storeOf values buckets h))
-    popped = pop.pop-performs img modes (scopesOf ss) (storeOf values buckets h) (most-scopes img (rules-table img s k)) es (c .work)
+    module _ (parsed : Parsed) (keys : List ℕ) {o : Op} (e : o ≡ opOf parsed) where
+      abbrev w : Record
+      w = ofParsed parsed keys
 
-    pub pop-line : lineOf img (popReplyOf p keys) ≡ lineOf img (step img s M.pop .reply)
-    pop-line = ap (lineOf img) (pop.reply-is (popOf (scopesOf ss) (scopes img) es (c .work)) p events-end keys w ∙ sym (queue-reply M.pop _ _ _ popped))
+      asked : {x : Op} → o ≡ x → Asks w x
+      asked i = subst (λ x. Asks w x) (sym e ∙ i) (asks parsed keys)
 
-    pub pop-unpacked : Unpacked (step img s M.pop .state) modes ss events-end values buckets (p .counts) h
-    pop-unpacked = queue-unpacked M.pop _ _ _ popped events-end (p .counts) (w .takes .queued)
+      pub push-takes : o ≡ A.Push → {p : Pushed} {events : List ℕ} →
+          ((s : State) → Queued (s .waiting) (s .work) (d .events) (d .ledger .counts) → Shows s (d .scopes) → Pushes (pushBy img s (opOf parsed) w) p events) →
+          Takes img s w (lineOf img (replyOf (p .outcome))) (counted events (p .counts))
+      push-takes i {p} {events} f =
+          let x : opOf parsed ≡ A.Push = sym e ∙ i in
+          push-lands w (asked i)
+          (subst (λ o. let t = pushBy img s o w .state in t ≡ withQueue s (t .waiting) (t .work)) x
+          (push-by img s (λ a. let t = a .state in t ≡ withQueue s (t .waiting) (t .work)) (push-frame s) refl parsed keys))
+          (subst (λ o. Pushes (pushBy img s o w) p events) x (f s (u .queued) (shows img s d u)))
 
-  -- ---- pushes
+      pub pop-takes : o ≡ A.Pop → {p : Popped} {was events actions : List ℕ} →
+          ((s : State) → Queued (s .waiting) (s .work) (d .events) (d .ledger .counts) → Shows s (d .scopes) → Pops (perform img s M.pop) p was events actions) →
+          Takes img s w (lineOf img (popReply p actions)) (counted events (p .counts))
+      pop-takes i f = let x = f s (u .queued) (shows img s d u) in lands (asked i) (x .reply) (requeued (performs-keeps M.pop) (pop-frame img s) (x .queued))
 
-  module _ (r : Pushed) (events-end : List ℕ) where
-    -- one that the machine performs so
-    module _ (call : Call) (p : Push) (e : perform img before call ≡ answer (p .reply) (stateIn img modes (scopesOf ss) (p .waiting) (p .work) (storeOf values buckets h))) (w : Pushes p r events-end) where
-      push-line : lineOf [] (replyOf (r .outcome)) ≡ lineOf img (step img s call .reply)
-      push-line = sym (line-bare img (r .outcome)) ∙ ap (lineOf img) (w .reply ∙ sym (queue-reply call _ _ _ e))
+      pub transit-takes : {q : Request} → o ≡ A.Transition q → (x : Outcome) {after : Rows} → Performs img (callOf q) d (replyOf x) after → Takes img s w (lineOf img (replyOf x)) after
+      transit-takes i x f = let y = f s k u in lands (asked i) (y .reply-is) (y .holds)
 
-      push-unpacked : Unpacked (step img s call .state) modes ss events-end values buckets (r .counts) h
-      push-unpacked = queue-unpacked call _ _ _ e events-end (r .counts) (w .queued)
-
-    abbrev Lands : Parsed → List ℕ → Type 0
-    Lands parsed keys =
-        (lineOf [] (replyOf (r .outcome)) ≡ lineAt img s (ofParsed parsed keys)) × Unpacked (stateAt img s (ofParsed parsed keys)) modes ss events-end values buckets (r .counts) h
-
-    pub push-lands : (parsed : Parsed) (keys : List ℕ) → opOf parsed ≡ A.Push →
-        Pushes (pushBy img (scopesOf ss) es (c .work) parsed (take (keyCount parsed) keys)) r events-end → Lands parsed keys
-    push-lands (Plain t terminal n) keys i w =
-        let e = push.plain-performs img modes (scopesOf ss) es (c .work) (storeOf values buckets h) (ofGlobal t) terminal (take n keys) in
-        (push-line _ _ e w, push-unpacked _ _ e w)
-    push-lands (Network t n) keys i w =
-        let e = push.network-performs img modes (scopesOf ss) es (c .work) (storeOf values buckets h) (ofGlobal t) (take n keys) in
-        (push-line _ _ e w, push-unpacked _ _ e w)
-    push-lands (Control t) keys i w =
-        let e = push.control-performs img modes (scopesOf ss) es (c .work) (storeOf values buckets h) (ofGlobal t) in
-        (push-line _ _ e w, push-unpacked _ _ e w)
-    push-lands (Action a t terminal n) keys i w =
-        let e = push.action-performs img modes (scopesOf ss) es (c .work) (storeOf values buckets h) a (action-scope img (table-is img (rules-table img s k)) a) (ofGlobal t) terminal (take n keys) in
-        (push-line _ _ e w, push-unpacked _ _ e w)
-    push-lands (Transition q m reset t) keys i w = no-way (ap isPush i)
-    push-lands Pop keys i w = no-way (ap isPush i)
-    push-lands Malformed keys i w = no-way (ap isPush i)
+      pub malformed-takes : o ≡ A.Malformed → Takes img s w malformedLine d
+      malformed-takes i = subst (λ x. Takes img s x malformedLine d) (sym (asked i)) (record { says = refl; holds = u })

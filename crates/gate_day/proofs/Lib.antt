@@ -2,6 +2,5 @@ pub mod PartLaws
 pub mod CallLaws
 pub mod HeadLaws
 pub mod RunLaws
-pub mod StepLaws
 pub mod StartLaws
 pub mod WholeLaws

@@ -19,7 +19,8 @@ use Rattle.table.specs.declared.ImageRefusal.{ImageRefusal}
 use Rattle.table.specs.declared.ImageRefusal.the-variants.{Length}
 use Rattle.machine.specs.State.{State, fresh}
 use Rattle.machine.specs.Machine.{Call, run}
-use Rattle.records.specs.Records.{Record, call, malformed, cut, over, counts, version, mostBytes, lengthOf, lengthAt, plainOf, networkOf, controlOf, actionOf, transitionOf, popOf, opOf, bodyOf, recordAt, goesOn, recordsFrom, isBit, keysFill}
+use Rattle.records.specs.Records.{Record, call, malformed, cut, over, counts, version, mostBytes, lengthOf, lengthAt, plainOf, networkOf, controlOf, actionOf, transitionOf, popOf, opOf}
+use Rattle.records.specs.Records.{bodyOf, recordAt, goesOn, recordsFrom, isBit, keysFill}
 use Rattle.records.specs.Records as R
 use Rattle.records.proofs.Laws.{length-short, length-counts, length-over}
 use Rattle.records.proofs.DayLaws.{none-left, record-there, record-short, record-broken, record-over, records-step, records-behind}
@@ -27,9 +28,10 @@ use Rattle.lines.specs.Lines.{tableLine}
 use Rattle.puts.specs.Written.{Written}
 use Rattle.puts.proofs.WrittenLaws.{written-none, written-then, written-as, written-long, written-room}
 use Rattle.rows.specs.Kinds.{largest}
-use Rattle.gate_day.specs.Days.{Next, pending, broken, whole, nextAt, bytesLeft, bodyAt, Ran, stopped, endedAt, behind, longest, malformedLine, lineAt, stateAt, answersOf, together, linesOf, callsOf, fitting, ranIn, ranOn, ran, imageEnd, imageIn, opened, answersBy, dayAnswers, dayLines, recordBytes}
-use Rattle.gate_day.specs.Views.{viewOf, Pieced}
-use Rattle.gate_day.specs.declared.Day.{Day}
+use Rattle.gate_day.specs.Days.{Next, pending, broken, whole, nextAt, bytesLeft, bodyAt, Ran, stopped, endedAt, behind, longest, malformedLine, lineAt, stateAt, answersOf, together}
+use Rattle.gate_day.specs.Days.{linesOf, callsOf, fitting, ranIn, ranOn, ran, imageEnd, imageIn, opened, answersBy, dayAnswers, dayLines, recordBytes}
+use Rattle.lens.specs.Holds.{Rows, stateIn}
+use Rattle.gate_day.specs.Views.{Pieced}
 use Rattle.gate_day.specs.declared.Pieces.{Pieces}
 
 -- ---- a record by its bytes is one that the run goes on behind
@@ -287,7 +289,8 @@ module _ (img : Image) (a : List ℕ) where
   rests-in : (n : ℕ) (s : State) (i room : ℕ) → i ≤ length a → length a ≤ i + n → Rests room (ranIn n img a s i room)
   unfolding ranIn nextAt
   rests-in zero s i room h k = λ d l. pending-rests a i h λ m. absurd (omega (arith, m, k))
-  rests-in (suc n) s i room h k = turn (λ t j m u v. rests-in n t j m u v) (ltb room longest) refl (ltb (bytesLeft a i) 4) refl (ltb mostBytes (be 4 a i)) refl (ltb (bytesLeft a i) (4 + be 4 a i)) refl
+  rests-in (suc n) s i room h k =
+      turn (λ t j m u v. rests-in n t j m u v) (ltb room longest) refl (ltb (bytesLeft a i) 4) refl (ltb mostBytes (be 4 a i)) refl (ltb (bytesLeft a i) (4 + be 4 a i)) refl
     where
       turn : ((t : State) (j m : ℕ) → j ≤ length a → length a ≤ j + n → Rests m (ranIn n img a t j m)) →
           (o : Bool) → o ≡ ltb room longest → (p : Bool) → p ≡ ltb (bytesLeft a i) 4 → (q : Bool) → q ≡ ltb mostBytes (be 4 a i) → (r : Bool) → r ≡ ltb (bytesLeft a i) (4 + be 4 a i) →
@@ -379,15 +382,15 @@ module _ (img : Image) (a : List ℕ) (s : State) (room : ℕ) where
 
 -- ---- the same, of what a piece's run leaves
 
-module _ (img : Image) (a old : List ℕ) {new : List ℕ} (d : Day) {p : Pieces} (v : viewOf img d ≡ fresh img) (w : Pieced (ran img a (viewOf img d) (length old)) p a old new) where
+module _ (img : Image) (a old : List ℕ) {new : List ℕ} (d : Rows) {p : Pieces} (v : stateIn img d ≡ fresh img) (w : Pieced img (ran img a (stateIn img d) (length old)) p a old new) where
   abbrev piece : Ran
   piece = ran img a (fresh img) (length old)
 
   abbrev Says : List ℕ → ℕ → Type 0
   Says out end = Written old 0 (fitting (length old) (answersOf img (fresh img) (recordsFrom a 0))) out end
 
-  from-fresh : Pieced piece p a old new
-  from-fresh = subst (λ s. Pieced (ran img a s (length old)) p a old new) v w
+  from-fresh : Pieced img piece p a old new
+  from-fresh = subst (λ s. Pieced img (ran img a s (length old)) p a old new) v w
 
   room-is : length new - p .written ≡ length old - length (piece .lines)
   room-is = let l = written-long (from-fresh .lines) in let e = from-fresh .lines .end-is in omega (arith, l, e)
@@ -480,7 +483,8 @@ module _ (day old : List ℕ) where
         (fitting-more (length old) (tableLine (Refused r)) [] room ∙ (ap (λ x. tableLine (Refused r) ++ x) (fitting-none _) ∙ append-nil (tableLine (Refused r))))))
 
     pub told-accepted : checked ≡ Accepted → {end : ℕ} → end ≡ imageEnd day → {new : List ℕ} {n : ℕ} →
-        Written (take (length mid - m) (drop m mid)) 0 (fitting (length (take (length mid - m) (drop m mid))) (answersOf (take end day) (fresh (take end day)) (recordsFrom (take (length day - end) (drop end day)) 0))) new n →
+        Written (take (length mid - m) (drop m mid)) 0
+        (fitting (length (take (length mid - m) (drop m mid))) (answersOf (take end day) (fresh (take end day)) (recordsFrom (take (length day - end) (drop end day)) 0))) new n →
         Told (take m mid ++ (new ++ drop (length mid - m) (drop m mid))) (m + n)
     unfolding dayAnswers
     told-accepted e {end} k {new} {n} x =

@@ -1,8 +1,8 @@
 -- Document 01, "The bench program": the lines of a gate day, an image and its records. Assumes nothing.
 use Prim.Native.Nat.{ℕ, zero, suc, _+_, _-_}
-use mathlib.Core.Bool.{Bool, true, false, cond, _||_, _&&_}
+use mathlib.Core.Bool.{Bool, true, false, cond, _||_}
 use mathlib.Core.List.{List, [], _∷_, _++_}
-use lib.Dec.{ltb, leb}
+use lib.Dec.{ltb}
 use lib.ListN.{length, take, drop}
 use Rattle.rows.specs.Bytes.{Image, be}
 use Rattle.rows.specs.Kinds.{largest}
@@ -11,7 +11,7 @@ use Rattle.table.specs.declared.Checked.{Checked}
 use Rattle.table.specs.declared.Checked.the-variants.{Accepted, Refused}
 use Rattle.table.specs.declared.ImageRefusal.the-variants.{Length}
 use Rattle.machine.specs.State.{State, fresh}
-use Rattle.machine.specs.Machine.{Call, Reply, Outcome, step}
+use Rattle.machine.specs.Machine.{Call, step}
 use Rattle.records.specs.Records.{Record, call, malformed, cut, over, bodyOf, mostBytes, recordsFrom}
 use Rattle.lines.specs.Lines.{lineOf, refusedLine, tableLine}
 

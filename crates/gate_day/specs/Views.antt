@@ -1,31 +1,28 @@
 -- The code's answers as the definitions', and what its parts do. Assumes nothing.
-use mathlib.Core.Bool.{Bool, true, false, cond}
+use mathlib.Core.Bool.{true}
 use mathlib.Core.Path.{_≡_}
-use mathlib.Core.List.{List, []}
+use mathlib.Core.List.{List}
 use Prim.Native.Nat.{ℕ, _≤_}
-use lib.ListN.{length, take}
+use lib.ListN.{length}
 use Rattle.rows.specs.Bytes.{Image}
-use Rattle.tags.specs.Views.{ofGlobal}
-use Rattle.key_set.specs.Sets.{noKeys, wordCount}
-use Rattle.machine.specs.Table.{setOf}
-use Rattle.machine.specs.State.{Event, State}
-use Rattle.machine.specs.Machine.{Reply, ok, nothing, ready, keysOk, rules}
-use Rattle.slots.specs.Slots.{eventsOf}
-use Rattle.scopes.specs.Scopes.{Scope, scopesOf}
-use Rattle.store_calls.specs.Lent.{storeOf}
-use Rattle.lens.specs.Lens.{stateIn}
-use Rattle.unpacked.specs.Unpacked.{Unpacked}
+use Rattle.machine.specs.State.{State}
+use Rattle.machine.specs.Machine.{Reply, Outcome, ok, answer, perform, rules}
+use Rattle.lens.specs.Holds.{Rows, Holds, rowsOf, stateIn}
 use Rattle.puts.specs.Written.{Written}
-use Rattle.ready.specs.Gathering.{gatheringOf, readyAt}
-use Rattle.pops.specs.declared.Popped.{Popped}
-use Rattle.pushes.specs.Pushes.{Push, rootMade, actionMade, pushOf}
+use Rattle.lines.specs.Lines.{lineOf}
+use Rattle.pops.specs.Pops.{popReply}
+use Rattle.pushes.specs.Pushes.{replyOf}
+use Rattle.records.specs.Records as R
+use Rattle.records.specs.Records.{Record}
 use Rattle.records.specs.declared.Parsed.{Parsed}
 use Rattle.records.specs.declared.Parsed.the-variants.{Plain, Network, Control, Action, Transition, Pop, Malformed}
 use Rattle.gate_day.specs.Days as D
-use Rattle.gate_day.specs.declared.Day.{Day}
+use Rattle.gate_day.specs.declared.Answered.{Answered}
 use Rattle.gate_day.specs.declared.Pieces.{Pieces}
 use Rattle.gate_day.specs.declared.Op.{Op}
 use Rattle.gate_day.specs.declared.Op.the-variants as A
+use Rattle.gate_day.specs.declared.Said.{Said}
+use Rattle.gate_day.specs.declared.Said.the-variants as S
 use Rattle.gate_day.specs.declared.Next.{Next}
 use Rattle.gate_day.specs.declared.Next.the-variants.{Pending, Broken, Whole}
 
@@ -33,16 +30,6 @@ abbrev pub ofNext : Next → D.Next
 ofNext Pending = D.pending
 ofNext Broken = D.broken
 ofNext (Whole n) = D.whole n
-
--- a push by its record, with its keys; what is no push changes nothing
-abbrev pub pushBy : Image → List Scope → List Event → ℕ → Parsed → List ℕ → Push
-pushBy img ss es work (Plain t terminal n) keys = pushOf es work (rootMade (keysOk img keys) (ofGlobal t) (setOf keys) terminal false false)
-pushBy img ss es work (Network t n) keys = pushOf es work (rootMade (keysOk img keys) (ofGlobal t) (setOf keys) false false true)
-pushBy img ss es work (Control t) keys = pushOf es work (rootMade true (ofGlobal t) (noKeys wordCount) false true false)
-pushBy img ss es work (Action a t terminal n) keys = pushOf es work (actionMade img ss a (ofGlobal t) terminal (keysOk img keys) (setOf keys))
-pushBy img ss es work (Transition r m reset t) keys = record { reply = ok; waiting = es; work = work }
-pushBy img ss es work Pop keys = record { reply = ok; waiting = es; work = work }
-pushBy img ss es work Malformed keys = record { reply = ok; waiting = es; work = work }
 
 -- what a record asks for
 abbrev pub opOf : Parsed → Op
@@ -54,27 +41,41 @@ opOf (Transition r m reset t) = A.Transition (record { reactor = r; mode = m; re
 opOf Pop = A.Pop
 opOf Malformed = A.Malformed
 
--- a pop's answer, the action keys in the array beside it
-abbrev pub popReplyOf : Popped → List ℕ → Reply
-popReplyOf p keys = cond (p .found) (ready (readyAt (ofGlobal (p .tag)) (gatheringOf (p .gathered) keys))) nothing
+-- what a push by its record comes to: the outcome of its call; what is no push changes nothing
+abbrev pub pushBy : Image → State → Op → Record → Outcome
+pushBy img s A.Push (R.call c) = perform img s c
+pushBy img s A.Push R.malformed = answer ok s
+pushBy img s A.Push R.cut = answer ok s
+pushBy img s A.Push R.over = answer ok s
+pushBy img s (A.Transition q) r = answer ok s
+pushBy img s A.Pop r = answer ok s
+pushBy img s A.Malformed r = answer ok s
 
--- ---- a day's state
+-- the line of what a record is answered; `popped` is what a pop answers
+abbrev pub saidLine : Image → Said → Reply → List ℕ
+saidLine img (S.Outcome o) popped = lineOf img (replyOf o)
+saidLine img S.Popped popped = lineOf img popped
+saidLine img S.Malformed popped = D.malformedLine
 
--- the state that its arrays hold
-abbrev pub viewOf : Image → Day → State
-viewOf img d = stateIn img (d .modes) (scopesOf (d .scopes)) (take (d .counts .waiting) (eventsOf (d .events))) (d .counts .work) (storeOf (d .values) (d .buckets) (d .held))
+-- the same of the code's answer, a pop's action keys in the array beside it
+abbrev pub lineFrom : Image → Answered → List ℕ → List ℕ
+lineFrom img a keys = saidLine img (a .said) (popReply (a .popped) keys)
 
-abbrev pub UnpackedDay : State → Day → Type 0
-UnpackedDay s d = Unpacked s (d .modes) (d .scopes) (d .events) (d .values) (d .buckets) (d .counts) (d .held)
+-- ---- a day's state, in its rows
 
--- a state that keeps the rules, and blanks behind it
-pub record Kept (img : Image) (d : Day) : Type 0 where
-  pub keeps : rules img (viewOf img d) ≡ true
-  pub unpacked : UnpackedDay (viewOf img d) d
+-- it keeps the rules, and the rows hold it
+pub record Kept (img : Image) (r : Rows) : Type 0 where
+  pub keeps : rules img (stateIn img r) ≡ true
+  pub holds : Holds img (stateIn img r) r
+
+-- a record is taken: this is its line, and the rows hold the state after it
+pub record Takes (img : Image) (s : State) (w : Record) (line : List ℕ) (r : Rows) : Type 0 where
+  pub says : line ≡ D.lineAt img s w
+  pub holds : Holds img (D.stateAt img s w) r
 
 -- what a piece's run leaves: the state, how many bytes were taken, whether the run is over, and the lines over the front of the buffer
-pub record Pieced (r : D.Ran) (p : Pieces) (bytes old new : List ℕ) : Type 0 where
-  pub unpacked : UnpackedDay (r .state) (p .day)
+pub record Pieced (img : Image) (r : D.Ran) (p : Pieces) (bytes old new : List ℕ) : Type 0 where
+  pub holds : Holds img (r .state) (rowsOf (p .day))
   pub used : p .used ≡ r .used
   pub inside : p .used ≤ length bytes
   pub ended : p .ended ≡ r .ended

@@ -1,87 +1,60 @@
-// The run of a gate day over the unpacked state: document 01, "The bench program". No test of the state rules is made on the way: every call keeps them
-// (crate kept). Records come in pieces of any size; a piece's run takes as many whole ones as there are.
+// The run of a gate day on rows: document 01, "The bench program". One record, one answer: `take_record` makes its call, `say` writes its line.
+// No test of the state rules is made on the way: every call keeps them (crate kept). Records come in pieces of any size; a piece's run takes as many
+// whole ones as there are. A new op comes in here in `take_record`; what else is made of an answer, beside `say`.
 ghost use mathlib.Core.Path.{_≡_};
+ghost use mathlib.Core.Bool.{true};
 ghost use mathlib.Core.List.{[]};
 ghost use Prim.Native.Nat.{_+_, _≤_};
 ghost use lib.ListN.{length, take};
-ghost use Rattle.machine.specs.Machine.{ok};
+ghost use Rattle.lists.specs.Lent.{was, is};
+ghost use Rattle.machine.specs.State.{State, mostWaiting, fresh as freshState};
+ghost use Rattle.machine.specs.Machine.{ok, rules};
 ghost use Rattle.slots.specs.Slots.{eventsOf};
-ghost use Rattle.scopes.specs.Scopes.{scopesOf};
 ghost use Rattle.queue.specs.Queue.{headsOf, Held};
-ghost use Rattle.lens.specs.Lens.{Waits};
+ghost use Rattle.lens.specs.Lens.{Queued, Waits, Shows};
+ghost use Rattle.pops.specs.Pops.{popReply};
 ghost use Rattle.pushes.specs.Pushes.{Pushes, replyOf};
 ghost use Rattle.records.specs.Records.{mostKeys, recordsFrom};
-ghost use Rattle.records.specs.Views.{keyCount, Parses};
-ghost use Rattle.machine.specs.State.{mostWaiting, fresh as freshState};
+ghost use Rattle.records.specs.Views.{keyCount, ofParsed, Parses};
 ghost use Rattle.table.specs.Check.{isTable};
-ghost use mathlib.Core.Bool.{true};
 ghost use Rattle.puts.specs.Written.{Written};
 ghost use Rattle.lines.specs.Lines.{lineOf};
-ghost use Rattle.transition.specs.Transiting as transition;
 ghost use Rattle.gate_day.specs.Days.{nextAt, bodyAt, ran, answersOf, fitting, imageEnd, opened, dayAnswers};
-ghost use Rattle.gate_day.specs.Views.{ofNext, opOf, pushBy, popReplyOf, viewOf, Kept, Pieced};
+ghost use Rattle.gate_day.specs.Views.{ofNext, opOf, pushBy, lineFrom, Kept, Takes, Pieced};
+ghost use Rattle.lens.specs.Holds.{Holds, rows, were, are, rowsOf, stateIn};
 use entries::BucketRows;
 use entries::ValueRows;
+use lens::Ledger;
+use lens::Room;
 use plan::Request;
 use pops::Popped;
 use pushes::ActionPush;
-use pushes::Outcome;
 use pushes::Pushed;
+use ready::Gathered;
 use records::Parsed;
+use refusals::Outcome;
 use table::Checked;
 use table::ImageRefusal;
-use transition::Given;
+use tags::GlobalTag;
 
 // The room that the longest line needs, with much to spare; `longest` of specs/ says the same.
 pub const LONGEST: usize = 4096;
 
-// The state between two pieces.
-pub struct Day {
-    pub modes: [u16; plan::MOST_REACTORS],
-    pub scopes: [u64; scopes::ROOM],
-    pub events: [u64; slots::ROOM],
-    pub values: ValueRows,
-    pub buckets: BucketRows,
-    pub counts: lens::Counts,
-    pub held: store_calls::Counts,
-}
-
 // What a piece's run comes to: the state after it, how many bytes its records have, how many bytes their lines, and whether a bad length ended the run.
 pub struct Pieces {
-    pub day: Day,
+    pub day: Room,
     pub used: usize,
     pub written: usize,
     pub ended: bool,
 }
 
 // A fresh manager over an accepted table.
-pub fn start(image: &[u8]) -> Day
+pub fn start(image: &[u8]) -> Room
     requires { ⌜ isTable (now image) ≡ true ⌝ }
-    ensures { λ r. ⌜ Kept (now (image .entry)) r ⌝ }
-    ensures { λ r. ⌜ viewOf (now (image .entry)) r ≡ freshState (now (image .entry)) ⌝ }
+    ensures { λ r. ⌜ Kept (was image) (rowsOf r) ⌝ }
+    ensures { λ r. ⌜ stateIn (was image) (rowsOf r) ≡ freshState (was image) ⌝ }
 {
-    let modes = fresh::modes(image);
-    let n = rows::count(image, rows::REACTOR);
-    let end = n as usize;
-    let scopes = fresh::scopes(image, &modes[..end]);
-    let events = slots::blank_rows();
-    let values = fresh::values();
-    let buckets = fresh::buckets();
-    Day {
-        modes,
-        scopes,
-        events,
-        values,
-        buckets,
-        counts: lens::Counts {
-            waiting: 0,
-            work: 0,
-        },
-        held: store_calls::Counts {
-            values: 0,
-            buckets: 0,
-        },
-    }
+    fresh::room(image)
 }
 
 // What stands at a place of the bytes.
@@ -96,7 +69,7 @@ enum Next {
 
 fn next_at(bytes: &[u8], at: usize) -> Next
     requires { ⌜ at ≤ length (now bytes) ⌝ }
-    ensures { λ r. ⌜ ofNext r ≡ nextAt (now (bytes .entry)) at ⌝ }
+    ensures { λ r. ⌜ ofNext r ≡ nextAt (was bytes) at ⌝ }
 {
     let left = bytes.len() - at;
     if left < records::LENGTH_BYTES {
@@ -117,7 +90,7 @@ fn next_at(bytes: &[u8], at: usize) -> Next
 // The record whose length counts n bytes, its reaction keys over the front of the array.
 fn read(bytes: &[u8], at: usize, n: usize, keys: &mut [u16; records::MOST_KEYS]) -> Parsed
     requires { ⌜ (at + 4 + n ≤ length (now bytes)) × (length (now keys) ≡ mostKeys) ⌝ }
-    ensures { λ r. ⌜ Parses r (now (keys .entry)) (now (keys .exit)) (bodyAt (now (bytes .entry)) at n) ⌝ }
+    ensures { λ r. ⌜ Parses r (was keys) (is keys) (bodyAt (was bytes) at n) ⌝ }
 {
     let start = at + records::LENGTH_BYTES;
     let end = start + n;
@@ -159,21 +132,6 @@ fn op_of(parsed: Parsed) -> Op
     }
 }
 
-// How many reaction keys a record has.
-fn key_count(parsed: Parsed) -> usize
-    ensures { λ r. ⌜ r ≡ keyCount parsed ⌝ }
-{
-    match parsed {
-        Parsed::Plain(_, _, n) => n as usize,
-        Parsed::Network(_, n) => n as usize,
-        Parsed::Control(_) => 0,
-        Parsed::Action(_, _, _, n) => n as usize,
-        Parsed::Transition(_, _, _, _) => 0,
-        Parsed::Pop => 0,
-        Parsed::Malformed => 0,
-    }
-}
-
 fn unpushed(counts: lens::Counts) -> Pushed
     ensures { λ r. ⌜ (replyOf (r .outcome) ≡ ok) × (r .counts ≡ counts) ⌝ }
 {
@@ -183,7 +141,46 @@ fn unpushed(counts: lens::Counts) -> Pushed
     }
 }
 
-// A push by its record; what is no push changes nothing. Every queue's least tag is kept.
+// A push by its record, whose keys are the first of these; what is no push changes nothing.
+fn push_with(
+    image: &[u8],
+    scopes: &[u64; scopes::ROOM],
+    events: &mut [u64; slots::ROOM],
+    counts: lens::Counts,
+    parsed: Parsed,
+    keys: &[u16],
+) -> Pushed
+    requires { ⌜ Waits (now events) counts ⌝ }
+    requires { ⌜ keyCount parsed ≤ length (now keys) ⌝ }
+    ensures { λ r. ⌜ ((s : State) → Queued (s .waiting) (s .work) (was events) counts → Shows s (was scopes) →
+        Pushes (pushBy (was image) s (opOf parsed) (ofParsed parsed (was keys))) r (is events)) ⌝ }
+{
+    match parsed {
+        Parsed::Plain(tag, terminal, n) => {
+            let end = n as usize;
+            pushes::push_event(image, events, counts, tag, terminal, &keys[..end])
+        }
+        Parsed::Network(tag, n) => {
+            let end = n as usize;
+            pushes::push_network_event(image, events, counts, tag, &keys[..end])
+        }
+        Parsed::Control(tag) => pushes::push_control_event(events, counts, tag),
+        Parsed::Action(action, tag, terminal, n) => {
+            let end = n as usize;
+            let p = ActionPush {
+                action,
+                tag,
+                terminal,
+            };
+            pushes::push_action_event(image, scopes, events, counts, p, &keys[..end])
+        }
+        Parsed::Transition(_, _, _, _) => unpushed(counts),
+        Parsed::Pop => unpushed(counts),
+        Parsed::Malformed => unpushed(counts),
+    }
+}
+
+// The same, and every queue's least tag is kept.
 fn push(
     image: &[u8],
     scopes: &[u64; scopes::ROOM],
@@ -196,59 +193,118 @@ fn push(
     requires { ⌜ Waits (now events) counts ⌝ }
     requires { ⌜ keyCount parsed ≤ length (now keys) ⌝ }
     requires { ⌜ Held (now heads) (headsOf (take (counts .waiting) (eventsOf (now events)))) ⌝ }
-    ensures { λ r. ⌜ Pushes (pushBy (now (image .entry)) (scopesOf (now (scopes .entry))) (take (counts .waiting) (eventsOf (now (events .entry)))) (counts .work) parsed (take (keyCount parsed) (now (keys .entry)))) r (now (events .exit)) ⌝ }
-    ensures { λ r. ⌜ Held (now (heads .exit)) (headsOf (take (r .counts .waiting) (eventsOf (now (events .exit))))) ⌝ }
+    ensures { λ r. ⌜ ((s : State) → Queued (s .waiting) (s .work) (was events) counts → Shows s (was scopes) →
+        Pushes (pushBy (was image) s (opOf parsed) (ofParsed parsed (was keys))) r (is events)) ⌝ }
+    ensures { λ r. ⌜ Held (is heads) (headsOf (take (r .counts .waiting) (eventsOf (is events)))) ⌝ }
 {
-    let n = key_count(parsed);
-    let r = push_with(image, scopes, events, counts, parsed, &keys[..n]);
+    let r = push_with(image, scopes, events, counts, parsed, keys);
     let after = r.counts;
     queue::grow(heads, events, counts.waiting, after.waiting);
     r
 }
 
-// The same, of its keys alone.
-fn push_with(
+// What a record is answered.
+enum Said {
+    // a push or a transition
+    Outcome(Outcome),
+    // a pop: its answer stands beside it
+    Popped,
+    Malformed,
+}
+
+struct Answered {
+    said: Said,
+    popped: Popped,
+    after: Ledger,
+}
+
+// An answer that is no pop's.
+fn answer_of(said: Said, after: Ledger) -> Answered
+    ensures { λ r. ⌜ (r .said ≡ said) × ((r .after ≡ after) × (r .popped .gathered .actions ≡ 0)) ⌝ }
+{
+    let counts = after.counts;
+    let gathered = Gathered::nothing_yet();
+    let popped = Popped {
+        found: false,
+        tag: GlobalTag(0, 0),
+        gathered,
+        counts,
+    };
+    Answered {
+        said,
+        popped,
+        after,
+    }
+}
+
+// A record's call on the state in the arrays, with the least tags and a pop's action keys in theirs; what is malformed changes nothing.
+fn take_record(
     image: &[u8],
-    scopes: &[u64; scopes::ROOM],
+    scopes: &mut [u64; scopes::ROOM],
     events: &mut [u64; slots::ROOM],
-    counts: lens::Counts,
+    values: &mut ValueRows,
+    buckets: &mut BucketRows,
+    heads: &mut [u64; queue::HEADS],
+    actions: &mut [u16; slots::MOST_WAITING],
+    given: Ledger,
     parsed: Parsed,
     keys: &[u16],
-) -> Pushed
-    requires { ⌜ Waits (now events) counts ⌝ }
-    ensures { λ r. ⌜ Pushes (pushBy (now (image .entry)) (scopesOf (now (scopes .entry))) (take (counts .waiting) (eventsOf (now (events .entry)))) (counts .work) parsed (now (keys .entry))) r (now (events .exit)) ⌝ }
+) -> Answered
+    requires { ⌜ Kept (now image) (rows scopes events values buckets given) ⌝ }
+    requires { ⌜ Held (now heads) (headsOf (take (given .counts .waiting) (eventsOf (now events)))) ⌝ }
+    requires { ⌜ (length (now actions) ≡ mostWaiting) × (keyCount parsed ≤ length (now keys)) ⌝ }
+    ensures { λ r. ⌜ ((s : State) → rules (was image) s ≡ true → Holds (was image) s (were scopes events values buckets given) →
+        Takes (was image) s (ofParsed parsed (was keys)) (lineFrom (was image) r (is actions)) (are scopes events values buckets (r .after))) ⌝ }
+    ensures { λ r. ⌜ Held (is heads) (headsOf (take (r .after .counts .waiting) (eventsOf (is events)))) ⌝ }
+    ensures { λ r. ⌜ (length (is actions) ≡ mostWaiting) × (r .popped .gathered .actions ≤ mostWaiting) ⌝ }
 {
-    match parsed {
-        Parsed::Plain(tag, terminal, _) => pushes::push_event(
-            image,
-            events,
-            counts,
-            tag,
-            terminal,
-            keys,
-        ),
-        Parsed::Network(tag, _) => pushes::push_network_event(image, events, counts, tag, keys),
-        Parsed::Control(tag) => pushes::push_control_event(events, counts, tag),
-        Parsed::Action(action, tag, terminal, _) => {
-            let p = ActionPush {
-                action,
-                tag,
-                terminal,
-            };
-            pushes::push_action_event(image, scopes, events, counts, p, keys)
+    let counts = given.counts;
+    match op_of(parsed) {
+        Op::Push => {
+            let p = push(image, scopes, events, heads, counts, parsed, keys);
+            let outcome = p.outcome;
+            let left = p.counts;
+            let mut after = given;
+            after.counts = left;
+            answer_of(Said::Outcome(outcome), after)
         }
-        Parsed::Transition(_, _, _, _) => unpushed(counts),
-        Parsed::Pop => unpushed(counts),
-        Parsed::Malformed => unpushed(counts),
+        Op::Pop => {
+            let popped = pops::pop_next_event(image, scopes, events, counts, actions, heads);
+            let left = popped.counts;
+            let mut after = given;
+            after.counts = left;
+            Answered {
+                said: Said::Popped,
+                popped,
+                after,
+            }
+        }
+        Op::Transition(request) => {
+            let t = transition::apply_transition(
+                image,
+                scopes,
+                events,
+                values,
+                buckets,
+                given,
+                request,
+            );
+            let outcome = t.outcome;
+            let after = t.ledger;
+            let left = after.counts;
+            *heads = queue::heads(events, left.waiting);
+            answer_of(Said::Outcome(outcome), after)
+        }
+        Op::Malformed => answer_of(Said::Malformed, given),
     }
 }
 
 // ---- its line
 
 // Done, or by the refusal's number.
-fn say(out: &mut [u8], at: usize, outcome: Outcome) -> usize
+fn say_outcome(out: &mut [u8], at: usize, outcome: Outcome) -> usize
     requires { ⌜ at ≤ length (now out) ⌝ }
-    ensures { λ r. ⌜ Written (now (out .entry)) at (lineOf [] (replyOf outcome)) (now (out .exit)) r ⌝ }
+    ensures { λ r. ⌜ Written (was out) at (lineOf [] (replyOf outcome)) (is out) r ⌝ }
 {
     match outcome {
         Outcome::Done => lines::write_ok(out, at),
@@ -256,16 +312,6 @@ fn say(out: &mut [u8], at: usize, outcome: Outcome) -> usize
             let number = refusals::number_of(n);
             lines::write_refused(out, at, number)
         }
-    }
-}
-
-// What a transition came to.
-fn outcome_of(o: store_calls::Outcome) -> Outcome
-    ensures { λ r. ⌜ replyOf r ≡ transition.replyOf o ⌝ }
-{
-    match o {
-        store_calls::Outcome::Done => Outcome::Done,
-        store_calls::Outcome::Refused(n) => Outcome::Refused(n),
     }
 }
 
@@ -279,7 +325,7 @@ fn say_popped(
 ) -> usize
     requires { ⌜ at ≤ length (now out) ⌝ }
     requires { ⌜ (length (now actions) ≡ mostWaiting) × (p .gathered .actions ≤ mostWaiting) ⌝ }
-    ensures { λ r. ⌜ Written (now (out .entry)) at (lineOf (now (image .entry)) (popReplyOf p (now (actions .entry)))) (now (out .exit)) r ⌝ }
+    ensures { λ r. ⌜ Written (was out) at (lineOf (was image) (popReply p (was actions))) (is out) r ⌝ }
 {
     if p.found {
         let tag = p.tag;
@@ -289,37 +335,52 @@ fn say_popped(
     lines::write_nothing(out, at)
 }
 
+// The line of an answer.
+fn say(
+    out: &mut [u8],
+    at: usize,
+    image: &[u8],
+    a: Answered,
+    actions: &[u16; slots::MOST_WAITING],
+) -> usize
+    requires { ⌜ at ≤ length (now out) ⌝ }
+    requires { ⌜ (length (now actions) ≡ mostWaiting) × (a .popped .gathered .actions ≤ mostWaiting) ⌝ }
+    ensures { λ r. ⌜ Written (was out) at (lineFrom (was image) a (was actions)) (is out) r ⌝ }
+{
+    let said = a.said;
+    match said {
+        Said::Outcome(o) => say_outcome(out, at, o),
+        Said::Popped => {
+            let p = a.popped;
+            say_popped(out, at, image, p, actions)
+        }
+        Said::Malformed => lines::write_refused(out, at, 1),
+    }
+}
+
 // ---- the run
 
 // As many whole records as the bytes have, while a line has room.
-pub fn run_records(image: &[u8], day: Day, bytes: &[u8], out: &mut [u8]) -> Pieces
-    requires { ⌜ Kept (now image) day ⌝ }
-    ensures { λ r. ⌜ Kept (now (image .entry)) (r .day) ⌝ }
-    ensures { λ r. ⌜ Pieced (ran (now (image .entry)) (now (bytes .entry)) (viewOf (now (image .entry)) day) (length (now (out .entry)))) r (now (bytes .entry)) (now (out .entry)) (now (out .exit)) ⌝ }
+pub fn run_records(image: &[u8], day: Room, bytes: &[u8], out: &mut [u8]) -> Pieces
+    requires { ⌜ Kept (now image) (rowsOf day) ⌝ }
+    ensures { λ r. ⌜ Kept (was image) (rowsOf (r .day)) ⌝ }
+    ensures { λ r. ⌜ Pieced (was image) (ran (was image) (was bytes) (stateIn (was image) (rowsOf day)) (length (was out))) r (was bytes) (was out) (is out) ⌝ }
 {
-    let mut modes = day.modes;
     let mut scopes = day.scopes;
     let mut events = day.events;
     let mut values = day.values;
     let mut buckets = day.buckets;
-    let mut counts = day.counts;
-    let mut held = day.held;
-    let mut keys = [0u16; records::MOST_KEYS];
-    let mut actions = [0u16; slots::MOST_WAITING];
+    let mut ledger = day.ledger;
+    let counts = ledger.counts;
     let mut heads = queue::heads(&events, counts.waiting);
+    let mut actions = [0u16; slots::MOST_WAITING];
+    let mut keys = [0u16; records::MOST_KEYS];
     let mut used: usize = 0;
     let mut written: usize = 0;
     let mut ended = false;
-    let mut turns = bytes.len();
-    while 0 < turns {
-        turns -= 1;
-        if out.len() - written < LONGEST {
-            break;
-        }
+    while LONGEST <= out.len() - written {
         match next_at(bytes, used) {
-            Next::Pending => {
-                break;
-            }
+            Next::Pending => break,
             Next::Broken => {
                 written = lines::write_refused(out, written, 1);
                 ended = true;
@@ -328,72 +389,30 @@ pub fn run_records(image: &[u8], day: Day, bytes: &[u8], out: &mut [u8]) -> Piec
             Next::Whole(n) => {
                 let end = end_of(bytes, used, n);
                 let parsed = read(bytes, used, n, &mut keys);
-                match op_of(parsed) {
-                    Op::Push => {
-                        let p = push(
-                            image,
-                            &scopes,
-                            &mut events,
-                            &mut heads,
-                            counts,
-                            parsed,
-                            &keys,
-                        );
-                        counts = p.counts;
-                        let o = p.outcome;
-                        written = say(out, written, o);
-                    }
-                    Op::Pop => {
-                        let p = pops::pop_next_event(
-                            image,
-                            &scopes,
-                            &mut events,
-                            counts,
-                            &mut actions,
-                            &mut heads,
-                        );
-                        counts = p.counts;
-                        written = say_popped(out, written, image, p, &actions);
-                    }
-                    Op::Transition(request) => {
-                        let given = Given {
-                            modes,
-                            request,
-                            counts,
-                            held,
-                        };
-                        let t = transition::apply_transition(
-                            image,
-                            &mut scopes,
-                            &mut events,
-                            &mut values,
-                            &mut buckets,
-                            given,
-                        );
-                        modes = t.modes;
-                        counts = t.counts;
-                        heads = queue::heads(&events, counts.waiting);
-                        held = t.held;
-                        let done = t.outcome;
-                        let o = outcome_of(done);
-                        written = say(out, written, o);
-                    }
-                    Op::Malformed => {
-                        written = lines::write_refused(out, written, 1);
-                    }
-                }
+                let a = take_record(
+                    image,
+                    &mut scopes,
+                    &mut events,
+                    &mut values,
+                    &mut buckets,
+                    &mut heads,
+                    &mut actions,
+                    ledger,
+                    parsed,
+                    &keys,
+                );
+                written = say(out, written, image, a, &actions);
+                ledger = a.after;
                 used = end;
             }
         }
     }
-    let after = Day {
-        modes,
+    let after = Room {
         scopes,
         events,
         values,
         buckets,
-        counts,
-        held,
+        ledger,
     };
     Pieces {
         day: after,
@@ -410,7 +429,7 @@ pub const IMAGE_LENGTH_BYTES: usize = 4;
 
 // Where the image ends that a day begins with.
 pub fn image_end(day: &[u8]) -> usize
-    ensures { λ r. ⌜ r ≡ imageEnd (now (day .entry)) ⌝ }
+    ensures { λ r. ⌜ r ≡ imageEnd (was day) ⌝ }
 {
     let n = rows::four_bytes(day, 0);
     n as usize + IMAGE_LENGTH_BYTES
@@ -418,7 +437,7 @@ pub fn image_end(day: &[u8]) -> usize
 
 // The image by its length: cut short, longer than the largest, or checked.
 pub fn open(day: &[u8]) -> Checked
-    ensures { λ r. ⌜ r ≡ opened (now (day .entry)) ⌝ }
+    ensures { λ r. ⌜ r ≡ opened (was day) ⌝ }
 {
     let end = image_end(day);
     if day.len() < end {
@@ -433,7 +452,7 @@ pub fn open(day: &[u8]) -> Checked
 // All records of a day, and what is said of the bytes at its end.
 fn run_whole(image: &[u8], records: &[u8], out: &mut [u8]) -> usize
     requires { ⌜ isTable (now image) ≡ true ⌝ }
-    ensures { λ r. ⌜ Written (now (out .entry)) 0 (fitting (length (now (out .entry))) (answersOf (now (image .entry)) (freshState (now (image .entry))) (recordsFrom (now (records .entry)) 0))) (now (out .exit)) r ⌝ }
+    ensures { λ r. ⌜ Written (was out) 0 (fitting (length (was out)) (answersOf (was image) (freshState (was image)) (recordsFrom (was records) 0))) (is out) r ⌝ }
 {
     let day = start(image);
     let piece = run_records(image, day, records, out);
@@ -453,7 +472,7 @@ fn run_whole(image: &[u8], records: &[u8], out: &mut [u8]) -> usize
 
 // The lines of a whole day, an image and its records, over the front of the buffer: as many as there are while the longest line still has room.
 pub fn run_day(day: &[u8], out: &mut [u8]) -> usize
-    ensures { λ r. ⌜ Written (now (out .entry)) 0 (fitting (length (now (out .entry))) (dayAnswers (now (day .entry)))) (now (out .exit)) r ⌝ }
+    ensures { λ r. ⌜ Written (was out) 0 (fitting (length (was out)) (dayAnswers (was day))) (is out) r ⌝ }
 {
     if out.len() < LONGEST {
         return 0;

@@ -17,12 +17,12 @@ use Rattle.tags.specs.declared.QueueTag.{QueueTag}
 use Rattle.tags.specs.declared.MappedGlobal.{MappedGlobal}
 use Rattle.tags.specs.declared.MappedGlobal.the-variants as MG
 use Rattle.machine.specs.Heads as H
-use Rattle.machine.specs.Heads.{Least, noTag, least, sooner, rootOf, mapped}
+use Rattle.machine.specs.Heads.{Least, noTag, least, sooner, rootOf, mapped, mappedHead, scopeHeadOf}
 use Rattle.scopes.specs.Scopes.{Scope, blank}
 use Rattle.queue.specs.Queue.{ofEarliest}
 use Rattle.queue.specs.declared.Earliest.{Earliest}
 use Rattle.queue.specs.declared.Earliest.the-variants as E
-use Rattle.heads.specs.Found.{headOf, headHere, bestOf, mappedHead, scopeHeadOf, headIn, leastHead}
+use Rattle.heads.specs.Found.{headOf, headHere, bestOf, headIn, leastHead}
 use Rattle.heads.specs.declared.HeadAt.{HeadAt}
 use Rattle.heads.specs.declared.Head.{Head}
 use Rattle.heads.specs.declared.Head.the-variants as C

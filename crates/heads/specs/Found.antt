@@ -4,10 +4,9 @@ use mathlib.Core.List.{List, map}
 use Prim.Native.Nat.{ℕ}
 use lib.ListN.{getD}
 use Rattle.lists.specs.Lists.{foldl, from}
-use Rattle.tags.specs.Tags.{Clock, toGlobal}
 use Rattle.tags.specs.Views.{ofGlobal, ofQueue}
 use Rattle.machine.specs.Heads as H
-use Rattle.machine.specs.Heads.{Least, noTag, least, sooner, mapped}
+use Rattle.machine.specs.Heads.{Least, noTag, sooner, scopeHeadOf}
 use Rattle.scopes.specs.Scopes.{Scope, blank}
 use Rattle.heads.specs.declared.HeadAt.{HeadAt}
 use Rattle.heads.specs.declared.Head.{Head}
@@ -23,14 +22,6 @@ headOf (C.At h) = headHere h
 -- the best head so far, if one was found
 abbrev pub bestOf : Bool → HeadAt → H.Head
 bestOf found h = cond found (headHere h) H.empty
-
--- a scope's head by its clock and its least tag
-abbrev pub mappedHead : Clock → ℕ → Least → H.Head
-mappedHead k i noTag = H.empty
-mappedHead k i (least t) = mapped i t (toGlobal k t)
-
-unfoldable pub scopeHeadOf : Scope → ℕ → Least → H.Head
-scopeHeadOf s i l = cond (s .active) (mappedHead (s .clock) i l) H.empty
 
 -- scope i's head
 unfoldable pub headIn : List Scope → List Least → ℕ → H.Head

@@ -1,12 +1,13 @@
 // Heads, and the least of them: document 01, "Head: root, its least tag; active scope, its least local tag, mapped."
+// Which head comes first is decided here; pops and the tellings use `root_head`, `scope_head` and `peek`.
 ghost use mathlib.Core.Path.{_≡_};
 ghost use mathlib.Core.Bool.{cond};
 ghost use lib.ListN.{getD};
 ghost use Rattle.tags.specs.Views.{ofQueue};
-ghost use Rattle.machine.specs.Heads.{noTag, least, rootOf, sooner as soonerOf};
+ghost use Rattle.machine.specs.Heads.{noTag, least, rootOf, mappedHead, scopeHeadOf, sooner as soonerOf};
 ghost use Rattle.scopes.specs.Scopes.{mostScopes, scopesOf, scopeOf};
 ghost use Rattle.queue.specs.Queue.{ofEarliest, leastsOf};
-ghost use Rattle.heads.specs.Found.{headOf, headHere, bestOf, mappedHead, scopeHeadOf, headIn, leastHead};
+ghost use Rattle.heads.specs.Found.{headOf, headHere, bestOf, headIn, leastHead};
 use queue::Earliest;
 use scopes::Scope;
 use tags::GlobalTag;

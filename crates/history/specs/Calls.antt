@@ -21,20 +21,24 @@ use Rattle.store.specs.Store as S
 use Rattle.store.specs.Store.{Store}
 use Rattle.table.specs.Check.{isTable}
 use Rattle.machine.specs.Table.{scopes, reactors, modes, actions, setOf}
-use Rattle.machine.specs.State.{Event, State, mostWaiting, rootEvent, activeAt, everAt, withStore, accepted}
+use Rattle.machine.specs.State.{Event, State, mostWaiting, rootEvent, scopeAt, activeAt, everAt, withStore, accepted}
 use Rattle.machine.specs.Heads as H
-use Rattle.machine.specs.Heads.{Head, peek, takeAt, taking, readyOf}
+use Rattle.machine.specs.Heads.{Head, Taking, peek, untaken, takeAt, taking, readyOf}
 use Rattle.machine.specs.Transition as D
 use Rattle.machine.specs.Transition.{Step, insideOf, transition}
 use Rattle.machine.specs.Machine as M
-use Rattle.machine.specs.Machine.{Call, plain, network, control, action, transit, pop, peekTag, onlyControl, ordinaryWork, activeNow, everActive, pushValue, nextStep, takeValue, clearBefore, moveValue, clearAction, Reply, ok, flag, nothing, ready, Outcome, answer, settleWith, asked, need, forStore, keysOk, pushRoot, toRoot, localTag, pushAction, popAt, foundReply, perform}
+use Rattle.machine.specs.Machine.{Call, plain, network, control, action, transit, pop, peekTag, onlyControl, ordinaryWork, activeNow, everActive, pushValue, nextStep, takeValue, clearBefore}
+use Rattle.machine.specs.Machine.{moveValue, clearAction, Reply, ok, flag, nothing, ready, Outcome, answer, settleWith, asked, need, forStore, keysOk, rootMade, pushRoot, toRoot, localTag}
+use Rattle.machine.specs.Machine.{actionPlaced, actionMade, pushAction, popAt, foundReply, perform}
 use Rattle.lists.specs.Every.{no-way, done-is, need-is, either-is, length-from, getD-from}
 use Rattle.kept.specs.Kept.{rules-tell, own-rules}
 use Rattle.kept.specs.Never.{own-performs}
 use Rattle.lists.specs.Each.{Each, each-map, each-append, each-all, each-imp}
 use Rattle.history.specs.Deeds.{bare, actionPushed, transitionEvents, liesIn, deed, madeBy, drops, takesIn, isPop, ifOk, turnsOf, turns-take, turns-few, takesAt, takesInTurn}
-use Rattle.history.specs.History.{Fate, waits, popped, dropped, Entry, History, isWaiting, moment, callAt, outcome, deedAt, newBy, popTakes, resetDrops, takenBy, Fated, Right, Handed, none, some, inOrder}
-use Rattle.history.specs.Marks.{fated, eventsOf, nowIn, marked, each-marked, mark-now, order-marked, entry, added, add-now, add-names, names-none, order-added, Later, later-same, later-then, later-dropped, later-added}
+use Rattle.history.specs.History.{Fate, waits, popped, dropped, Entry, History, isWaiting, moment, callAt, outcome, deedAt, newBy, popTakes, resetDrops, takenBy, Fated, Right, Handed}
+use Rattle.history.specs.History.{none, some, inOrder}
+use Rattle.history.specs.Marks.{fated, eventsOf, nowIn, marked, each-marked, mark-now, order-marked, entry, added, add-now, add-names, names-none, order-added, Later, later-same}
+use Rattle.history.specs.Marks.{later-then, later-dropped, later-added}
 use Rattle.history.specs.Grown.{bares, accepted-grown, transition-grown, reset-bares, history-bares}
 use Rattle.history.specs.Pops.{Open, Pop, pop-turns, none-taken, ready-bare}
 use Rattle.history.specs.Ends.{ended-more, past-pop, past-reset, ended-new, ended-dropped, now-reset, no-pop, Amid, amid-hit, amid-miss, amid-first, amid-last}
@@ -113,6 +117,12 @@ module _ (img : Image) (table : isTable img ≡ true) (cs : List Call) (n : ℕ)
   abbrev s : State
   s = moment img cs n
 
+  abbrev peeked : Head
+  peeked = peek img (s .scopes) (s .waiting)
+
+  abbrev begun : Taking
+  begun = untaken (s .waiting) (s .work)
+
   older : Each (λ x. x .by < n) h
   older = each-imp (Right img cs n) (λ x. x .by < n) (λ x r. r .before) h each
 
@@ -129,7 +139,7 @@ module _ (img : Image) (table : isTable img ≡ true) (cs : List Call) (n : ℕ)
   module _ (d : Call) (c : callAt cs n ≡ d) where
     quiet : isPop (deed img s d) ≡ false → Quiet
     unfolding popTakes
-    quiet h r e = ap (_&& takesInTurn img s (peek img s) r e) (ap (λ c. isPop (deed img s c)) c ∙ h)
+    quiet h r e = ap (_&& takesInTurn img s peeked r e) (ap (λ c. isPop (deed img s c)) c ∙ h)
 
     made-ok : (t : State) → outcome img cs n ≡ answer ok t → newBy img cs n ≡ madeBy (deed img s d)
     unfolding newBy
@@ -156,14 +166,17 @@ module _ (img : Image) (table : isTable img ≡ true) (cs : List Call) (n : ℕ)
   -- ---- what a push accepts, and what a call of the store leaves
 
   root-event : (t : Tag) (ks : List ℕ) (a b c : Bool) (u : State) → pushRoot img s t ks a b c ≡ done u → accepted s (rootEvent t (setOf ks) a b c) ≡ done u
-  unfolding pushRoot
-  root-event t ks a b c u d = need-is (within t) R.ArgumentTag (need-is (keysOk img ks) R.Key d .1) .1
+  unfolding pushRoot rootMade
+  root-event t ks a b c u d =
+      bind-done (rootMade (keysOk img ks) t (setOf ks) a b c) (accepted s) d λ e m q.
+      ap (accepted s) (done-is (need-is (within t) R.ArgumentTag (need-is (keysOk img ks) R.Key m .1) .1)) ∙ q
 
   action-event : (a : ℕ) (t : Tag) (b : Bool) (ks : List ℕ) (u : State) → pushAction img s a t b ks ≡ done u → accepted s (actionPushed img s a t b ks) ≡ done u
-  unfolding pushAction
+  unfolding pushAction actionMade actionPlaced
   action-event a t b ks u d =
-      either-is (toRoot img a) d (λ e r. rw e r) λ e r.
-      bind-done (localTag s (actionScope img a) t) _ r λ x y z. rw (e, y) z
+      bind-done (actionMade img (scopeAt s (actionScope img a)) a t b (keysOk img ks) (setOf ks)) (accepted s) d λ v m q.
+      either-is (toRoot img a) (need-is (within t) R.ArgumentTag (need-is (ltb a (actions img) && keysOk img ks) R.Key m .1) .1) (λ e r. rw e (ap (accepted s) (done-is r) ∙ q)) λ e r.
+      bind-done (localTag (scopeAt s (actionScope img a)) t) _ r λ x y z. rw (e, y) (ap (accepted s) (done-is z) ∙ q)
 
   with-store : (r : Result Refusal Store) (t : State) → (r >>= λ st. done (withStore s st)) ≡ done t → bares t ≡ bares s
   with-store r t d = bind-done r (λ st. done (withStore s st)) d λ st e q. ap bares (sym (done-is q))
@@ -282,7 +295,8 @@ module _ (img : Image) (table : isTable img ≡ true) (cs : List Call) (n : ℕ)
     transits : (r m : ℕ) (reset : Bool) (c : Tag) → callAt cs n ≡ transit r m reset c → (t : State) → transition img r m reset c s ≡ done t → outcome img cs n ≡ answer ok t → After img cs n h
     transits r m true c call t d e =
         let es = transitionEvents img r m true c s in
-        resets (takes-in _ call refl) t e r m c es (made-ok (transit r m true c) call t e) call (transition-grown img r m true c s t d ∙ ap (_++ es) (reset-bares img r m s ∙ ap (λ p. lose p (bares s)) (fun-ext (dropped-is img true (modeScope img m)))))
+        resets (takes-in _ call refl) t e r m c es (made-ok (transit r m true c) call t e) call
+        (transition-grown img r m true c s t d ∙ ap (_++ es) (reset-bares img r m s ∙ ap (λ p. lose p (bares s)) (fun-ext (dropped-is img true (modeScope img m)))))
     transits r m false c call t d e =
         let es = transitionEvents img r m false c s in
         grows (takes-in _ call refl) t e (drops-ok (transit r m false c) call t e) es (made-ok (transit r m false c) call t e)
@@ -290,50 +304,50 @@ module _ (img : Image) (table : isTable img ≡ true) (cs : List Call) (n : ℕ)
 
   -- ---- a pop
 
-  takes-by : callAt cs n ≡ pop → (r : ℕ) (e : Event) → popTakes img cs n r e ≡ takesInTurn img s (peek img s) r e
+  takes-by : callAt cs n ≡ pop → (r : ℕ) (e : Event) → popTakes img cs n r e ≡ takesInTurn img s peeked r e
   unfolding popTakes
-  takes-by call r e = ap (λ c. isPop (deed img s c) && takesInTurn img s (peek img s) r e) call
+  takes-by call r e = ap (λ c. isPop (deed img s c) && takesInTurn img s peeked r e) call
 
-  pops : (d : Head) → peek img s ≡ d → callAt cs n ≡ pop → outcome img cs n ≡ popAt img s d → After img cs n h
+  pops : (d : Head) → peeked ≡ d → callAt cs n ≡ pop → outcome img cs n ≡ popAt img s d → After img cs n h
   pops H.empty top call e =
       stays (λ r e. takes-by call r e ∙ ap (λ d. takesInTurn img s d r e) top) (makes-none pop call refl) (drops-none pop call (λ e. refl))
       (λ p. none top (ap (λ o. o .reply) e) (none-taken n h (each-imp (Right img cs n) (Open n 0) (right-open img cs n) h each))) (answer nothing s) e refl
   pops (H.head q y t) top call e =
       pops-at
-      (pop-turns (Amid img cs n) n t hs hit miss s h (omega (arith, turns-few img t s, room)) now
+      (pop-turns (Amid img cs n) n t hs hit miss (s .waiting) (s .work) h (omega (arith, turns-few img (s .scopes) t begun, room)) now
       (each-imp (Right img cs n) (Open n 0) (right-open img cs n) h each)
       (each-imp (Right img cs n) (Amid img cs n 0) (λ x r. amid-first img cs n x r (fated-more img cs n (x .by) (x .event) (x .fate) (r .fated))) h each))
     where
       hs : List Head
-      hs = turnsOf img t s
+      hs = turnsOf img (s .scopes) t begun
 
-      takes : (r : ℕ) (e : Event) → popTakes img cs n r e ≡ takesAt t (getD (turnsOf img t s) r H.empty) e
+      takes : (r : ℕ) (e : Event) → popTakes img cs n r e ≡ takesAt t (getD hs r H.empty) e
       takes r e = takes-by call r e ∙ ap (λ d. takesInTurn img s d r e) top
 
-      hit : (x : Entry) (r : ℕ) → r ≤ mostWaiting → Amid img cs n r x → isWaiting (x .fate) ≡ true → takesAt t (getD (turnsOf img t s) r H.empty) (x .event) ≡ true → Amid img cs n (suc r) (fated x (popped n r))
+      hit : (x : Entry) (r : ℕ) → r ≤ mostWaiting → Amid img cs n r x → isWaiting (x .fate) ≡ true → takesAt t (getD hs r H.empty) (x .event) ≡ true → Amid img cs n (suc r) (fated x (popped n r))
       hit x r l a w z = amid-hit img cs n x r call l a w (takes r (x .event) ∙ z)
 
-      miss : (x : Entry) (r : ℕ) → Amid img cs n r x → (isWaiting (x .fate) && takesAt t (getD (turnsOf img t s) r H.empty) (x .event)) ≡ false → Amid img cs n (suc r) x
+      miss : (x : Entry) (r : ℕ) → Amid img cs n r x → (isWaiting (x .fate) && takesAt t (getD hs r H.empty) (x .event)) ≡ false → Amid img cs n (suc r) x
       miss x r a z = amid-miss img cs n x r a (ap (isWaiting (x .fate) &&_) (takes r (x .event)) ∙ z)
 
       room : length (s .waiting) ≤ mostWaiting
       room = rules-tell img s (own-rules img table (take n cs)) .sound .queued .room
 
-      pops-at : Pop (Amid img cs n) n t hs hit miss (foldl (takeAt t) (record { state = s; events = [] }) hs) h → After img cs n h
+      pops-at : Pop (Amid img cs n) n t hs hit miss (foldl (takeAt t) begun hs) h → After img cs n h
       pops-at p =
-          let k = turns-take img t s in
+          let k = turns-take img (s .scopes) t begun in
           let took = ap (λ k. map bare (k .events)) (sym k) ∙ p .took in
           record {
             history = p .history;
             later = p .later;
-            now = ap (λ o. bares (o .state)) e ∙ (ap (λ k. bares (k .state)) (sym k) ∙ p .now);
+            now = ap (λ o. bares (o .state)) e ∙ (ap (λ k. map bare (k .waiting)) (sym k) ∙ p .now);
             each =
                 each-imp (Amid img cs n (p .count)) (Right img cs (suc n))
                 (λ x a. amid-last img cs n x (p .count) a (λ q l. takes q (x .event) ∙ ap (λ d. takesAt t d (x .event)) (p .over q l)) (drops-none pop call (λ e. refl) (x .event)))
                 (p .history) (p .each);
             order = p .order ∙ order;
             made = ap eventsOf (names-none n (p .history) (each-imp (Amid img cs n (p .count)) (λ x. x .by < n) (λ x a. a .before) (p .history) (p .each))) ∙ sym (makes-none pop call refl);
-            handed = λ c. some q y t top (sym took) (ap (λ o. o .reply) e ∙ ap ready (sym (ready-bare t (taking img t s .events)) ∙ ap (readyOf t) took));
+            handed = λ c. some q y t top (sym took) (ap (λ o. o .reply) e ∙ ap ready (sym (ready-bare t (taking img (s .scopes) t begun .events)) ∙ ap (readyOf t) took));
           }
 
   -- ---- every call
@@ -351,13 +365,13 @@ module _ (img : Image) (table : isTable img ≡ true) (cs : List Call) (n : ℕ)
       (root-event t [] false true false) e
   called (action a t b ks) c e =
       accepting (not-pop img s c refl) (quiet _ c refl) (takes-in _ c refl) (drops-none _ c (λ e. refl)) (actionPushed img s a t b ks) (made-ok _ c) _
-      (λ u d. action-event a t b ks u (need-is (within t) R.ArgumentTag (need-is (ltb a (actions img) && keysOk img ks) R.Key d .1) .1)) e
+      (action-event a t b ks) e
   called (transit r m reset c) k e =
       let q = quiet _ k refl in
       settled (not-pop img s k refl) q _ e λ t d f.
       transits (not-pop img s k refl) q r m reset c k t
       (need-is (within c) R.ArgumentTag (need-is (eqb (modeReactor img m) r) R.TargetMode (need-is (ltb r (reactors img) && ltb m (modes img)) R.Key d .1) .1) .1) f
-  called pop c e = pops (peek img s) refl c e
+  called pop c e = pops peeked refl c e
   called peekTag c e = alone (not-pop img s c refl) (quiet _ c refl) (makes-none _ c refl) (drops-none _ c (λ e. refl)) _ e refl
   called onlyControl c e = alone (not-pop img s c refl) (quiet _ c refl) (makes-none _ c refl) (drops-none _ c (λ e. refl)) _ e refl
   called ordinaryWork c e = alone (not-pop img s c refl) (quiet _ c refl) (makes-none _ c refl) (drops-none _ c (λ e. refl)) _ e refl

@@ -14,10 +14,11 @@ use Rattle.rows.specs.Lineage.{inSubtree}
 use Rattle.tags.specs.Tags.{Tag, zeroTag, sameTag, delayed}
 use Rattle.schedule.specs.Schedule.{startupsOf, resetsOf}
 use Rattle.machine.specs.Table.{scopes, setOf}
-use Rattle.machine.specs.State.{Event, State, root, rootEvent, stamped, atHead}
-use Rattle.machine.specs.Heads.{Head, empty, head, Taking, takeAt, takeScopes, taking, scopeHead, rootHead, isAt}
+use Rattle.machine.specs.State.{Event, Scope, State, root, rootEvent, scopeAt, stamped, atHead}
+use Rattle.machine.specs.Heads.{Head, empty, head, Taking, untaken, takeAt, takeScopes, taking, scopeHead, rootHead, isAt}
 use Rattle.machine.specs.Transition.{tagOr, insideOf, prepared, plainEvent, firsts, startupRows, timerEvent, timerRows, resetRows, planOf}
-use Rattle.machine.specs.Machine.{Call, plain, network, control, action, transit, pop, peekTag, onlyControl, ordinaryWork, activeNow, everActive, pushValue, nextStep, takeValue, clearBefore, moveValue, clearAction, Reply, ok, refusal, nothing, ready, tag, flag, number, toRoot, localTag, actionEvent}
+use Rattle.machine.specs.Machine.{Call, plain, network, control, action, transit, pop, peekTag, onlyControl, ordinaryWork, activeNow, everActive, pushValue, nextStep, takeValue, clearBefore}
+use Rattle.machine.specs.Machine.{moveValue, clearAction, Reply, ok, refusal, nothing, ready, tag, flag, number, toRoot, localTag, actionEvent}
 
 -- an event as it was accepted, but for its stored tag, which going active sets anew
 abbrev pub bare : Event → Event
@@ -28,8 +29,8 @@ bare e = stamped e zeroTag
 -- "Push of an action: to the root if the table isn't modal, the action isn't logical, or its scope has no parent; else to its scope at the local tag."
 abbrev pub actionPushed : Image → State → ℕ → Tag → Bool → List ℕ → Event
 actionPushed img s a t terminal ks =
-    cond (toRoot img a) (actionEvent root a t t terminal ks)
-    (actionEvent (actionScope img a) a (tagOr t (localTag s (actionScope img a) t)) t terminal ks)
+    cond (toRoot img a) (actionEvent root a t t terminal (setOf ks))
+    (actionEvent (actionScope img a) a (tagOr t (localTag (scopeAt s (actionScope img a)) t)) t terminal (setOf ks))
 
 -- "c delayed by zero"
 abbrev pub soon : Tag → Tag
@@ -131,15 +132,15 @@ ifOk a b (number x) = b
 -- ---- the turns of a pop
 
 -- the scope heads that `takeScopes` takes one after the other, "while the least scope head is t"
-unfoldable pub scopeTurns : ℕ → Image → Tag → Taking → List Head
-scopeTurns zero img t k = []
-scopeTurns (suc n) img t k =
-    let h = scopeHead img (k .state) in
-    cond (isAt t h) (h ∷ scopeTurns n img t (takeAt t k h)) []
+unfoldable pub scopeTurns : ℕ → Image → List Scope → Tag → Taking → List Head
+scopeTurns zero img ss t k = []
+scopeTurns (suc n) img ss t k =
+    let h = scopeHead img ss (k .waiting) in
+    cond (isAt t h) (h ∷ scopeTurns n img ss t (takeAt t k h)) []
 
 -- the heads of a pop at peek tag t: turn 0 is the root's, and then the scopes'
-unfoldable pub turnsOf : Image → Tag → State → List Head
-turnsOf img t s = rootHead s ∷ scopeTurns (length (s .waiting)) img t (takeAt t (record { state = s; events = [] }) (rootHead s))
+unfoldable pub turnsOf : Image → List Scope → Tag → Taking → List Head
+turnsOf img ss t k = rootHead (k .waiting) ∷ scopeTurns (length (k .waiting)) img ss t (takeAt t k (rootHead (k .waiting)))
 
 -- a turn takes "all events at the least local tag" of its queue, if that head is t
 abbrev pub takesAt : Tag → Head → Event → Bool
@@ -149,34 +150,38 @@ takesAt t (head q x g) e = sameTag g t && atHead q x e
 -- what turn r of a pop takes, where the peek is a head, or there is none
 abbrev pub takesInTurn : Image → State → Head → ℕ → Event → Bool
 takesInTurn img s empty r e = false
-takesInTurn img s (head q x t) r e = takesAt t (getD (turnsOf img t s) r empty) e
+takesInTurn img s (head q x t) r e = takesAt t (getD (turnsOf img (s .scopes) t (untaken (s .waiting) (s .work))) r empty) e
 
 -- these are the machine's turns: one after the other they take what its pop takes
-scope-turns-take : (n : ℕ) (img : Image) (t : Tag) (k : Taking) → foldl (takeAt t) k (scopeTurns n img t k) ≡ takeScopes n img t k
+scope-turns-take : (n : ℕ) (img : Image) (ss : List Scope) (t : Tag) (k : Taking) → foldl (takeAt t) k (scopeTurns n img ss t k) ≡ takeScopes n img ss t k
 unfolding foldl scopeTurns takeScopes
-scope-turns-take zero img t k = refl
-scope-turns-take (suc n) img t k = go (isAt t (scopeHead img (k .state))) (scope-turns-take n img t (takeAt t k (scopeHead img (k .state))))
+scope-turns-take zero img ss t k = refl
+scope-turns-take (suc n) img ss t k =
+    let h = scopeHead img ss (k .waiting) in
+    go (isAt t h) (scope-turns-take n img ss t (takeAt t k h))
   where
-    go : (b : Bool) → let h = scopeHead img (k .state) in
-        foldl (takeAt t) (takeAt t k h) (scopeTurns n img t (takeAt t k h)) ≡ takeScopes n img t (takeAt t k h) →
-        foldl (takeAt t) k (cond b (h ∷ scopeTurns n img t (takeAt t k h)) []) ≡ cond b (takeScopes n img t (takeAt t k h)) k
+    go : (b : Bool) → let h = scopeHead img ss (k .waiting) in
+        foldl (takeAt t) (takeAt t k h) (scopeTurns n img ss t (takeAt t k h)) ≡ takeScopes n img ss t (takeAt t k h) →
+        foldl (takeAt t) k (cond b (h ∷ scopeTurns n img ss t (takeAt t k h)) []) ≡ cond b (takeScopes n img ss t (takeAt t k h)) k
     go true r = r
     go false r = refl
 
-pub turns-take : (img : Image) (t : Tag) (s : State) → foldl (takeAt t) (record { state = s; events = [] }) (turnsOf img t s) ≡ taking img t s
+pub turns-take : (img : Image) (ss : List Scope) (t : Tag) (k : Taking) → foldl (takeAt t) k (turnsOf img ss t k) ≡ taking img ss t k
 unfolding foldl turnsOf taking
-turns-take img t s = scope-turns-take (length (s .waiting)) img t (takeAt t (record { state = s; events = [] }) (rootHead s))
+turns-take img ss t k = scope-turns-take (length (k .waiting)) img ss t (takeAt t k (rootHead (k .waiting)))
 
 -- no more of them than events wait, and the root's
-scope-turns-few : (n : ℕ) (img : Image) (t : Tag) (k : Taking) → length (scopeTurns n img t k) ≤ n
+scope-turns-few : (n : ℕ) (img : Image) (ss : List Scope) (t : Tag) (k : Taking) → length (scopeTurns n img ss t k) ≤ n
 unfolding scopeTurns
-scope-turns-few zero img t k = omega arith
-scope-turns-few (suc n) img t k = go (isAt t (scopeHead img (k .state))) (scopeHead img (k .state)) _ (scope-turns-few n img t (takeAt t k (scopeHead img (k .state))))
+scope-turns-few zero img ss t k = omega arith
+scope-turns-few (suc n) img ss t k =
+    let h = scopeHead img ss (k .waiting) in
+    go (isAt t h) h _ (scope-turns-few n img ss t (takeAt t k h))
   where
     go : (b : Bool) (h : Head) (l : List Head) → length l ≤ n → length (cond b (h ∷ l) []) ≤ suc n
     go true h l r = omega arith
     go false h l r = omega arith
 
-pub turns-few : (img : Image) (t : Tag) (s : State) → length (turnsOf img t s) ≤ suc (length (s .waiting))
+pub turns-few : (img : Image) (ss : List Scope) (t : Tag) (k : Taking) → length (turnsOf img ss t k) ≤ suc (length (k .waiting))
 unfolding turnsOf
-turns-few img t s = let f = scope-turns-few (length (s .waiting)) img t (takeAt t (record { state = s; events = [] }) (rootHead s)) in omega arith
+turns-few img ss t k = let f = scope-turns-few (length (k .waiting)) img ss t (takeAt t k (rootHead (k .waiting))) in omega arith

@@ -13,7 +13,8 @@ use Rattle.rows.specs.Bytes.{Image}
 use Rattle.machine.specs.State.{Event, mostWaiting}
 use Rattle.machine.specs.Machine.{Call, pop, ok}
 use Rattle.history.specs.Deeds.{takesIn}
-use Rattle.history.specs.History.{Fate, waits, popped, dropped, Entry, callAt, outcome, deedAt, isWaiting, isTaken, isDropped, openAt, openIn, waitsAt, waitsIn, popTakes, resetDrops, Fated, Ended, Right}
+use Rattle.history.specs.History.{Fate, waits, popped, dropped, Entry, callAt, outcome, deedAt, isWaiting, isTaken, isDropped, openAt, openIn, waitsAt, waitsIn, popTakes, resetDrops}
+use Rattle.history.specs.History.{Fated, Ended, Right}
 use Rattle.history.specs.Marks.{fated, entry}
 use Rattle.history.specs.Pops.{not-taken}
 

@@ -20,7 +20,8 @@ use Rattle.kept.specs.Kept.{rules-tell, own-rules}
 use Rattle.kept.specs.Never.{own-performs}
 use Rattle.lists.specs.Each.{Each, each-imp, each-at, keep-same, count-keep}
 use Rattle.history.specs.Deeds.{bare}
-use Rattle.history.specs.History.{Fate, waits, popped, dropped, Entry, History, moment, callAt, outcome, newBy, resetDrops, isWaiting, isDropped, openAt, waitsAt, waitsThrough, takenBy, Fated, Right, Handed, inOrder, Told}
+use Rattle.history.specs.History.{Fate, waits, popped, dropped, Entry, History, moment, callAt, outcome, newBy, resetDrops, isWaiting, isDropped, openAt, waitsAt, waitsThrough}
+use Rattle.history.specs.History.{takenBy, Fated, Right, Handed, inOrder, Told}
 use Rattle.history.specs.Marks.{eventsOf, nowIn, waits-blind, names-blind, taken-later}
 use Rattle.history.specs.Grown.{bares}
 use Rattle.history.specs.Accepted.{by-call}
@@ -66,7 +67,10 @@ module _ (img : Image) (table : isTable img ≡ true) (cs : List Call) where
   -- what waits after n calls has no other fate yet
   at-now : (n : ℕ) (h : History) → Each (Right img cs n) h → eventsOf (keep (waitsAt n) h) ≡ nowIn h
   unfolding waitsAt
-  at-now n h e = ap eventsOf (keep-same (waitsAt n) (λ x. isWaiting (x .fate)) h (each-imp (Right img cs n) (λ x. waitsAt n x ≡ isWaiting (x .fate)) (λ x r. rw (lt-ltb (x .by) n (r .before)) (go x (x .fate) (r .fated))) h e))
+  at-now n h e =
+      ap eventsOf
+      (keep-same (waitsAt n) (λ x. isWaiting (x .fate)) h (each-imp (Right img cs n) (λ x. waitsAt n x ≡ isWaiting (x .fate))
+      (λ x r. rw (lt-ltb (x .by) n (r .before)) (go x (x .fate) (r .fated))) h e))
     where
       go : (x : Entry) (f : Fate) → Fated img cs n (x .by) (x .event) f → openAt n f ≡ isWaiting f
       go x waits r = refl
@@ -131,7 +135,8 @@ module _ (img : Image) (table : isTable img ≡ true) (cs : List Call) where
 
   -- ---- the reported work
 
-  work-at : (n : ℕ) (h : History) → bares (moment img cs n) ≡ eventsOf (keep (waitsAt n) h) → step img (moment img cs n) ordinaryWork .reply ≡ number (count (λ x. waitsAt n x && ordinary (x .event)) h)
+  work-at : (n : ℕ) (h : History) → bares (moment img cs n) ≡ eventsOf (keep (waitsAt n) h) →
+      step img (moment img cs n) ordinaryWork .reply ≡ number (count (λ x. waitsAt n x && ordinary (x .event)) h)
   unfolding perform
   work-at n h e =
       let s = moment img cs n in

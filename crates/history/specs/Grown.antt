@@ -1,25 +1,26 @@
 -- A transition: once the reset has dropped its events, every step leaves those that wait as they are but for stored tags, or adds one at the end.
 -- Assumes nothing.
 use Prim.Native.Nat.{ℕ}
-use mathlib.Core.Bool.{Bool, true, false}
+use mathlib.Core.Bool.{Bool, true, false, not, _&&_}
 use mathlib.Core.Path.{_≡_, refl, ap, _∙_, sym}
 use mathlib.Core.List.{List, [], _∷_, _++_, map, map-append, append-assoc, append-nil}
 use lib.Dec.{leb}
 use lib.ListN.{length}
-use Rattle.lists.specs.Lists.{lose, every, from}
+use Rattle.lists.specs.Lists.{lose, from}
 use Rattle.lists.specs.Walk.{Result, done, _>>=_, walk, bind-done}
 use Rattle.refusals.specs.declared.Refusal.{Refusal}
 use Rattle.refusals.specs.declared.Refusal.the-variants as R
 use Rattle.rows.specs.Bytes.{Image}
 use Rattle.rows.specs.Rows.{modeScope, startupAction, timerAction}
-use Rattle.tags.specs.Tags.{Tag, Clock, zeroTag, delayed, toLocal}
+use Rattle.tags.specs.Tags.{Tag, zeroTag, delayed}
 use Rattle.store.specs.Store as S
 use Rattle.store.specs.Store.{Store}
 use Rattle.schedule.specs.Schedule.{startupsOf, resetsOf}
 use Rattle.machine.specs.Table.{scopes}
-use Rattle.machine.specs.State.{Event, State, mostWaiting, stamped, withStore, withClock, noted, clockAt, activeAt, accepted, without, restamped}
-use Rattle.machine.specs.Transition.{Plan, isNow, isInside, insideOf, dropped, step1, prepared, left, suspended, activated, maps, stamp, movers, moveValue, entered, changed, turned, held, plainEvent, firsts, startupRows, startups, ifSome, step4, timerImage, timerEvent, timer, timerRows, resetRows, resetEvent, step5, planOf, turnsOn, transition}
-use Rattle.lists.specs.Every.{done-is, need-is, unless-is, either-is}
+use Rattle.machine.specs.State.{Event, Scope, State, mostWaiting, stamped, withStore, scopeAt, accepted, without}
+use Rattle.machine.specs.Transition.{Plan, isNow, isInside, insideOf, dropped, step1, prepared, clockAfter, stamp, entering, Turning, turnBy, oneTurn, withTurn, turned, held, plainEvent}
+use Rattle.machine.specs.Transition.{firsts, startupRows, startups, ifSome, step4, timerImage, timerEvent, timer, timerRows, resetRows, resetEvent, step5, planOf, turnsOn, transition}
+use Rattle.lists.specs.Every.{done-is, unless-is, either-is}
 use Rattle.lists.specs.Each.{map-lose}
 use Rattle.history.specs.Deeds.{bare, soon, whenSome, startupEvents, timerEvents, resetEvents, transitionEvents}
 
@@ -71,26 +72,20 @@ map-stamped : (f : Event → Tag) (l : List Event) → map bare (map (λ e. stam
 map-stamped f [] = refl
 map-stamped f (e ∷ l) = ap (bare e ∷_) (map-stamped f l)
 
-entered-alone : (i : ℕ) (k : Clock) (s t : State) → entered i k s ≡ done t → bares t ≡ bares s
-unfolding entered restamped moveValue
-entered-alone i k s t d =
-    alone-walk (moveValue i k) (λ s e t. stores s (S.moved (s .store) (e .action) (e .stored) (stamp i k e)) t) (movers i (s .waiting)) (restamped (stamp i k) (withClock s i k)) t
-    (need-is (every (maps i k) (s .waiting)) R.MappedTag d .1) ∙
-    map-stamped (stamp i k) (s .waiting)
-
-changed-alone : (p : Plan) (s : State) (i : ℕ) (t : State) → changed p s i ≡ done t → bares t ≡ bares s
-unfolding changed left
-changed-alone p s i t d =
-    either-is (activeAt s i) d
-    (λ a e. either-is (isNow p i) e
-    (λ b r. either-is (isInside p i) (done-is r) (λ c q. ap bares (sym q)) (λ c q. ap bares (sym q)))
-    (λ b r. bind-done (toLocal (clockAt s i) (p .c)) _ r λ x y z. alone s (withClock s i (suspended (clockAt s i) x)) refl z))
-    (λ a e. either-is (isNow p i) e (λ b r. entered-alone i (activated (p .c) (clockAt s i)) s t r) (λ b r. alone s s refl r))
+-- going active moves values and sets stored tags; any other turn leaves the events as they are
+turn-alone : (c : Tag) (now inside : Bool) (i : ℕ) (x : Scope) (es : List Event) (st : Store) (t : Turning) → oneTurn c now inside i x es st ≡ done t → map bare (t .waiting) ≡ map bare es
+unfolding oneTurn turnBy
+turn-alone c now inside i x es st t d =
+    bind-done (clockAfter c now inside x) _ d λ k e r.
+    either-is (now && not (x .active)) r
+    (λ a q. bind-done (entering i k es st) _ q λ u y z. ap (λ t. map bare (t .waiting)) (sym (done-is z)) ∙ map-stamped (stamp i k) es)
+    (λ a q. ap (λ t. map bare (t .waiting)) (sym (done-is q)))
 
 turned-alone : (p : Plan) (s : State) (i : ℕ) (t : State) → turned p s i ≡ done t → bares t ≡ bares s
 unfolding turned
 turned-alone p s i t d =
-    bind-done (changed p s i) (λ u. done (noted u i (isNow p i))) d λ u e r. alone u (noted u i (isNow p i)) refl r ∙ changed-alone p s i u e
+    bind-done (oneTurn (p .c) (isNow p i) (isInside p i) i (scopeAt s i) (s .waiting) (s .store)) _ d λ u e r.
+    alone s (withTurn s i u) (turn-alone (p .c) (isNow p i) (isInside p i) i (scopeAt s i) (s .waiting) (s .store) u e) r
 
 -- ---- steps 4 and 5
 

@@ -13,7 +13,7 @@ use Rattle.rows.specs.Rows.{modeScope}
 use Rattle.rows.specs.Lineage.{inSubtree}
 use Rattle.tags.specs.Tags.{Tag}
 use Rattle.machine.specs.State.{Event, State, ordinary, mostWaiting, fresh}
-use Rattle.machine.specs.Heads.{empty, head, peek, taking, readyOf}
+use Rattle.machine.specs.Heads.{empty, head, peek, untaken, taking, readyOf}
 use Rattle.machine.specs.Machine.{Call, transit, pop, peekTag, ordinaryWork, Reply, ok, nothing, ready, number, Outcome, step, run}
 use Rattle.history.specs.Deeds.{bare, Deed, deed, madeBy, drops, takesIn, isPop, ifOk, takesInTurn}
 
@@ -40,7 +40,9 @@ newBy img cs n = ifOk (madeBy (deedAt img cs n)) [] (outcome img cs n .reply)
 
 -- it is a pop, and its turn r takes the event
 unfoldable pub popTakes : Image → List Call → ℕ → ℕ → Event → Bool
-popTakes img cs n r e = isPop (deedAt img cs n) && takesInTurn img (moment img cs n) (peek img (moment img cs n)) r e
+popTakes img cs n r e =
+    let s = moment img cs n in
+    isPop (deedAt img cs n) && takesInTurn img s (peek img (s .scopes) (s .waiting)) r e
 
 -- it is a reset that was not refused, and the event lies in its subtree
 unfoldable pub resetDrops : Image → List Call → ℕ → Event → Bool
@@ -194,8 +196,10 @@ pub record Right (img : Image) (cs : List Call) (n : ℕ) (x : Entry) : Type 0 w
 -- what a pop answered in the state s, and the events that name it: nothing and none, if there is no head; or an answer made of exactly these,
 -- which are what the machine takes at the peek tag, in order of taking
 pub data Handed (img : Image) (s : State) (r : Reply) (es : List Event) : Type 0 where
-  none : peek img s ≡ empty → r ≡ nothing → es ≡ [] → Handed img s r es
-  some : (q : ℕ) (x t : Tag) → peek img s ≡ head q x t → es ≡ map bare (taking img t s .events) → r ≡ ready (readyOf t es) → Handed img s r es
+  none : peek img (s .scopes) (s .waiting) ≡ empty → r ≡ nothing → es ≡ [] → Handed img s r es
+  some :
+      (q : ℕ) (x t : Tag) → peek img (s .scopes) (s .waiting) ≡ head q x t → es ≡ map bare (taking img (s .scopes) t (untaken (s .waiting) (s .work)) .events) →
+      r ≡ ready (readyOf t es) → Handed img s r es
 
 -- each entry's call comes no earlier than the ones before it
 unfoldable pub inOrder : ℕ → History → Bool

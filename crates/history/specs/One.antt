@@ -17,7 +17,8 @@ use Rattle.rows.specs.Bytes.{Image}
 use Rattle.table.specs.Check.{isTable}
 use Rattle.machine.specs.State.{Event, mostWaiting}
 use Rattle.machine.specs.Machine.{Call}
-use Rattle.history.specs.History.{Fate, waits, popped, dropped, Entry, History, newBy, isTaken, isDropped, openAt, openIn, waitsAt, waitsIn, popTakes, resetDrops, turnFrom, fateAt, orElse, fateFrom, entryOf, entriesFrom, historyOf, Fated, Right, inOrder, Told}
+use Rattle.history.specs.History.{Fate, waits, popped, dropped, Entry, History, newBy, isTaken, isDropped, openAt, openIn, waitsAt, waitsIn, popTakes, resetDrops, turnFrom, fateAt}
+use Rattle.history.specs.History.{orElse, fateFrom, entryOf, entriesFrom, historyOf, Fated, Right, inOrder, Told}
 use Rattle.history.specs.Marks.{eventsOf}
 use Rattle.history.specs.Accepted.{from-here, own-open}
 use Rattle.history.specs.Fates.{fates}
@@ -229,7 +230,8 @@ module _ (img : Image) (cs : List Call) where
       go r (no d) =
           let z : m ≡ n = omega arith in
           let t : keep (names n) (entriesFrom img cs (suc n) k) ≡ [] = none-named n _ (from-here _ (suc n) (from-order k (suc n) (suc n) (omega arith))) in
-          rw (z, keep-append (names n) (map (entryOf img cs n) (newBy img cs n)) (entriesFrom img cs (suc n) k), t, append-nil (keep (names n) (map (entryOf img cs n) (newBy img cs n)))) (block-names n (newBy img cs n))
+          rw (z, keep-append (names n) (map (entryOf img cs n) (newBy img cs n)) (entriesFrom img cs (suc n) k), t, append-nil (keep (names n) (map (entryOf img cs n) (newBy img cs n))))
+          (block-names n (newBy img cs n))
 
 each-of : {A : Type 0} (P : A → Type 0) (l : List A) → ((k : ℕ) (d : A) → k < length l → P (getD l k d)) → Each P l
 each-of P [] h = tt

@@ -13,14 +13,13 @@ use Rattle.lists.specs.Tests.{and-no}
 use Rattle.lists.specs.Lists.{keep, lose, foldl}
 use Rattle.tags.specs.Tags.{Tag, sameTag}
 use Rattle.key_set.specs.Sets.{unionOf, noKeys, wordCount}
-use Rattle.machine.specs.State.{Event, State, ordinary, mostWaiting, inQueue, atHead, without}
-use Rattle.machine.specs.Heads.{Head, empty, head, Taking, takeAt, readyOf, addAction}
+use Rattle.machine.specs.State.{Event, ordinary, mostWaiting, inQueue, atHead}
+use Rattle.machine.specs.Heads.{Head, empty, head, Taking, untaken, taken, takeAt, readyOf, addAction}
 use Rattle.lists.specs.Every.{by-test, no-way}
 use Rattle.lists.specs.Each.{Each, each-imp, map-keep, map-lose, any-map, foldl-map}
 use Rattle.history.specs.Deeds.{bare, takesAt}
 use Rattle.history.specs.History.{Fate, waits, popped, dropped, Entry, History, isWaiting, isTaken, takenIn, takenUpTo, takenBy, inOrder}
 use Rattle.history.specs.Marks.{fated, nowIn, marked, each-marked, mark-blind, mark-now, mark-new, order-marked, Later, later-same, later-then, later-popped}
-use Rattle.history.specs.Grown.{bares}
 
 -- an entry that the pop at place n took in a turn from r on
 abbrev fromTurn : ℕ → ℕ → Fate → Bool
@@ -72,7 +71,7 @@ turns-before n r p h (suc j) l =
 
 -- after r turns of the pop at place n, where P holds of each entry then
 record Turn (P : ℕ → Entry → Type 0) (n r : ℕ) (k : Taking) (h : History) : Type 0 where
-  now : bares (k .state) ≡ nowIn h
+  now : map bare (k .waiting) ≡ nowIn h
   took : map bare (k .events) ≡ takenUpTo n r h
   closed : Each (Open n r) h
   each : Each (P r) h
@@ -105,8 +104,8 @@ module _ (P : ℕ → Entry → Type 0) (n : ℕ) (t : Tag) (hs : List Head)
 
   turn-some :
       (r : ℕ) (k : Taking) (h : History) (q : ℕ) (y : Tag) → ((e : Event) → takesAt t (getD hs r empty) e ≡ atHead q y e) → r ≤ mostWaiting → Turn P n r k h →
-      Next (suc r) (record { state = without (atHead q y) (k .state); events = k .events ++ keep (atHead q y) (k .state .waiting) }) h
-  unfolding takenUpTo takenIn without atHead inQueue
+      Next (suc r) (taken q y k) h
+  unfolding takenUpTo takenIn taken atHead inQueue
   turn-some r k h q y same l t =
       let p = atHead q y in
       let f = popped n r in
@@ -116,10 +115,17 @@ module _ (P : ℕ → Entry → Type 0) (n : ℕ) (t : Tag) (hs : List Head)
         order = order-marked f p h 0;
         turn =
             record {
-              now = map-lose bare p (k .state .waiting) ∙ (ap (lose p) (t .now) ∙ sym (mark-now f p refl h));
+              now = map-lose bare p (k .waiting) ∙ (ap (lose p) (t .now) ∙ sym (mark-now f p refl h));
               took =
-                  map-append bare (k .events) (keep p (k .state .waiting)) ∙
-                  rw (t .took, turns-before n r p h r (le-refl r), map-keep bare p (k .state .waiting), t .now, mark-new f p (isTaken n r) (simp (eq-eqb n n refl, eq-eqb r r refl)) refl h (each-imp (Open n r) (λ x. isTaken n r (x .fate) ≡ false) (λ x. not-taken n r (x .fate)) h (t .closed)));
+                  map-append bare (k .events) (keep p (k .waiting)) ∙
+                  rw (
+                    t .took,
+                    turns-before n r p h r (le-refl r),
+                    map-keep bare p (k .waiting),
+                    t .now,
+                    mark-new f p (isTaken n r) (simp (eq-eqb n n refl, eq-eqb r r refl)) refl h
+                        (each-imp (Open n r) (λ x. isTaken n r (x .fate) ≡ false) (λ x. not-taken n r (x .fate)) h (t .closed)),
+                  );
               closed = each-marked f p (Open n r) (Open n (suc r)) (λ x o w. open-more n r (x .fate) o) (λ x o w z. rw (lt-leb (suc r) r (omega arith)) (and-no (eqb n n))) h (t .closed);
               each =
                   each-marked f p (P r) (P (suc r)) (λ x z w. miss x r z (ap (isWaiting (x .fate) &&_) (same (x .event)) ∙ w))
@@ -177,7 +183,7 @@ module _ (P : ℕ → Entry → Type 0) (n : ℕ) (t : Tag) (hs : List Head)
     pub history : History
     pub later : Later n h history
     pub order : inOrder 0 history ≡ inOrder 0 h
-    pub now : bares (k .state) ≡ nowIn history
+    pub now : map bare (k .waiting) ≡ nowIn history
     pub took : map bare (k .events) ≡ takenBy n history
     pub count : ℕ
     pub over : (q : ℕ) → count ≤ q → getD hs q empty ≡ empty
@@ -201,12 +207,12 @@ module _ (P : ℕ → Entry → Type 0) (n : ℕ) (t : Tag) (hs : List Head)
       full r l h e = let z : r + (suc mostWaiting - r) ≡ suc mostWaiting = omega arith in sym (taken-end n r (suc mostWaiting - r) h e) ∙ ap (λ j. takenUpTo n j h) z
 
   pub pop-turns :
-      (s : State) (h : History) → length hs ≤ suc mostWaiting → bares s ≡ nowIn h → Each (Open n 0) h → Each (P 0) h →
-      Pop (foldl (takeAt t) (record { state = s; events = [] }) hs) h
+      (es : List Event) (work : ℕ) (h : History) → length hs ≤ suc mostWaiting → map bare es ≡ nowIn h → Each (Open n 0) h → Each (P 0) h →
+      Pop (foldl (takeAt t) (untaken es work) hs) h
   unfolding takenUpTo
-  pop-turns s h few now closed each =
+  pop-turns es work h few now closed each =
       whole
-      (all-turns hs 0 (record { state = s; events = [] }) h (λ j. let z : 0 + j ≡ j = omega arith in ap (λ j. getD hs j empty) z) (omega arith)
+      (all-turns hs 0 (untaken es work) h (λ j. let z : 0 + j ≡ j = omega arith in ap (λ j. getD hs j empty) z) (omega arith)
       (record { now = now; took = refl; closed = closed; each = each }))
 
 -- a pop that found no head took nothing
@@ -218,5 +224,10 @@ none-taken n h e = let z : 0 + suc mostWaiting ≡ suc mostWaiting = omega arith
 pub ready-bare : (t : Tag) (es : List Event) → readyOf t (map bare es) ≡ readyOf t es
 unfolding readyOf ordinary addAction
 ready-bare t es =
-    rw
-    (any-map bare (λ e. e .terminal) es, any-map bare ordinary es, any-map bare (λ e. e .network) es, foldl-map bare (λ ws e. unionOf ws (e .reactions)) es (noKeys wordCount), foldl-map bare addAction es [])
+    rw (
+      any-map bare (λ e. e .terminal) es,
+      any-map bare ordinary es,
+      any-map bare (λ e. e .network) es,
+      foldl-map bare (λ ws e. unionOf ws (e .reactions)) es (noKeys wordCount),
+      foldl-map bare addAction es [],
+    )

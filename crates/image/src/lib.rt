@@ -1,5 +1,5 @@
-// The image reader: it carries the lent image and its place, and moves on. Document 01, "The image reader carries the lent image and its place".
-// Few thin calls: each takes the reader apart for a covered function, and the one that moves makes it anew.
+// The image reader: document 01, "The image reader carries the lent image and its place". It moves on from field to field.
+// Few thin calls: each takes the reader apart for a covered function, and the one that moves makes it anew. `gather` of schedule goes by it.
 ghost use mathlib.Core.Path.{_≡_};
 ghost use Prim.Native.Nat.{_+_, _%_, _^_};
 ghost use Rattle.rows.specs.Bytes.{be};

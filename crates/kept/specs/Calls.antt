@@ -1,7 +1,7 @@
 -- Every call keeps the state rules. Assumes the accepted table.
 use Prim.Native.Nat.{ℕ, zero, suc}
 use mathlib.Core.Bool.{Bool, true, false, cond, not, _&&_, _||_}
-use mathlib.Core.Path.{_≡_, refl}
+use mathlib.Core.Path.{_≡_, refl, ap, _∙_}
 use mathlib.Core.List.{List, []}
 use lib.Dec.{ltb, eqb}
 use lib.ListN.{length}
@@ -19,11 +19,13 @@ use Rattle.store.specs.Store as S
 use Rattle.store.specs.Store.{Store, storeRules}
 use Rattle.schedule.specs.Schedule.{isModal}
 use Rattle.machine.specs.Table.{scopes, reactors, modes, actions, hasParent, setOf}
-use Rattle.machine.specs.State.{State, root, rootEvent, clockAt, activeAt, everAt, withStore}
+use Rattle.machine.specs.State.{Event, Scope, State, root, rootEvent, atHead, accepted, without, scopeAt, clockAt, activeAt, everAt, withQueue, withStore}
 use Rattle.machine.specs.Heads as H
-use Rattle.machine.specs.Heads.{Head, Taking, takeAt, takeScopes, taking, scopeHead, rootHead, isAt, peek}
+use Rattle.machine.specs.Heads.{Head, Taking, untaken, taken, takeAt, takeScopes, taking, scopeHead, rootHead, isAt, peek}
 use Rattle.machine.specs.Transition.{Step, isTag}
-use Rattle.machine.specs.Machine.{Call, plain, network, control, action, transit, pop, peekTag, onlyControl, ordinaryWork, activeNow, everActive, pushValue, nextStep, takeValue, clearBefore, moveValue, clearAction, Reply, flag, settleWith, asked, need, forStore, keysOk, pushRoot, toRoot, localTag, actionEvent, pushAction, popAt, foundReply, queueRules, eventRules, imageRules, perform}
+use Rattle.machine.specs.Machine.{Call, plain, network, control, action, transit, pop, peekTag, onlyControl, ordinaryWork, activeNow, everActive, pushValue, nextStep, takeValue, clearBefore}
+use Rattle.machine.specs.Machine.{moveValue, clearAction, Reply, flag, settleWith, asked, need, forStore, keysOk, rootMade, pushRoot, toRoot, localTag, actionEvent, actionPlaced, actionMade}
+use Rattle.machine.specs.Machine.{pushAction, popAt, foundReply, queueRules, eventRules, imageRules, perform}
 use Rattle.lists.specs.Every.{by-test, both, or-right, not-both, done-is, need-is, either-is}
 use Rattle.kept.specs.Stored.{push-keeps, take-keeps, clear-keeps, clearBefore-keeps, move-keeps}
 use Rattle.kept.specs.Limits.{local-within}
@@ -34,23 +36,31 @@ use Rattle.kept.specs.Steps.{Ruled, ruled-store, ruled-accepts, ruled-wi
 -- ---- a pop only takes events out
 
 module _ (img : Image) where
-  take-ruled : (t : Tag) (k : Taking) (h : Head) → Ruled img (k .state) → Ruled img (takeAt t k h .state)
-  take-ruled t k H.empty r = r
-  take-ruled t k (H.head q x g) r = by-test (sameTag g t) (λ e. rw e (ruled-without img _ (k .state) r)) (λ e. rw e r)
+  -- the state while a pop takes
+  abbrev still : State → Taking → State
+  still s k = withQueue s (k .waiting) (k .work)
 
-  scopes-ruled : (n : ℕ) (t : Tag) (k : Taking) → Ruled img (k .state) → Ruled img (takeScopes n img t k .state)
+  take-ruled : (s : State) (t : Tag) (k : Taking) (h : Head) → Ruled img (still s k) → Ruled img (still s (takeAt t k h))
+  take-ruled s t k H.empty r = r
+  take-ruled s t k (H.head q x g) r = unfold without taken in by-test (sameTag g t) (λ e. rw e (ruled-without img (atHead q x) (still s k) r)) (λ e. rw e r)
+
+  scopes-ruled : (s : State) (n : ℕ) (ss : List Scope) (t : Tag) (k : Taking) → Ruled img (still s k) → Ruled img (still s (takeScopes n img ss t k))
   unfolding takeScopes
-  scopes-ruled zero t k r = r
-  scopes-ruled (suc n) t k r = go (isAt t (scopeHead img (k .state))) (scopes-ruled n t (takeAt t k (scopeHead img (k .state))) (take-ruled t k (scopeHead img (k .state)) r))
+  scopes-ruled s zero ss t k r = r
+  scopes-ruled s (suc n) ss t k r =
+      let h = scopeHead img ss (k .waiting) in
+      go (isAt t h) (scopes-ruled s n ss t (takeAt t k h) (take-ruled s t k h r))
     where
-      go : (b : Bool) → Ruled img (takeScopes n img t (takeAt t k (scopeHead img (k .state))) .state) → Ruled img (cond b (takeScopes n img t (takeAt t k (scopeHead img (k .state)))) k .state)
+      go : (b : Bool) → let next = takeScopes n img ss t (takeAt t k (scopeHead img ss (k .waiting))) in Ruled img (still s next) → Ruled img (still s (cond b next k))
       go true x = x
       go false x = r
 
   pop-ruled : (s : State) (h : Head) → Ruled img s → Ruled img (popAt img s h .state)
   unfolding taking
   pop-ruled s H.empty r = r
-  pop-ruled s (H.head q x t) r = scopes-ruled (length (s .waiting)) t _ (take-ruled t (record { state = s; events = [] }) (rootHead s) r)
+  pop-ruled s (H.head q x t) r =
+      let k = untaken (s .waiting) (s .work) in
+      scopes-ruled s (length (s .waiting)) (s .scopes) t _ (take-ruled s t k (rootHead (s .waiting)) r)
 
 module _ (img : Image) (tb : Table img) (s : State) (h : Ruled img s) where
   -- "A refusal returns its number and the state as given."
@@ -65,21 +75,22 @@ module _ (img : Image) (tb : Table img) (s : State) (h : Ruled img s) where
   -- ---- pushes
 
   push-ruled : (t : Tag) (ks : List ℕ) (a b c : Bool) (u : State) → pushRoot img s t ks a b c ≡ done u → Ruled img u
-  unfolding pushRoot
+  unfolding pushRoot rootMade
   push-ruled t ks a b c u d =
-      let x = need-is (keysOk img ks) R.Key d in
+      bind-done (rootMade (keysOk img ks) t (setOf ks) a b c) (accepted s) d λ e m q.
+      let x = need-is (keysOk img ks) R.Key m in
       let y = need-is (within t) R.ArgumentTag (x .1) in
-      ruled-accepts img s (rootEvent t (setOf ks) a b c) u h (root-proper img s t (setOf ks) a b c (y .0) (set-exist img ks (x .0))) (y .1)
+      ruled-accepts img s (rootEvent t (setOf ks) a b c) u h (root-proper img s t (setOf ks) a b c (y .0) (set-exist img ks (x .0))) (ap (accepted s) (done-is (y .1)) ∙ q)
 
   module _ (a : ℕ) (t : Tag) (b : Bool) (ks : List ℕ) (l : ltb a (actions img) ≡ true) (k : keysOk img ks ≡ true) (w : within t ≡ true) where
-    action-rules : (q : ℕ) (x : Tag) → within x ≡ true → eventRules img (actionEvent q a x t b ks) ≡ true
-    action-rules q x v = with-action img (actionEvent q a x t b ks) v (set-exist img ks k) l w
+    action-rules : (q : ℕ) (x : Tag) → within x ≡ true → eventRules img (actionEvent q a x t b (setOf ks)) ≡ true
+    action-rules q x v = with-action img (actionEvent q a x t b (setOf ks)) v (set-exist img ks k) l w
 
-    root-action : proper img s (actionEvent root a t t b ks) ≡ true
+    root-action : proper img s (actionEvent root a t t b (setOf ks)) ≡ true
     unfolding proper queueRules imageRules
     root-action = both (action-rules root t w) refl
 
-    scope-action : (x : Tag) → toRoot img a ≡ false → localTag s (actionScope img a) t ≡ done x → proper img s (actionEvent (actionScope img a) a x t b ks) ≡ true
+    scope-action : (x : Tag) → toRoot img a ≡ false → localTag (scopeAt s (actionScope img a)) t ≡ done x → proper img s (actionEvent (actionScope img a) a x t b (setOf ks)) ≡ true
     unfolding proper queueRules imageRules localTag toRoot
     scope-action x e y =
         let q = actionScope img a in
@@ -90,11 +101,12 @@ module _ (img : Image) (tb : Table img) (s : State) (h : Ruled img s) where
         (both (or-right (eqb q root) (both (lt-ltb q (scopes img) (action-scope img tb a (ltb-true a (actions img) l))) p))
         (or-right (eqb q root) (rw (done-is (o .1)) at (o .0))))
 
-    action-ruled : (u : State) → pushAction img s a t b ks ≡ done u → Ruled img u
-    unfolding pushAction
-    action-ruled u d =
-        either-is (toRoot img a) d (λ e r. ruled-accepts img s (actionEvent root a t t b ks) u h root-action r) λ e r.
-        bind-done (localTag s (actionScope img a) t) _ r λ x y z. ruled-accepts img s (actionEvent (actionScope img a) a x t b ks) u h (scope-action x e y) z
+    action-ruled : (e : Event) (u : State) → actionPlaced img (scopeAt s (actionScope img a)) a t b (setOf ks) ≡ done e → accepted s e ≡ done u → Ruled img u
+    unfolding actionPlaced
+    action-ruled v u d q =
+        either-is (toRoot img a) d (λ e r. ruled-accepts img s (actionEvent root a t t b (setOf ks)) u h root-action (ap (accepted s) (done-is r) ∙ q)) λ e r.
+        bind-done (localTag (scopeAt s (actionScope img a)) t) _ r λ x y z. ruled-accepts img s (actionEvent (actionScope img a) a x t b (setOf ks)) u h (scope-action x e y)
+        (ap (accepted s) (done-is z) ∙ q)
 
   -- ---- the store: an action and a tag
 
@@ -109,21 +121,22 @@ module _ (img : Image) (tb : Table img) (s : State) (h : Ruled img s) where
   -- ---- every call
 
   pub perform-ruled : (c : Call) → Ruled img (perform img s c .state)
-  unfolding perform
+  unfolding perform pushAction actionMade
   perform-ruled (plain t b ks) = settled _ _ (push-ruled t ks b false false)
   perform-ruled (network t ks) = settled _ _ (push-ruled t ks false false true)
   perform-ruled (control t) = settled _ _ (push-ruled t [] false true false)
   perform-ruled (action a t b ks) =
       settled _ _ λ u d.
-      let x = need-is (ltb a (actions img) && keysOk img ks) R.Key d in
+      bind-done (actionMade img (scopeAt s (actionScope img a)) a t b (keysOk img ks) (setOf ks)) (accepted s) d λ e m q.
+      let x = need-is (ltb a (actions img) && keysOk img ks) R.Key m in
       let y = need-is (within t) R.ArgumentTag (x .1) in
-      action-ruled a t b ks (and-left (ltb a (actions img)) _ (x .0)) (and-right (ltb a (actions img)) _ (x .0)) (y .0) u (y .1)
+      action-ruled a t b ks (and-left (ltb a (actions img)) _ (x .0)) (and-right (ltb a (actions img)) _ (x .0)) (y .0) e u (y .1) q
   perform-ruled (transit r m reset c) =
       settled _ _ λ u d.
       let x = need-is (ltb r (reactors img) && ltb m (modes img)) R.Key d in
       let y = need-is (within c) R.ArgumentTag (need-is (eqb (modeReactor img m) r) R.TargetMode (x .1) .1) in
       ruled-transition img tb r m reset c s u (ltb-true m (modes img) (and-right (ltb r (reactors img)) _ (x .0))) (y .0) h (y .1)
-  perform-ruled pop = pop-ruled img s (peek img s) h
+  perform-ruled pop = pop-ruled img s (peek img (s .scopes) (s .waiting)) h
   perform-ruled peekTag = h
   perform-ruled onlyControl = h
   perform-ruled ordinaryWork = h

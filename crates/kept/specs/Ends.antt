@@ -12,8 +12,9 @@ use Rattle.lists.specs.Walk.{done, refused}
 use Rattle.rows.specs.Bytes.{Image}
 use Rattle.tags.specs.Tags.{Tag, Answer, sameTag, earlier, toGlobal}
 use Rattle.machine.specs.Table.{scopes}
-use Rattle.machine.specs.State.{Event, State, inQueue, atHead, clockAt, activeAt, without}
-use Rattle.machine.specs.Heads.{Head, empty, head, Least, noTag, least, lesser, leastOf, mapped, scopeOf, headAt, sooner, scopeHead, isAt, Taking, takeAt, takeScopes, taking, rootHead}
+use Rattle.machine.specs.State.{Event, Scope, inQueue, atHead, scopeIn}
+use Rattle.machine.specs.Heads.{Head, empty, head, Least, noTag, least, lesser, leastOf, mapped, mappedHead, scopeHeadOf, headAt, sooner, scopeHead, isAt, Taking, taken, takeAt, takeScopes}
+use Rattle.machine.specs.Heads.{taking, rootHead}
 use Rattle.lists.specs.Every.{by-test, no-way, both, or-left, or-right}
 
 lose-fewer : {A : Type 0} (p : A → Bool) (l : List A) → any p l ≡ true → length (lose p l) < length l
@@ -53,91 +54,91 @@ least-there q (a ∷ l) t e = go (inQueue q a) refl (leastOf q l) refl e (least-
 no-head : {P : Type 0} {q : ℕ} {x g : Tag} → empty ≡ head q x g → P
 no-head e = absurd (let z : _≡_ {A = ℕ} 0 1 = cc in omega arith)
 
-abbrev There : State → Head → Type 0
-There s h = (q : ℕ) (x g : Tag) → h ≡ head q x g → any (atHead q x) (s .waiting) ≡ true
+abbrev There : List Event → Head → Type 0
+There es h = (q : ℕ) (x g : Tag) → h ≡ head q x g → any (atHead q x) es ≡ true
 
-head-there : (s : State) (i : ℕ) → There s (headAt s i)
-unfolding headAt
-head-there s i q x g e = by-test (activeAt s i) (λ a. scope (leastOf i (s .waiting)) refl (rw a at e)) (λ a. no-head (rw a at e))
+head-there : (ss : List Scope) (es : List Event) (i : ℕ) → There es (headAt ss es i)
+unfolding headAt scopeHeadOf
+head-there ss es i q x g e = by-test (scopeIn ss i .active) (λ a. scope (leastOf i es) refl (rw a at e)) (λ a. no-head (rw a at e))
   where
-    image : (t : Tag) (a : Answer) → leastOf i (s .waiting) ≡ least t → mapped i t a ≡ head q x g → any (atHead q x) (s .waiting) ≡ true
-    image t (done j) y e = let p : i ≡ q = cc in let r : t ≡ x = cc in rw (← p, ← r) (least-there i (s .waiting) t y)
+    image : (t : Tag) (a : Answer) → leastOf i es ≡ least t → mapped i t a ≡ head q x g → any (atHead q x) es ≡ true
+    image t (done j) y e = let p : i ≡ q = cc in let r : t ≡ x = cc in rw (← p, ← r) (least-there i es t y)
     image t (refused n) y e = no-head e
 
-    scope : (m : Least) → leastOf i (s .waiting) ≡ m → scopeOf s i m ≡ head q x g → any (atHead q x) (s .waiting) ≡ true
+    scope : (m : Least) → leastOf i es ≡ m → mappedHead (scopeIn ss i .clock) i m ≡ head q x g → any (atHead q x) es ≡ true
     scope noTag y e = no-head e
-    scope (least t) y e = image t (toGlobal (clockAt s i) t) y e
+    scope (least t) y e = image t (toGlobal (scopeIn ss i .clock) t) y e
 
-sooner-there : (s : State) (h k : Head) → There s h → There s k → There s (sooner h k)
-sooner-there s empty k a b = b
-sooner-there s (head q t g) empty a b = a
-sooner-there s (head q t g) (head r u j) a b = by-test (earlier j g) (λ e. rw e b) (λ e. rw e a)
+sooner-there : (es : List Event) (h k : Head) → There es h → There es k → There es (sooner h k)
+sooner-there es empty k a b = b
+sooner-there es (head q t g) empty a b = a
+sooner-there es (head q t g) (head r u j) a b = by-test (earlier j g) (λ e. rw e b) (λ e. rw e a)
 
-fold-there : (s : State) (l : List ℕ) (h : Head) → There s h → There s (foldl sooner h (map (headAt s) l))
+fold-there : (ss : List Scope) (es : List Event) (l : List ℕ) (h : Head) → There es h → There es (foldl sooner h (map (headAt ss es) l))
 unfolding foldl
-fold-there s [] h a = a
-fold-there s (i ∷ l) h a = fold-there s l (sooner h (headAt s i)) (sooner-there s h (headAt s i) a (head-there s i))
+fold-there ss es [] h a = a
+fold-there ss es (i ∷ l) h a = fold-there ss es l (sooner h (headAt ss es i)) (sooner-there es h (headAt ss es i) a (head-there ss es i))
 
-scope-there : (img : Image) (s : State) → There s (scopeHead img s)
+scope-there : (img : Image) (ss : List Scope) (es : List Event) → There es (scopeHead img ss es)
 unfolding scopeHead
-scope-there img s = fold-there s (from 0 (scopes img)) empty (λ q x g e. no-head e)
+scope-there img ss es = fold-there ss es (from 0 (scopes img)) empty (λ q x g e. no-head e)
 
 -- ---- each turn takes an event
 
-takes : (t : Tag) (k : Taking) (h : Head) → There (k .state) h → isAt t h ≡ true → length (takeAt t k h .state .waiting) < length (k .state .waiting)
-unfolding without
+takes : (t : Tag) (k : Taking) (h : Head) → There (k .waiting) h → isAt t h ≡ true → length (takeAt t k h .waiting) < length (k .waiting)
+unfolding taken
 takes t k empty a e = no-way e
-takes t k (head q x g) a e = rw e (lose-fewer (atHead q x) (k .state .waiting) (a q x g refl))
+takes t k (head q x g) a e = rw e (lose-fewer (atHead q x) (k .waiting) (a q x g refl))
 
-module _ (img : Image) (t : Tag) where
+module _ (img : Image) (ss : List Scope) (t : Tag) where
   abbrev next : Taking → Taking
-  next k = takeAt t k (scopeHead img (k .state))
+  next k = takeAt t k (scopeHead img ss (k .waiting))
 
-  fewer : (k : Taking) → isAt t (scopeHead img (k .state)) ≡ true → length (next k .state .waiting) < length (k .state .waiting)
-  fewer k e = takes t k (scopeHead img (k .state)) (scope-there img (k .state)) e
+  fewer : (k : Taking) → isAt t (scopeHead img ss (k .waiting)) ≡ true → length (next k .waiting) < length (k .waiting)
+  fewer k e = takes t k (scopeHead img ss (k .waiting)) (scope-there img ss (k .waiting)) e
 
   -- as many turns as events wait are enough: more change nothing
-  enough : (n m : ℕ) (k : Taking) → length (k .state .waiting) ≤ n → length (k .state .waiting) ≤ m → takeScopes n img t k ≡ takeScopes m img t k
+  enough : (n m : ℕ) (k : Taking) → length (k .waiting) ≤ n → length (k .waiting) ≤ m → takeScopes n img ss t k ≡ takeScopes m img ss t k
   unfolding takeScopes
   enough zero zero k a b = refl
-  enough zero (suc m) k a b = by-test (isAt t (scopeHead img (k .state))) (λ e. absurd (omega (arith, fewer k e))) (λ e. rw e)
-  enough (suc n) zero k a b = by-test (isAt t (scopeHead img (k .state))) (λ e. absurd (omega (arith, fewer k e))) (λ e. rw e)
-  enough (suc n) (suc m) k a b = go (isAt t (scopeHead img (k .state))) refl (enough n m (next k))
+  enough zero (suc m) k a b = by-test (isAt t (scopeHead img ss (k .waiting))) (λ e. absurd (omega (arith, fewer k e))) (λ e. rw e)
+  enough (suc n) zero k a b = by-test (isAt t (scopeHead img ss (k .waiting))) (λ e. absurd (omega (arith, fewer k e))) (λ e. rw e)
+  enough (suc n) (suc m) k a b = go (isAt t (scopeHead img ss (k .waiting))) refl (enough n m (next k))
     where
-      go : (c : Bool) → isAt t (scopeHead img (k .state)) ≡ c →
-          (length (next k .state .waiting) ≤ n → length (next k .state .waiting) ≤ m → takeScopes n img t (next k) ≡ takeScopes m img t (next k)) →
-          cond c (takeScopes n img t (next k)) k ≡ cond c (takeScopes m img t (next k)) k
+      go : (c : Bool) → isAt t (scopeHead img ss (k .waiting)) ≡ c →
+          (length (next k .waiting) ≤ n → length (next k .waiting) ≤ m → takeScopes n img ss t (next k) ≡ takeScopes m img ss t (next k)) →
+          cond c (takeScopes n img ss t (next k)) k ≡ cond c (takeScopes m img ss t (next k)) k
       go true e h = let l = fewer k e in h (omega (arith, l)) (omega (arith, l))
       go false e h = refl
 
   -- all that the loop still takes
   unfoldable pub takesAll : Taking → Taking
-  takesAll k = takeScopes (length (k .state .waiting)) img t k
+  takesAll k = takeScopes (length (k .waiting)) img ss t k
 
-  ends : (n : ℕ) (k : Taking) → length (k .state .waiting) ≤ n → isAt t (scopeHead img (takeScopes n img t k .state)) ≡ false
+  ends : (n : ℕ) (k : Taking) → length (k .waiting) ≤ n → isAt t (scopeHead img ss (takeScopes n img ss t k .waiting)) ≡ false
   unfolding takeScopes
-  ends zero k l = by-test (isAt t (scopeHead img (k .state))) (λ e. absurd (omega (arith, fewer k e))) (λ e. e)
-  ends (suc n) k l = go (isAt t (scopeHead img (k .state))) refl (ends n (next k))
+  ends zero k l = by-test (isAt t (scopeHead img ss (k .waiting))) (λ e. absurd (omega (arith, fewer k e))) (λ e. e)
+  ends (suc n) k l = go (isAt t (scopeHead img ss (k .waiting))) refl (ends n (next k))
     where
-      go : (b : Bool) → isAt t (scopeHead img (k .state)) ≡ b →
-          (length (next k .state .waiting) ≤ n → isAt t (scopeHead img (takeScopes n img t (next k) .state)) ≡ false) →
-          isAt t (scopeHead img (cond b (takeScopes n img t (next k)) k .state)) ≡ false
+      go : (b : Bool) → isAt t (scopeHead img ss (k .waiting)) ≡ b →
+          (length (next k .waiting) ≤ n → isAt t (scopeHead img ss (takeScopes n img ss t (next k) .waiting)) ≡ false) →
+          isAt t (scopeHead img ss (cond b (takeScopes n img ss t (next k)) k .waiting)) ≡ false
       go true e h = h (omega (arith, fewer k e))
       go false e h = e
 
-  root-less : (k : Taking) (h : Head) → length (takeAt t k h .state .waiting) ≤ length (k .state .waiting)
-  unfolding without
-  root-less k empty = le-refl (length (k .state .waiting))
-  root-less k (head q x g) = by-test (sameTag g t) (λ e. rw e (lose-shorter (atHead q x) (k .state .waiting))) (λ e. rw e (le-refl (length (k .state .waiting))))
+  root-less : (k : Taking) (h : Head) → length (takeAt t k h .waiting) ≤ length (k .waiting)
+  unfolding taken
+  root-less k empty = le-refl (length (k .waiting))
+  root-less k (head q x g) = by-test (sameTag g t) (λ e. rw e (lose-shorter (atHead q x) (k .waiting))) (λ e. rw e (le-refl (length (k .waiting))))
 
   -- after a pop at t the least scope head is not t
-  pub pop-ends : (s : State) → isAt t (scopeHead img (taking img t s .state)) ≡ false
+  pub pop-ends : (k : Taking) → isAt t (scopeHead img ss (taking img ss t k .waiting)) ≡ false
   unfolding taking
-  pop-ends s = ends (length (s .waiting)) _ (root-less (record { state = s; events = [] }) (rootHead s))
+  pop-ends k = ends (length (k .waiting)) _ (root-less k (rootHead (k .waiting)))
 
   -- what a pop takes, with no count of turns
-  pub pop-takes : (s : State) → taking img t s ≡ takesAll (takeAt t (record { state = s; events = [] }) (rootHead s))
+  pub pop-takes : (k : Taking) → taking img ss t k ≡ takesAll (takeAt t k (rootHead (k .waiting)))
   unfolding taking takesAll
-  pop-takes s =
-      let k = takeAt t (record { state = s; events = [] }) (rootHead s) in
-      enough (length (s .waiting)) (length (k .state .waiting)) k (root-less (record { state = s; events = [] }) (rootHead s)) (le-refl (length (k .state .waiting)))
+  pop-takes k =
+      let u = takeAt t k (rootHead (k .waiting)) in
+      enough (length (k .waiting)) (length (u .waiting)) u (root-less k (rootHead (k .waiting))) (le-refl (length (u .waiting)))

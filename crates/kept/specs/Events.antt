@@ -16,7 +16,7 @@ use Rattle.key_set.specs.Sets.{has, insertKey, noKeys, wordCount}
 use Rattle.schedule.specs.Schedule.{reactionsOf}
 use Rattle.machine.specs.Table.{actions, reactions, setOf}
 use Rattle.machine.specs.State.{Event, State, inQueue, stamped, rootEvent}
-use Rattle.machine.specs.Transition.{tagOr, stamp, movers}
+use Rattle.machine.specs.Transition.{tagOr, owns, stamp, movers}
 use Rattle.machine.specs.Machine.{eventRules, queueRules, imageRules, keysOk}
 use Rattle.lists.specs.Every.{by-test, both, or-left, or-right, or-else, not-so, every-all, every-imp, every-keep, every-sort, every-map, keep-below}
 use Rattle.kept.specs.Limits.{global-within, set-keys}
@@ -71,7 +71,7 @@ module _ (img : Image) where
 
   stamp-within : (i : ℕ) (k : Clock) (e : Event) → within (e .tag) ≡ true → within (e .stored) ≡ true → within (stamp i k e) ≡ true
   unfolding stamp
-  stamp-within i k e w v = by-test (inQueue i e && not (eqb (e .action) none)) (λ b. rw b (go (toGlobal k (e .tag)) refl)) (λ b. rw b v)
+  stamp-within i k e w v = by-test (owns i e) (λ b. rw b (go (toGlobal k (e .tag)) refl)) (λ b. rw b v)
     where
       go : (a : Answer) → toGlobal k (e .tag) ≡ a → within (tagOr (e .stored) a) ≡ true
       go (done g) q = global-within k (e .tag) g w q
@@ -94,10 +94,10 @@ module _ (img : Image) where
   pub movers-each : (i : ℕ) (l : List Event) → every (eventRules img) l ≡ true → every mover (movers i l) ≡ true
   unfolding movers
   movers-each i l h =
-      let own : Event → Bool = λ e. inQueue i e && not (eqb (e .action) none) in
-      every-sort mover _ (keep own l)
-      (every-imp (λ e. eventRules img e && own e) mover (λ e x. both (and-left (eventRules img e) _ x) (and-right (inQueue i e) _ (and-right (eventRules img e) _ x))) (keep own l)
-      (every-keep (eventRules img) own l h))
+      every-sort mover _ (keep (owns i) l)
+      (every-imp (λ e. eventRules img e && owns i e) mover
+      (unfold owns in λ e x. both (and-left (eventRules img e) _ x) (and-right (inQueue i e) _ (and-right (eventRules img e) _ x))) (keep (owns i) l)
+      (every-keep (eventRules img) (owns i) l h))
 
   module _ (i : ℕ) (k : Clock) (e : Event) (m : mover e ≡ true) where
     held : (ltb (e .action) (actions img) && within (e .stored)) ≡ true

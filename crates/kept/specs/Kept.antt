@@ -1,13 +1,13 @@
 -- Document 01, "State rules", and refusal 11: a fresh manager over an accepted table keeps them, and so does every call; so 11 is never answered there.
 -- Assumes nothing.
-use Prim.Native.Nat.{ℕ, _<_}
+use Prim.Native.Nat.{ℕ, _<_, _≤_}
 use mathlib.Core.Bool.{Bool, true, false, not, _&&_, Bool·beq}
 use mathlib.Core.Path.{_≡_, refl, ap, _∙_, sym}
 use mathlib.Core.List.{List, [], _∷_, map}
 use native.Mathlib.Omega.{arith}
 use native.Mathlib.Decide.{decLt}
 use lib.Dec.{leb, eqb}
-use lib.ListN.{length, length-map, List·getD-eq-default}
+use lib.ListN.{length, length-map, List·getD-map, List·getD-eq-default}
 use borrow.Author.Tests.{leb-true, le-leb, eqb-true, eq-eqb}
 use Rattle.lists.specs.Tests.{and-left, and-right}
 use Rattle.lists.specs.Lists.{count, every, from}
@@ -22,7 +22,7 @@ use Rattle.tags.specs.Tags.{freshClock, withinClock}
 use Rattle.schedule.specs.Schedule.{isActive}
 use Rattle.table.specs.Check.{accepts, isTable}
 use Rattle.machine.specs.Table.{scopes, reactors, actions}
-use Rattle.machine.specs.State.{Event, State, mostWaiting, ordinary, activeAt, everAt, fresh}
+use Rattle.machine.specs.State.{Event, State, freshScope, mostWaiting, ordinary, activeAt, everAt, fresh}
 use Rattle.machine.specs.Machine.{Call, scopeRules, modeRules, queueRules, eventRules, imageRules, sized, rules, perform, step, run}
 use Rattle.lists.specs.Every.{by-test, no-way, both, or-left, or-right, or-else, every-all, every-imp, every-both, every-map, length-from, every-below, below-every, getD-from}
 use Rattle.kept.specs.Stored.{empty-rules}
@@ -61,60 +61,51 @@ module _ (img : Image) (s : State) where
       simp (
         t,
         eq-eqb _ _ (h .sound .moded .long),
-        eq-eqb _ _ (h .sound .clocked .long),
-        eq-eqb _ _ (h .sound .marked .long),
-        eq-eqb _ _ (h .sound .marked .ever-long),
+        eq-eqb _ _ (h .sound .scoped .long),
         h .sound .moded .exist,
-        h .sound .clocked .fit,
+        h .sound .scoped .fit,
         le-leb _ _ (q .room),
-        every-below (scopeRules img s) (scopes img) scope,
+        every-below (scopeRules img (s .modes) (s .scopes)) (scopes img) scope,
         each (eventRules img) (unfold proper in λ e p. and-left (eventRules img e) _ p),
         each (queueRules img) (unfold proper in λ e p. and-left (queueRules img e) _ (and-right (eventRules img e) _ p)),
-        each (imageRules s) (unfold proper in λ e p. and-right (queueRules img e) _ (and-right (eventRules img e) _ p)),
+        each (imageRules (s .scopes)) (unfold proper in λ e p. and-right (queueRules img e) _ (and-right (eventRules img e) _ p)),
         eq-eqb _ _ (q .work),
       ) (h .sound .stored)
     where
       each : (p : Event → Bool) → ((e : Event) → proper img s e ≡ true → p e ≡ true) → every p (s .waiting) ≡ true
       each p f = every-imp (proper img s) p f (s .waiting) (h .sound .queued .events)
 
-      scope : (i : ℕ) → i < scopes img → scopeRules img s i ≡ true
+      scope : (i : ℕ) → i < scopes img → scopeRules img (s .modes) (s .scopes) i ≡ true
       scope i l = unfold scopeRules in
-          both (bool-same _ _ (h .current i l)) (by-test (activeAt s i) (λ e. or-right (not (activeAt s i)) (h .sound .marked .before i e)) (λ e. or-left _ (ap not e)))
+          both (bool-same _ _ (h .current i l)) (by-test (activeAt s i) (λ e. or-right (not (activeAt s i)) (h .sound .scoped .before i e)) (λ e. or-left _ (ap not e)))
 
   pub rules-tell : rules img s ≡ true → Ruled img s
   unfolding rules sized proper
   rules-tell h =
       let a = and-right (isTable img) _ h in
       let z = and-left (sized img s) _ a in
-      let z1 = and-right (eqb (length (s .modes)) (reactors img)) _ z in
-      let z2 = and-right (eqb (length (s .clocks)) (scopes img)) _ z1 in
       let b = and-right (sized img s) _ a in
       let c = and-right (every (modeRules img) (s .modes)) _ b in
-      let d = and-right (every withinClock (s .clocks)) _ c in
+      let d = and-right (every (λ x. withinClock (x .clock)) (s .scopes)) _ c in
       let e = and-right (leb (length (s .waiting)) mostWaiting) _ d in
-      let f = and-right (every (scopeRules img s) (from 0 (scopes img))) _ e in
+      let f = and-right (every (scopeRules img (s .modes) (s .scopes)) (from 0 (scopes img))) _ e in
       let g = and-right (every (eventRules img) (s .waiting)) _ f in
       let i = and-right (every (queueRules img) (s .waiting)) _ g in
-      let j = and-right (every (imageRules s) (s .waiting)) _ i in
-      let scope = below-every (scopeRules img s) (scopes img) (and-left (every (scopeRules img s) (from 0 (scopes img))) _ e) in
-      let long = eqb-true (length (s .active)) (scopes img) (and-left (eqb (length (s .active)) (scopes img)) _ z2) in
+      let j = and-right (every (imageRules (s .scopes)) (s .waiting)) _ i in
+      let scope = below-every (scopeRules img (s .modes) (s .scopes)) (scopes img) (and-left (every (scopeRules img (s .modes) (s .scopes)) (from 0 (scopes img))) _ e) in
+      let long = eqb-true (length (s .scopes)) (scopes img) (and-right (eqb (length (s .modes)) (reactors img)) _ z) in
       record {
         sound =
             record {
               moded = record { long = eqb-true (length (s .modes)) (reactors img) (and-left (eqb (length (s .modes)) (reactors img)) _ z); exist = and-left (every (modeRules img) (s .modes)) _ b };
-              clocked = record { long = eqb-true (length (s .clocks)) (scopes img) (and-left (eqb (length (s .clocks)) (scopes img)) _ z1); fit = and-left (every withinClock (s .clocks)) _ c };
-              marked =
-                  record {
-                    long = long;
-                    ever-long = eqb-true (length (s .ever)) (scopes img) (and-right (eqb (length (s .active)) (scopes img)) _ z2);
-                    before = λ i x. before i scope long x (decLt i (scopes img));
-                  };
+              scoped = record { long = long; fit = and-left (every (λ x. withinClock (x .clock)) (s .scopes)) _ c; before = λ i x. before i scope long x (decLt i (scopes img)) };
               queued =
                   record {
                     room = leb-true (length (s .waiting)) mostWaiting (and-left (leb (length (s .waiting)) mostWaiting) _ d);
                     events =
-                        every-both (eventRules img) (λ x. queueRules img x && imageRules s x) (s .waiting) (and-left (every (eventRules img) (s .waiting)) _ f)
-                        (every-both (queueRules img) (imageRules s) (s .waiting) (and-left (every (queueRules img) (s .waiting)) _ g) (and-left (every (imageRules s) (s .waiting)) _ i));
+                        every-both (eventRules img) (λ x. queueRules img x && imageRules (s .scopes) x) (s .waiting) (and-left (every (eventRules img) (s .waiting)) _ f)
+                        (every-both (queueRules img) (imageRules (s .scopes)) (s .waiting) (and-left (every (queueRules img) (s .waiting)) _ g)
+                        (and-left (every (imageRules (s .scopes)) (s .waiting)) _ i));
                     work = eqb-true (s .work) (count ordinary (s .waiting)) (and-left (eqb (s .work) (count ordinary (s .waiting))) _ j);
                   };
               stored = and-right (eqb (s .work) (count ordinary (s .waiting))) _ j;
@@ -122,13 +113,13 @@ module _ (img : Image) (s : State) where
         current = λ i l. now i (scope i l);
       }
     where
-      now : (i : ℕ) → scopeRules img s i ≡ true → activeAt s i ≡ isActive img (s .modes) i
+      now : (i : ℕ) → scopeRules img (s .modes) (s .scopes) i ≡ true → activeAt s i ≡ isActive img (s .modes) i
       now i e = unfold scopeRules in same-bool (activeAt s i) (isActive img (s .modes) i) (and-left (Bool·beq (activeAt s i) (isActive img (s .modes) i)) _ e)
 
-      before : (i : ℕ) → ((i : ℕ) → i < scopes img → scopeRules img s i ≡ true) → length (s .active) ≡ scopes img → activeAt s i ≡ true → Dec (i < scopes img) → everAt s i ≡ true
+      before : (i : ℕ) → ((i : ℕ) → i < scopes img → scopeRules img (s .modes) (s .scopes) i ≡ true) → length (s .scopes) ≡ scopes img → activeAt s i ≡ true → Dec (i < scopes img) → everAt s i ≡ true
       before i scope long x (yes l) =
           unfold scopeRules in or-else (not (activeAt s i)) (everAt s i) (ap not x) (and-right (Bool·beq (activeAt s i) (isActive img (s .modes) i)) _ (scope i l))
-      before i scope long x (no l) = no-way (sym (List·getD-eq-default (s .active) false (omega arith)) ∙ x)
+      before i scope long x (no l) = let y : length (s .scopes) ≤ i = omega arith in no-way (sym (ap (λ x. x .active) (List·getD-eq-default (s .scopes) (freshScope false) y)) ∙ x)
 
 -- ---- a fresh manager
 
@@ -146,12 +137,16 @@ fresh-ruled img tb =
                   long = length-map (from 0 (reactors img)) (initialMode img) ∙ length-from 0 (reactors img);
                   exist = every-map (initialMode img) (modeRules img) (from 0 (reactors img)) (every-below (λ r. modeRules img (initialMode img r)) (reactors img) (initial-exists img tb));
                 };
-            clocked = record { long = length-map act freshClock ∙ long; fit = every-map freshClock withinClock act (every-all (λ b. withinClock (freshClock b)) fresh-within act) };
-            marked = record { long = long; ever-long = long; before = λ i e. e };
+            scoped =
+                record {
+                  long = length-map act freshScope ∙ long;
+                  fit = every-map freshScope (λ x. withinClock (x .clock)) act (every-all (λ b. withinClock (freshClock b)) fresh-within act);
+                  before = λ i. rw (List·getD-map freshScope act i false) (λ e. e);
+                };
             queued = record { room = omega arith; events = refl; work = refl };
             stored = empty-rules (actions img);
           };
-      current = getD-from (isActive img ms) (scopes img);
+      current = λ i l. ap (λ x. x .active) (List·getD-map freshScope act i false) ∙ getD-from (isActive img ms) (scopes img) i l;
     }
 
 -- "A fresh manager has the initial modes, and nothing waits or is held": its state breaks no rule

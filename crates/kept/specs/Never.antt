@@ -21,12 +21,16 @@ use Rattle.store.specs.Store.{Store, Found, lacks, isValue, isBucket}
 use Rattle.schedule.specs.Schedule.{startupsOf, resetsOf}
 use Rattle.table.specs.Check.{isTable}
 use Rattle.machine.specs.Table.{scopes, reactors, modes, actions, hasParent, setOf}
-use Rattle.machine.specs.State.{Event, State, root, rootEvent, mostWaiting, clockAt, activeAt, everAt, withStore, withClock, accepted, restamped, fresh}
+use Rattle.machine.specs.State.{Event, State, root, rootEvent, mostWaiting, clockAt, activeAt, everAt, scopeAt, withStore, accepted, fresh}
 use Rattle.machine.specs.Heads as H
 use Rattle.machine.specs.Heads.{Head, peek}
-use Rattle.machine.specs.Transition.{Plan, Step, isNow, isTag, insideOf, prepared, left, activated, maps, stamp, movers, moveValue, entered, changed, turned, held, plainEvent, firsts, startupRows, startups, ifSome, step4, timerScope, timerImage, timerEvent, timer, timerRows, resetRows, resetEvent, step5, planOf, turnsOn, transition}
+use Rattle.machine.specs.Transition.{Plan, Step, isNow, isTag, insideOf, prepared, leaving, clockAfter, maps, stamp, movers, moveOne, entering, turnBy, oneTurn, turned, held, plainEvent}
+use Rattle.machine.specs.Transition.{firsts, startupRows, startups, ifSome, step4, timerScope, timerImage, timerEvent, timer, timerRows, resetRows, resetEvent, step5, planOf, turnsOn}
+use Rattle.machine.specs.Transition.{transition}
 use Rattle.machine.specs.Machine as M
-use Rattle.machine.specs.Machine.{Call, plain, network, control, action, transit, pop, peekTag, onlyControl, ordinaryWork, activeNow, everActive, pushValue, nextStep, takeValue, clearBefore, clearAction, Reply, ok, refusal, nothing, number, flag, settleWith, asked, keysOk, pushRoot, toRoot, localTag, actionEvent, pushAction, popAt, peekAt, foundReply, perform, step, run}
+use Rattle.machine.specs.Machine.{Call, plain, network, control, action, transit, pop, peekTag, onlyControl, ordinaryWork, activeNow, everActive, pushValue, nextStep, takeValue, clearBefore}
+use Rattle.machine.specs.Machine.{clearAction, Reply, ok, refusal, nothing, number, flag, settleWith, asked, keysOk, rootMade, pushRoot, toRoot, localTag, actionPlaced, actionMade}
+use Rattle.machine.specs.Machine.{pushAction, popAt, peekAt, foundReply, perform, step, run}
 use Rattle.kept.specs.Kept.{step-performs, own-rules}
 
 -- ---- a step that may refuse, but never with 11
@@ -112,18 +116,19 @@ some-mild : (rows : List ℕ) {q r : Step} → Mild q → Mild r → Mild (ifSom
 some-mild [] h k = h
 some-mild (j ∷ js) h k = k
 
-entered-mild : (i : ℕ) (k : Clock) (s : State) → Mild (entered i k s)
-unfolding entered moveValue
-entered-mild i k s =
-    mild-need (every (maps i k) (s .waiting)) R.MappedTag (lit< tt)
-    (mild-walk (moveValue i k) (λ t e. store-mild t (move-mild (t .store) (e .action) (e .stored) (stamp i k e))) (movers i (s .waiting)) (restamped (stamp i k) (withClock s i k)))
+entering-mild : (i : ℕ) (k : Clock) (es : List Event) (st : Store) → Mild (entering i k es st)
+unfolding entering moveOne
+entering-mild i k es st =
+    mild-need (every (maps i k) es) R.MappedTag (lit< tt)
+    (mild-walk (moveOne i k) (λ u e. move-mild u (e .action) (e .stored) (stamp i k e)) (movers i es) st)
 
 turned-mild : (p : Plan) (s : State) (i : ℕ) → Mild (turned p s i)
-unfolding turned changed left
+unfolding turned oneTurn clockAfter leaving turnBy
 turned-mild p s i =
     mild-then
-    (mild-either (activeAt s i) (mild-either (isNow p i) fine (mild-then (local-mild (clockAt s i) (p .c)) (λ t. fine)))
-    (mild-either (isNow p i) (entered-mild i (activated (p .c) (clockAt s i)) s) fine))
+    (mild-then
+    (mild-either (activeAt s i) (mild-either (isNow p i) fine (mild-then (local-mild (clockAt s i) (p .c)) (λ t. fine))) fine)
+    (λ k. mild-either (isNow p i && not (activeAt s i)) (mild-then (entering-mild i k (s .waiting) (s .store)) (λ u. fine)) fine))
     (λ t. fine)
 
 step4-mild : (img : Image) (c : Tag) (first : List ℕ) (s : State) → Mild (step4 img c first s)
@@ -157,16 +162,19 @@ transition-mild img r m reset c s =
 -- ---- the calls
 
 root-mild : (img : Image) (s : State) (t : Tag) (ks : List ℕ) (a b c : Bool) → Mild (pushRoot img s t ks a b c)
-unfolding pushRoot
-root-mild img s t ks a b c = mild-need (keysOk img ks) R.Key (lit< tt) (mild-need (within t) R.ArgumentTag (lit< tt) (accepted-mild s (rootEvent t (setOf ks) a b c)))
+unfolding pushRoot rootMade
+root-mild img s t ks a b c = mild-then (mild-need (keysOk img ks) R.Key (lit< tt) (mild-need (within t) R.ArgumentTag (lit< tt) fine)) (accepted-mild s)
 
 action-mild : (img : Image) (s : State) (a : ℕ) (t : Tag) (b : Bool) (ks : List ℕ) → Mild (pushAction img s a t b ks)
-unfolding pushAction localTag
+unfolding pushAction actionMade actionPlaced localTag
 action-mild img s a t b ks =
     let q = actionScope img a in
-    mild-either (toRoot img a) (accepted-mild s (actionEvent root a t t b ks))
-    (mild-then (mild-then (local-mild (clockAt s q) t) λ x. mild-need (not (activeAt s q) || isTag (toGlobal (clockAt s q) x)) R.MappedTag (lit< tt) fine)
-    λ x. accepted-mild s (actionEvent q a x t b ks))
+    mild-then
+    (mild-need (ltb a (actions img) && keysOk img ks) R.Key (lit< tt)
+    (mild-need (within t) R.ArgumentTag (lit< tt)
+    (mild-either (toRoot img a) fine
+    (mild-then (mild-then (local-mild (clockAt s q) t) λ x. mild-need (not (activeAt s q) || isTag (toGlobal (clockAt s q) x)) R.MappedTag (lit< tt) fine) λ x. fine))))
+    (accepted-mild s)
 
 for-store : {A : Type 0} (img : Image) (a : ℕ) (t : Tag) {r : Result Refusal A} → Mild r → Mild (M.forStore img a t r)
 for-store img a t h = mild-need (ltb a (actions img)) R.Key (lit< tt) (mild-need (within t) R.ArgumentTag (lit< tt) h)
@@ -214,15 +222,13 @@ unfolding perform
 perform-other img s (plain t b ks) = settled-other ok s tt (root-mild img s t ks b false false)
 perform-other img s (network t ks) = settled-other ok s tt (root-mild img s t ks false false true)
 perform-other img s (control t) = settled-other ok s tt (root-mild img s t [] false true false)
-perform-other img s (action a t b ks) =
-    settled-other ok s tt
-    (mild-need (ltb a (actions img) && keysOk img ks) R.Key (lit< tt) (mild-need (within t) R.ArgumentTag (lit< tt) (action-mild img s a t b ks)))
+perform-other img s (action a t b ks) = settled-other ok s tt (action-mild img s a t b ks)
 perform-other img s (transit r m reset c) =
     settled-other ok s tt
     (mild-need (ltb r (reactors img) && ltb m (modes img)) R.Key (lit< tt)
     (mild-need (eqb (modeReactor img m) r) R.TargetMode (lit< tt) (mild-need (within c) R.ArgumentTag (lit< tt) (transition-mild img r m reset c s))))
-perform-other img s pop = pop-other img s (peek img s)
-perform-other img s peekTag = peek-other (peek img s)
+perform-other img s pop = pop-other img s (peek img (s .scopes) (s .waiting))
+perform-other img s peekTag = peek-other (peek img (s .scopes) (s .waiting))
 perform-other img s onlyControl = tt
 perform-other img s ordinaryWork = tt
 perform-other img s (activeNow i) = asked-other s (flag (activeAt s i)) (ltb i (scopes img)) tt

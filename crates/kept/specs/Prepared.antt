@@ -15,49 +15,72 @@ use Rattle.rows.specs.Rows.{none, initialMode, rootScope, modeScope, actionScop
 use Rattle.rows.specs.Lineage.{inSubtree, under}
 use Rattle.table.specs.Table.{Table}
 use Rattle.table.proofs.TableLaws.{Initial, initial-mode}
-use Rattle.tags.specs.Tags.{Clock, freshClock, withinClock}
+use Rattle.tags.specs.Tags.{Clock, withinClock}
 use Rattle.tags.proofs.Laws.{clock-G}
 use Rattle.store.specs.Store as S
 use Rattle.store.specs.Store.{Store, storeRules}
 use Rattle.machine.specs.Table.{scopes, reactors, modes, actions}
-use Rattle.machine.specs.State.{State, without}
-use Rattle.machine.specs.Transition.{Plan, insideOf, dropped, zeroed, resetClocks, resetStore, resetModes, step1, prepared}
+use Rattle.machine.specs.State.{Scope, State, freshScope, clockAt, activeAt, clocked, without}
+use Rattle.machine.specs.Transition.{Plan, insideOf, dropped, zeroed, resetScopes, resetStore, resetModes, step1, prepared}
 use Rattle.machine.specs.Machine.{imageRules, modeRules}
-use Rattle.lists.specs.Every.{by-test, no-way, or-left, or-right, not-so, every-head, every-tail, every-more, every-all, every-imp, every-lose, every-getD, every-set, every-map, length-from, every-below}
+use Rattle.lists.specs.Every.{by-test, no-way, or-left, or-right, not-so, every-head, every-tail, every-more, every-all, every-imp, every-lose, every-getD, every-set, every-map, length-from}
+use Rattle.lists.specs.Every.{every-below}
 use Rattle.kept.specs.Stored.{clear-keeps}
 use Rattle.kept.specs.Limits.{zero-within, clock-within}
-use Rattle.kept.specs.Sound.{proper, Moded, Sound, sound-without}
+use Rattle.kept.specs.Sound.{proper, Moded, Scoped, Sound, sound-without}
 use Rattle.kept.specs.Turns.{Outside}
 
--- ---- step 1: clocks
+-- ---- step 1: scopes
 
-reset-other : (ins : List Bool) (ks : List Clock) (q : ℕ) (d : Clock) → getD ins q false ≡ false → getD (resetClocks ins ks) q d ≡ getD ks q d
-unfolding resetClocks
-reset-other [] ks q d e = refl
+reset-other : (ins : List Bool) (l : List Scope) (q : ℕ) (d : Scope) → getD ins q false ≡ false → getD (resetScopes ins l) q d ≡ getD l q d
+unfolding resetScopes
+reset-other [] l q d e = refl
 reset-other (true ∷ bs) [] q d e = refl
 reset-other (false ∷ bs) [] q d e = refl
-reset-other (true ∷ bs) (k ∷ ks) zero d e = no-way (sym e)
-reset-other (true ∷ bs) (k ∷ ks) (suc q) d e = reset-other bs ks q d e
-reset-other (false ∷ bs) (k ∷ ks) zero d e = refl
-reset-other (false ∷ bs) (k ∷ ks) (suc q) d e = reset-other bs ks q d e
+reset-other (true ∷ bs) (x ∷ l) zero d e = no-way (sym e)
+reset-other (true ∷ bs) (x ∷ l) (suc q) d e = reset-other bs l q d e
+reset-other (false ∷ bs) (x ∷ l) zero d e = refl
+reset-other (false ∷ bs) (x ∷ l) (suc q) d e = reset-other bs l q d e
 
-reset-length : (ins : List Bool) (ks : List Clock) → length (resetClocks ins ks) ≡ length ks
-unfolding resetClocks
-reset-length [] ks = refl
+-- what is not of the clock stays
+reset-mark : (g : Scope → Bool) → ((k : Clock) (x : Scope) → g (clocked k x) ≡ g x) → (ins : List Bool) (l : List Scope) (q : ℕ) (d : Scope) → g (getD (resetScopes ins l) q d) ≡ g (getD l q d)
+unfolding resetScopes
+reset-mark g f [] l q d = refl
+reset-mark g f (true ∷ bs) [] q d = refl
+reset-mark g f (false ∷ bs) [] q d = refl
+reset-mark g f (true ∷ bs) (x ∷ l) zero d = f (zeroed (x .clock)) x
+reset-mark g f (false ∷ bs) (x ∷ l) zero d = refl
+reset-mark g f (true ∷ bs) (x ∷ l) (suc q) d = reset-mark g f bs l q d
+reset-mark g f (false ∷ bs) (x ∷ l) (suc q) d = reset-mark g f bs l q d
+
+pub reset-length : (ins : List Bool) (l : List Scope) → length (resetScopes ins l) ≡ length l
+unfolding resetScopes
+reset-length [] l = refl
 reset-length (true ∷ bs) [] = refl
 reset-length (false ∷ bs) [] = refl
-reset-length (true ∷ bs) (k ∷ ks) = ap suc (reset-length bs ks)
-reset-length (false ∷ bs) (k ∷ ks) = ap suc (reset-length bs ks)
+reset-length (true ∷ bs) (x ∷ l) = ap suc (reset-length bs l)
+reset-length (false ∷ bs) (x ∷ l) = ap suc (reset-length bs l)
 
-reset-fit : (ins : List Bool) (ks : List Clock) → every withinClock ks ≡ true → every withinClock (resetClocks ins ks) ≡ true
-unfolding resetClocks
-reset-fit [] ks h = h
+abbrev fits : Scope → Bool
+fits x = withinClock (x .clock)
+
+reset-fit : (ins : List Bool) (l : List Scope) → every fits l ≡ true → every fits (resetScopes ins l) ≡ true
+unfolding resetScopes
+reset-fit [] l h = h
 reset-fit (true ∷ bs) [] h = h
 reset-fit (false ∷ bs) [] h = h
-reset-fit (true ∷ bs) (k ∷ ks) h =
-    every-more withinClock (zeroed k) (resetClocks bs ks) (clock-within (zeroed k) (clock-G k (every-head withinClock k ks h)) zero-within zero-within)
-    (reset-fit bs ks (every-tail withinClock k ks h))
-reset-fit (false ∷ bs) (k ∷ ks) h = every-more withinClock k (resetClocks bs ks) (every-head withinClock k ks h) (reset-fit bs ks (every-tail withinClock k ks h))
+reset-fit (true ∷ bs) (x ∷ l) h =
+    let k = zeroed (x .clock) in
+    every-more fits (clocked k x) (resetScopes bs l) (clock-within k (clock-G (x .clock) (every-head fits x l h)) zero-within zero-within) (reset-fit bs l (every-tail fits x l h))
+reset-fit (false ∷ bs) (x ∷ l) h = every-more fits x (resetScopes bs l) (every-head fits x l h) (reset-fit bs l (every-tail fits x l h))
+
+reset-scoped : (img : Image) (ins : List Bool) (l : List Scope) → Scoped img l → Scoped img (resetScopes ins l)
+reset-scoped img ins l h =
+    record {
+      long = reset-length ins l ∙ h .long;
+      fit = reset-fit ins l (h .fit);
+      before = λ i. rw (reset-mark (λ x. x .active) (λ k x. refl) ins l i (freshScope false), reset-mark (λ x. x .ever) (λ k x. refl) ins l i (freshScope false)) (h .before i);
+    }
 
 none-inside : (f : ℕ → Bool) (l : List ℕ) (q : ℕ) → getD (map (λ i. false && f i) l) q false ≡ false
 none-inside f [] q = refl
@@ -112,8 +135,7 @@ module _ (img : Image) where
         let w = sound-without img (dropped ins) s h in
         record {
           moded = set-moded r m (resetModes img (modeScope img m) (s .modes)) l (reset-moded tb (modeScope img m) (s .modes) (h .moded));
-          clocked = record { long = reset-length ins (s .clocks) ∙ h .clocked .long; fit = reset-fit ins (s .clocks) (h .clocked .fit) };
-          marked = h .marked;
+          scoped = reset-scoped img ins (s .scopes) (h .scoped);
           stored = reset-stored ins (from 0 (actions img)) (s .store) (h .stored);
           queued =
               record {
@@ -121,15 +143,14 @@ module _ (img : Image) where
                 work = w .queued .work;
                 events =
                     every-imp (λ e. proper img s e && not (dropped ins e)) (proper img (prepared img r m true s))
-                    (λ e x. rw (reset-other ins (s .clocks) (e .queue) (freshClock false) (not-so (dropped ins e) (and-right (proper img s e) _ x))) (and-left (proper img s e) _ x))
+                    (λ e x. rw (reset-other ins (s .scopes) (e .queue) (freshScope false) (not-so (dropped ins e) (and-right (proper img s e) _ x)), activeAt, clockAt) (and-left (proper img s e) _ x))
                     (lose (dropped ins) (s .waiting)) (every-lose (proper img s) (dropped ins) (s .waiting) (h .queued .events));
               };
         }
     sound-prepared false =
         record {
           moded = set-moded r m (s .modes) l (h .moded);
-          clocked = h .clocked;
-          marked = h .marked;
+          scoped = h .scoped;
           stored = h .stored;
           queued = record { room = h .queued .room; events = h .queued .events; work = h .queued .work };
         }

@@ -1,9 +1,10 @@
 -- The state rules but one, "a scope is active exactly if ..": so they hold in the middle of a transition too, and each small step keeps them.
 -- Assumes nothing.
-use Prim.Native.Nat.{ℕ, _+_, _<_, _≤_}
+use Prim.Native.Nat.{ℕ, zero, suc, _+_, _<_, _≤_}
 use mathlib.Core.Bool.{Bool, true, false, cond, not, _&&_, _||_}
+use mathlib.Core.Logic.{_≢_}
 use mathlib.Core.Path.{_≡_, refl, ap, _∙_, sym}
-use mathlib.Core.List.{List, [], _∷_, _++_}
+use mathlib.Core.List.{List, [], _∷_, _++_, map}
 use native.Mathlib.Omega.{arith}
 use native.Mathlib.Decide.{ℕ-discrete}
 use lib.Dec.{leb, eqb}
@@ -15,33 +16,29 @@ use Rattle.lists.specs.Lists.{lose, count, every, count-append, lose-shorter}
 use Rattle.lists.specs.Walk.{done}
 use Rattle.refusals.specs.declared.Refusal.the-variants as R
 use Rattle.rows.specs.Bytes.{Image}
-use Rattle.tags.specs.Tags.{Tag, Clock, freshClock, withinClock, toGlobal}
+use Rattle.tags.specs.Tags.{Tag, Clock, withinClock}
 use Rattle.store.specs.Store.{Store, storeRules}
 use Rattle.machine.specs.Table.{scopes, reactors, actions}
-use Rattle.machine.specs.State.{Event, State, root, ordinary, mostWaiting, stamped, inQueue, activeAt, withQueue, withStore, withClock, noted, tally, accepted, without, restamped}
-use Rattle.machine.specs.Transition.{isTag, maps}
+use Rattle.machine.specs.State.{Event, Scope, State, root, ordinary, mostWaiting, freshScope, stamped, inQueue, scopeAt, clockAt, activeAt, everAt, clocked, marked, withQueue, withStore}
+use Rattle.machine.specs.State.{withScopes, tally, accepted, without}
+use Rattle.machine.specs.Transition.{maps}
 use Rattle.machine.specs.Machine.{queueRules, eventRules, imageRules, modeRules}
-use Rattle.lists.specs.Every.{both, or-right, done-is, unless-is, every-imp, every-both, every-lose, every-set, every-last, every-map, set-self, count-split, count-map}
+use Rattle.lists.specs.Every.{no-way, both, or-right, done-is, unless-is, every-imp, every-both, every-lose, every-set, every-last, every-map, set-self, count-split, count-map}
 
 -- what the rules say of one event
 unfoldable pub proper : Image → State → Event → Bool
-proper img s e = eventRules img e && (queueRules img e && imageRules s e)
+proper img s e = eventRules img e && (queueRules img e && imageRules (s .scopes) e)
 
 -- modes: one for each reactor, and it exists
 pub record Moded (img : Image) (modes : List ℕ) : Type 0 where
   pub long : length modes ≡ reactors img
   pub exist : every (modeRules img) modes ≡ true
 
--- clocks: one for each scope, within limits
-pub record Clocked (img : Image) (clocks : List Clock) : Type 0 where
-  pub long : length clocks ≡ scopes img
-  pub fit : every withinClock clocks ≡ true
-
--- "an active scope counts as active before"
-pub record Marked (img : Image) (active ever : List Bool) : Type 0 where
-  pub long : length active ≡ scopes img
-  pub ever-long : length ever ≡ scopes img
-  pub before : (i : ℕ) → getD active i false ≡ true → getD ever i false ≡ true
+-- scopes: all of them, their clocks within limits; "an active scope counts as active before"
+pub record Scoped (img : Image) (l : List Scope) : Type 0 where
+  pub long : length l ≡ scopes img
+  pub fit : every (λ x. withinClock (x .clock)) l ≡ true
+  pub before : (i : ℕ) → getD l i (freshScope false) .active ≡ true → getD l i (freshScope false) .ever ≡ true
 
 -- "at most 256 events wait", each of them as the rules say; "ordinary work equals the number of ordinary events waiting"
 pub record Queued (img : Image) (s : State) : Type 0 where
@@ -51,10 +48,20 @@ pub record Queued (img : Image) (s : State) : Type 0 where
 
 pub record Sound (img : Image) (s : State) : Type 0 where
   pub moded : Moded img (s .modes)
-  pub clocked : Clocked img (s .clocks)
-  pub marked : Marked img (s .active) (s .ever)
+  pub scoped : Scoped img (s .scopes)
   pub queued : Queued img s
   pub stored : storeRules (actions img) (s .store) ≡ true
+
+-- ---- one scope in a list
+
+-- what was active before counts so already
+marked-same : (k : Clock) (a v b : Bool) → a ≡ b → (a ≡ true → v ≡ true) → marked b (record { clock = k; active = a; ever = v }) ≡ record { clock = k; active = a; ever = v }
+marked-same k true true true e m = refl
+marked-same k true false true e m = no-way (m refl)
+marked-same k true v false e m = no-way (sym e)
+marked-same k false v true e m = no-way e
+marked-same k false true false e m = refl
+marked-same k false false false e m = refl
 
 module _ (img : Image) where
   -- ---- the store
@@ -64,8 +71,7 @@ module _ (img : Image) where
   sound-store s st h k =
       record {
         moded = h .moded;
-        clocked = h .clocked;
-        marked = h .marked;
+        scoped = h .scoped;
         stored = k;
         queued = record { room = h .queued .room; events = h .queued .events; work = h .queued .work };
       }
@@ -74,7 +80,7 @@ module _ (img : Image) where
 
   -- other events wait, and nothing else changes
   requeued : (s : State) (w : List Event) (n : ℕ) → Sound img s → Queued img (withQueue s w n) → Sound img (withQueue s w n)
-  requeued s w n h q = record { moded = h .moded; clocked = h .clocked; marked = h .marked; stored = h .stored; queued = q }
+  requeued s w n h q = record { moded = h .moded; scoped = h .scoped; stored = h .stored; queued = q }
 
   more-work : (e : Event) (l : List Event) → tally e (count ordinary l) ≡ count ordinary (l ++ (e ∷ []))
   unfolding count
@@ -105,12 +111,14 @@ module _ (img : Image) where
       requeued s _ _ h
       (record {
         room = omega (arith, lose-shorter q (s .waiting), h .queued .room);
-        events = every-imp (λ e. proper img s e && not (q e)) (proper img s) (λ e x. and-left (proper img s e) _ x) (lose q (s .waiting)) (every-lose (proper img s) q (s .waiting) (h .queued .events));
+        events =
+            every-imp (λ e. proper img s e && not (q e)) (proper img s) (λ e x. and-left (proper img s e) _ x) (lose q (s .waiting)) (every-lose (proper img s) q (s .waiting) (h .queued .events));
         work = omega (arith, h .queued .work, count-split ordinary q (s .waiting));
       })
 
-  pub sound-restamped : (f : Event → Tag) (s : State) → Sound img s → ((e : Event) → eventRules img e ≡ true → eventRules img (stamped e (f e)) ≡ true) → Sound img (restamped f s)
-  unfolding restamped proper queueRules imageRules
+  pub sound-restamped : (f : Event → Tag) (s : State) → Sound img s → ((e : Event) → eventRules img e ≡ true → eventRules img (stamped e (f e)) ≡ true) →
+      Sound img (withQueue s (map (λ e. stamped e (f e)) (s .waiting)) (s .work))
+  unfolding proper queueRules imageRules
   sound-restamped f s h k =
       requeued s _ _ h
       (record {
@@ -124,63 +132,58 @@ module _ (img : Image) where
 
   -- ---- one scope's turn
 
-  marked-turn : (a e : List Bool) (i : ℕ) (b : Bool) → i < scopes img → Marked img a e → Marked img (set a i b) (set e i (getD e i false || b))
-  marked-turn a e i b l m =
-      record {
-        long = length-set a i b ∙ m .long;
-        ever-long = length-set e i (getD e i false || b) ∙ m .ever-long;
-        before = λ j. go j (ℕ-discrete j i);
-      }
-    where
-      go : (j : ℕ) → Dec (j ≡ i) → getD (set a i b) j false ≡ true → getD (set e i (getD e i false || b)) j false ≡ true
-      go j (yes q) y =
-          rw (q, getD-set-same e i (getD e i false || b) false (omega (arith, m .ever-long)))
-          (or-right (getD e i false) (sym (getD-set-same a i b false (omega (arith, m .long))) ∙ (rw q at y)))
-      go j (no q) y = getD-set-other e i j (getD e i false || b) false q ∙ m .before j (sym (getD-set-other a i j b false q) ∙ y)
-
-  -- active as before
-  pub sound-same : (s : State) (i : ℕ) (b : Bool) → i < scopes img → Sound img s → activeAt s i ≡ b → Sound img (noted s i b)
-  unfolding proper imageRules
-  sound-same s i b l h e =
-      let x : set (s .active) i b ≡ s .active = ap (set (s .active) i) (sym e) ∙ set-self (s .active) i false in
-      record {
-        moded = h .moded;
-        clocked = h .clocked;
-        stored = h .stored;
-        marked = marked-turn (s .active) (s .ever) i b l (h .marked);
-        queued = record { room = h .queued .room; events = rw x (h .queued .events); work = h .queued .work };
-      }
+  -- active as before: nothing changes
+  pub same-scope : (s : State) (i : ℕ) (b : Bool) → Sound img s → activeAt s i ≡ b → set (s .scopes) i (marked b (clocked (clockAt s i) (scopeAt s i))) ≡ s .scopes
+  same-scope s i b h e =
+      ap (set (s .scopes) i) (marked-same (clockAt s i) (activeAt s i) (everAt s i) b e (h .scoped .before i)) ∙ set-self (s .scopes) i (freshScope false)
 
   -- with the clock k from now on, by which its events map if it is active
   module _ (s : State) (i : ℕ) (k : Clock) (b : Bool) (l : i < scopes img) (h : Sound img s) where
-    image-turn : (e : Event) → imageRules s e ≡ true → (not b || maps i k e) ≡ true → imageRules (noted (withClock s i k) i b) e ≡ true
+    abbrev pub scope : Scope
+    scope = marked b (clocked k (scopeAt s i))
+
+    abbrev pub there : State
+    there = withScopes s (set (s .scopes) i scope)
+
+    pub own-scope : scopeAt there i ≡ scope
+    own-scope = getD-set-same (s .scopes) i scope (freshScope false) (omega (arith, h .scoped .long))
+
+    pub other-scope : (j : ℕ) → j ≢ i → scopeAt there j ≡ scopeAt s j
+    other-scope j q = getD-set-other (s .scopes) i j scope (freshScope false) q
+
+    scoped-turn : withinClock k ≡ true → Scoped img (there .scopes)
+    scoped-turn w =
+        record {
+          long = length-set (s .scopes) i scope ∙ h .scoped .long;
+          fit = every-set (λ x. withinClock (x .clock)) (s .scopes) i scope w (h .scoped .fit);
+          before = λ j. go j (ℕ-discrete j i);
+        }
+      where
+        go : (j : ℕ) → Dec (j ≡ i) → activeAt there j ≡ true → everAt there j ≡ true
+        go j (yes q) = rw (q, own-scope, activeAt, everAt) (λ e. or-right (everAt s i) e)
+        go j (no q) = rw (other-scope j q, activeAt, everAt) (h .scoped .before j)
+
+    image-turn : (e : Event) → imageRules (s .scopes) e ≡ true → (not b || maps i k e) ≡ true → imageRules (there .scopes) e ≡ true
     unfolding imageRules maps inQueue
     image-turn e m y = go (ℕ-discrete (e .queue) i)
       where
-        own : (b : Bool) → (not b || isTag (toGlobal k (e .tag))) ≡ true →
-            (eqb i root || (not (getD (set (s .active) i b) i false) || isTag (toGlobal (getD (set (s .clocks) i k) i (freshClock false)) (e .tag)))) ≡ true
-        own b z =
-            or-right (eqb i root)
-            (rw (getD-set-same (s .active) i b false (omega (arith, h .marked .long)), getD-set-same (s .clocks) i k (freshClock false) (omega (arith, h .clocked .long))) z)
+        go : Dec (e .queue ≡ i) → imageRules (there .scopes) e ≡ true
+        go (yes q) = rw (q, own-scope, activeAt, clockAt) (or-right (eqb i root) (rw (eq-eqb (e .queue) i q) at y))
+        go (no q) = rw (other-scope (e .queue) q, activeAt, clockAt) m
 
-        go : Dec (e .queue ≡ i) → imageRules (noted (withClock s i k) i b) e ≡ true
-        go (yes q) = rw q (own b (rw (eq-eqb (e .queue) i q) at y))
-        go (no q) = rw (getD-set-other (s .active) i (e .queue) b false q, getD-set-other (s .clocks) i (e .queue) k (freshClock false) q) m
-
-    pub sound-turn : withinClock k ≡ true → every (λ e. not b || maps i k e) (s .waiting) ≡ true → Sound img (noted (withClock s i k) i b)
+    pub sound-turn : withinClock k ≡ true → every (λ e. not b || maps i k e) (s .waiting) ≡ true → Sound img there
     unfolding proper
     sound-turn w y =
         record {
           moded = h .moded;
           stored = h .stored;
-          clocked = record { long = length-set (s .clocks) i k ∙ h .clocked .long; fit = every-set withinClock (s .clocks) i k w (h .clocked .fit) };
-          marked = marked-turn (s .active) (s .ever) i b l (h .marked);
+          scoped = scoped-turn w;
           queued =
               record {
                 room = h .queued .room;
                 work = h .queued .work;
                 events =
-                    every-imp (λ e. proper img s e && (not b || maps i k e)) (proper img (noted (withClock s i k) i b))
+                    every-imp (λ e. proper img s e && (not b || maps i k e)) (proper img there)
                     (λ e x. let p = and-left (proper img s e) _ x in let r = and-right (eventRules img e) _ p in
                     both (and-left (eventRules img e) _ p) (both (and-left (queueRules img e) _ r) (image-turn e (and-right (queueRules img e) _ r) (and-right (proper img s e) _ x))))
                     (s .waiting) (every-both (proper img s) (λ e. not b || maps i k e) (s .waiting) (h .queued .events) y);

@@ -24,7 +24,8 @@ use Rattle.store.specs.Store.{Store, storeRules}
 use Rattle.schedule.specs.Schedule.{isActive, triggersOf, startupsOf, resetsOf}
 use Rattle.machine.specs.Table.{scopes, modes, actions, hasParent}
 use Rattle.machine.specs.State.{Event, State, root, mostWaiting, clockAt, activeAt, withStore, accepted, without}
-use Rattle.machine.specs.Transition.{Plan, isTag, insideOf, prepared, turned, held, plainEvent, firsts, startupRows, startups, ifSome, step4, timerScope, timerImage, timerEvent, timer, timerRows, resetRows, resetEvent, step5, planOf, turnsOn, transition}
+use Rattle.machine.specs.Transition.{Plan, isTag, insideOf, prepared, turned, held, plainEvent, firsts, startupRows, startups, ifSome, step4, timerScope, timerImage, timerEvent, timer}
+use Rattle.machine.specs.Transition.{timerRows, resetRows, resetEvent, step5, planOf, turnsOn, transition}
 use Rattle.machine.specs.Machine.{queueRules, imageRules}
 use Rattle.lists.specs.Every.{by-test, both, or-right, done-is, unless-is, every-all, keep-walk, keep-below, getD-from}
 use Rattle.kept.specs.Stored.{push-keeps}
@@ -112,7 +113,7 @@ module _ (img : Image) where
           by-test (hasParent img q)
           (λ b. rw b (or-right (eqb q root) (both (lt-ltb q (scopes img) (action-scope img tb (timerAction img j) (timer-action img tb j l))) b))) (λ b. rw b)
 
-      timer-image : imageRules s (timerEvent img j g) ≡ true
+      timer-image : imageRules (s .scopes) (timerEvent img j g) ≡ true
       unfolding imageRules timerEvent timerImage
       timer-image =
           let q = timerScope img j in

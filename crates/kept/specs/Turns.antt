@@ -1,30 +1,31 @@
 -- A transition's step 3: each scope's turn keeps the rules, and after its turn a scope is active as planned. Assumes nothing.
 use Prim.Native.Nat.{ℕ, zero, suc, _+_, _<_}
-use mathlib.Core.Bool.{Bool, true, false, not, _||_}
+use mathlib.Core.Bool.{Bool, true, false, not, _&&_, _||_}
+use mathlib.Core.Logic.{_≢_}
 use mathlib.Core.Path.{_≡_, refl, ap, _∙_, sym}
-use mathlib.Core.List.{List}
+use mathlib.Core.List.{List, map}
 use native.Mathlib.Omega.{arith}
 use native.Mathlib.Decide.{ℕ-discrete}
 use lib.Dec.{eqb}
-use lib.ListN.{getD, set}
-use lib.Seq.{getD-set-same, getD-set-other}
 use borrow.Author.Tests.{eqb-true}
-use Rattle.lists.specs.Tests.{and-left}
+use lib.ListN.{set}
+use Rattle.lists.specs.Tests.{and-left, and-no}
 use Rattle.lists.specs.Lists.{every, from}
-use Rattle.lists.specs.Walk.{done, walk, bind-done}
+use Rattle.lists.specs.Walk.{done, _>>=_, walk, bind-done}
 use Rattle.refusals.specs.declared.Refusal.the-variants as R
 use Rattle.rows.specs.Bytes.{Image}
-use Rattle.tags.specs.Tags.{Clock, freshClock, within, withinClock, toLocal, toGlobal}
+use Rattle.tags.specs.Tags.{Clock, within, withinClock, toLocal, toGlobal}
 use Rattle.tags.proofs.Laws.{clock-G, clock-L, clock-S}
-use Rattle.store.specs.Store as S
+use Rattle.store.specs.Store.{Store, storeRules}
 use Rattle.machine.specs.Table.{scopes, actions}
-use Rattle.machine.specs.State.{Event, State, inQueue, stamped, clockAt, activeAt, withStore, withClock, noted, restamped}
-use Rattle.machine.specs.Transition.{Plan, isNow, isInside, suspended, left, activated, isTag, maps, stamp, movers, moveValue, entered, restarted, changed, turned}
+use Rattle.machine.specs.State.{Event, State, freshScope, inQueue, scopeAt, clockAt, activeAt, clocked, marked, withQueue, withScopes}
+use Rattle.machine.specs.Transition.{Plan, isNow, isInside, suspended, leaving, activated, restarted, staying, clockAfter, isTag, maps, stamp, restamp, movers, moveOne, entering, Turning}
+use Rattle.machine.specs.Transition.{turnBy, oneTurn, withTurn, turned}
 use Rattle.machine.specs.Machine.{eventRules}
 use Rattle.lists.specs.Every.{by-test, no-way, or-left, not-so, done-is, need-is, either-is, every-all, every-imp, every-getD, every-map, keep-walk}
 use Rattle.kept.specs.Stored.{move-keeps}
 use Rattle.kept.specs.Limits.{local-within, zero-within, clock-within, fresh-within}
-use Rattle.kept.specs.Sound.{proper, Sound, sound-store, sound-restamped, sound-same, sound-turn}
+use Rattle.kept.specs.Sound.{proper, Sound, sound-store, sound-restamped, same-scope, own-scope, other-scope, sound-turn}
 use Rattle.kept.specs.Events.{stamped-rules, mover, movers-each, mover-action, mover-new}
 
 -- no event waits where the plan resets
@@ -36,32 +37,46 @@ record Turned (img : Image) (p : Plan) (s : State) (i : ℕ) (b : Bool) (t : Sta
   sound : Sound img t
   outside : Outside p t
   modes : t .modes ≡ s .modes
-  active : t .active ≡ set (s .active) i b
+  own : activeAt t i ≡ b
+  others : (j : ℕ) → j ≢ i → activeAt t j ≡ activeAt s j
 
 module _ (img : Image) (p : Plan) (w : within (p .c) ≡ true) (s : State) (i : ℕ) (l : i < scopes img) (h : Sound img s) (o : Outside p s) where
   clock-fits : withinClock (clockAt s i) ≡ true
-  clock-fits = every-getD withinClock (s .clocks) i (freshClock false) (fresh-within false) (h .clocked .fit)
+  clock-fits = every-getD (λ x. withinClock (x .clock)) (s .scopes) i (freshScope false) (fresh-within false) (h .scoped .fit)
 
-  -- active as before
-  stays : (b : Bool) → activeAt s i ≡ b → Turned img p s i b (noted s i b)
-  stays b e = record { sound = sound-same img s i b l h e; outside = o; modes = refl; active = refl }
+  abbrev after : Turning → State
+  after t = withTurn s i t
 
-  -- with another clock
-  turns : (k : Clock) (b : Bool) → withinClock k ≡ true → every (λ e. not b || maps i k e) (s .waiting) ≡ true → Turned img p s i b (noted (withClock s i k) i b)
-  turns k b f m = record { sound = sound-turn img s i k b l h f m; outside = o; modes = refl; active = refl }
+  -- active or not from now on, by the clock k, with these events and this store
+  abbrev standing : Bool → Clock → List Event → Store → Turning
+  standing b k es st = record { scope = marked b (clocked k (scopeAt s i)); waiting = es; store = st }
+
+  own : (k : Clock) (b : Bool) → activeAt (withScopes s (set (s .scopes) i (marked b (clocked k (scopeAt s i))))) i ≡ b
+  own k b = ap (λ x. x .active) (own-scope img s i k b l h)
+
+  others : (k : Clock) (b : Bool) (j : ℕ) → j ≢ i → activeAt (withScopes s (set (s .scopes) i (marked b (clocked k (scopeAt s i))))) j ≡ activeAt s j
+  others k b j q = ap (λ x. x .active) (other-scope img s i k b l h j q)
+
+  -- active as before, by the same clock
+  stays : (b : Bool) → activeAt s i ≡ b → Turned img p s i b (after (standing b (clockAt s i) (s .waiting) (s .store)))
+  stays b e = rw (same-scope img s i b h e) (record { sound = h; outside = o; modes = refl; own = e; others = λ j q. refl })
+
+  -- by another clock
+  turns : (k : Clock) (b : Bool) → withinClock k ≡ true → every (λ e. not b || maps i k e) (s .waiting) ≡ true → Turned img p s i b (after (standing b k (s .waiting) (s .store)))
+  turns k b f m = record { sound = sound-turn img s i k b l h f m; outside = o; modes = refl; own = own k b; others = others k b }
 
   -- "Going inactive": its events need not map
-  leaves : (u : State) → left (p .c) s i ≡ done u → Turned img p s i false (noted u i false)
-  unfolding left
-  leaves u d =
+  leaves : (k : Clock) → leaving (p .c) (clockAt s i) ≡ done k → Turned img p s i false (after (standing false k (s .waiting) (s .store)))
+  unfolding leaving
+  leaves k d =
       bind-done (toLocal (clockAt s i) (p .c)) _ d λ x y z.
-      let k = suspended (clockAt s i) x in
       rw (← (done-is z))
-      (turns k false (clock-within k (clock-G (clockAt s i) clock-fits) (clock-L (clockAt s i) clock-fits) (local-within (clockAt s i) (p .c) x w y))
+      (turns (suspended (clockAt s i) x) false
+      (clock-within _ (clock-G (clockAt s i) clock-fits) (clock-L (clockAt s i) clock-fits) (local-within (clockAt s i) (p .c) x w y))
       (every-all _ (λ e. refl) (s .waiting)))
 
   -- "Staying active in a reset subtree": no event is there
-  restarts : isInside p i ≡ true → Turned img p s i true (noted (withClock s i (restarted (p .c))) i true)
+  restarts : isInside p i ≡ true → Turned img p s i true (after (standing true (restarted (p .c)) (s .waiting) (s .store)))
   unfolding maps inQueue
   restarts y =
       let k = restarted (p .c) in
@@ -72,48 +87,61 @@ module _ (img : Image) (p : Plan) (w : within (p .c) ≡ true) (s : State) (i : 
       (λ q. no-way (sym (not-so (isInside p (e .queue)) z) ∙ (ap (isInside p) (eqb-true (e .queue) i q) ∙ y))) (λ q. ap not q)))
       (s .waiting) o)
 
+  remains : (k : Clock) → staying (p .c) (isInside p i) (clockAt s i) ≡ k → activeAt s i ≡ true → Turned img p s i true (after (standing true k (s .waiting) (s .store)))
+  unfolding staying
+  remains k e a = either-is (isInside p i) e (λ c q. rw (← q) (restarts c)) (λ c q. rw (← q) (stays true a))
+
   -- "Going active": all its events map, and their values follow
-  enters : (k : Clock) (u : State) → withinClock k ≡ true → entered i k s ≡ done u → Turned img p s i true (noted u i true)
-  unfolding entered
-  enters k u f d =
+  enters : (k : Clock) (st : Store) → withinClock k ≡ true → entering i k (s .waiting) (s .store) ≡ done st →
+      Turned img p s i true (after (standing true k (map (restamp i k) (s .waiting)) st))
+  unfolding entering maps inQueue
+  enters k st f d =
       let x = need-is (every (maps i k) (s .waiting)) R.MappedTag d in
-      keep-walk (λ v. Turned img p s i true (noted v i true)) (mover img) (moveValue i k) move (movers i (s .waiting)) (restamped (stamp i k) (withClock s i k)) u
-      (movers-each img i (s .waiting) (every-imp (proper img s) (eventRules img) (unfold proper in λ e y. and-left (eventRules img e) _ y) (s .waiting) (h .queued .events)))
-      (begun (x .0)) (x .1)
+      record {
+        sound =
+            sound-store img _ st
+            (sound-turn img (withQueue s (map (restamp i k) (s .waiting)) (s .work)) i k true l (sound-restamped img (stamp i k) s h (stamped-rules img i k)) f
+            (every-map (restamp i k) (maps i k) (s .waiting) (x .0)))
+            (keep-walk (λ u. storeRules (actions img) u ≡ true) (mover img) (moveOne i k) move (movers i (s .waiting)) (s .store) st (movers-each img i (s .waiting) ruled) (h .stored) (x .1));
+        outside = every-map (restamp i k) (λ e. not (isInside p (e .queue))) (s .waiting) o;
+        modes = refl;
+        own = own k true;
+        others = others k true;
+      }
     where
-      begun : every (maps i k) (s .waiting) ≡ true → Turned img p s i true (noted (restamped (stamp i k) (withClock s i k)) i true)
-      begun m = unfold restamped maps inQueue in
-          record {
-            sound =
-                sound-turn img (restamped (stamp i k) s) i k true l (sound-restamped img (stamp i k) s h (stamped-rules img i k)) f
-                (every-map (λ e. stamped e (stamp i k e)) (maps i k) (s .waiting) m);
-            outside = every-map (λ e. stamped e (stamp i k e)) (λ e. not (isInside p (e .queue))) (s .waiting) o;
-            modes = refl;
-            active = refl;
-          }
+      ruled : every (eventRules img) (s .waiting) ≡ true
+      ruled = every-imp (proper img s) (eventRules img) (unfold proper in λ e y. and-left (eventRules img e) _ y) (s .waiting) (h .queued .events)
 
-      move : (v : State) (e : Event) (t : State) → mover img e ≡ true → Turned img p s i true (noted v i true) → moveValue i k v e ≡ done t → Turned img p s i true (noted t i true)
-      move v e t m r d = unfold moveValue in
-          (bind-done (S.moved (v .store) (e .action) (e .stored) (stamp i k e)) (λ st. done (withStore v st)) d λ st y z.
-          rw (← (done-is z))
-          (record {
-            sound = sound-store img (noted v i true) st (r .sound) (move-keeps (actions img) (v .store) (r .sound .stored) (e .action) (e .stored) (stamp i k e) st (mover-action img i k e m) (mover-new img i k e m) y);
-            outside = r .outside;
-            modes = r .modes;
-            active = r .active;
-          }))
+      move : (u : Store) (e : Event) (v : Store) → mover img e ≡ true → storeRules (actions img) u ≡ true → moveOne i k u e ≡ done v → storeRules (actions img) v ≡ true
+      move u e v m r d = unfold moveOne in
+          move-keeps (actions img) u r (e .action) (e .stored) (stamp i k e) v (mover-action img i k e m) (mover-new img i k e m) d
 
-  turn : (u : State) → changed p s i ≡ done u → Turned img p s i (isNow p i) (noted u i (isNow p i))
-  unfolding changed
-  turn u d =
-      either-is (activeAt s i) d
-      (λ a e. either-is (isNow p i) e
-      (λ b r. rw b (either-is (isInside p i) (done-is r) (λ c q. rw (← q) (restarts c)) (λ c q. rw (← q) (stays true a))))
-      (λ b r. rw b (leaves u r)))
-      (λ a e. either-is (isNow p i) e
-      (λ b r. rw b (enters (activated (p .c) (clockAt s i)) u
-      (clock-within (activated (p .c) (clockAt s i)) w (clock-S (clockAt s i) clock-fits) (clock-S (clockAt s i) clock-fits)) r))
-      (λ b r. rw (b, ← (done-is r)) (stays false a)))
+  activated-within : withinClock (activated (p .c) (clockAt s i)) ≡ true
+  activated-within = clock-within _ w (clock-S (clockAt s i) clock-fits) (clock-S (clockAt s i) clock-fits)
+
+  -- by its clock after the turn: its events are looked at only where it goes active
+  clocked-turn : (k : Clock) (t : Turning) → clockAfter (p .c) (isNow p i) (isInside p i) (scopeAt s i) ≡ done k →
+      turnBy (isNow p i) i (scopeAt s i) k (s .waiting) (s .store) ≡ done t → Turned img p s i (isNow p i) (after t)
+  unfolding clockAfter turnBy
+  clocked-turn k t y z =
+      either-is (activeAt s i) y
+      (λ a e. let q = still (ap (λ x. isNow p i && not x) a ∙ and-no (isNow p i)) in
+      either-is (isNow p i) e (λ b r. rw (← q, b) (remains k (done-is r) a)) (λ b r. rw (← q, b) (leaves k r)))
+      (λ a e. either-is (isNow p i) (done-is e)
+      (λ b r. bind-done (entering i k (s .waiting) (s .store)) _ (goes (ap (λ x. isNow p i && not x) a ∙ rw b)) λ u x v.
+      rw (← (done-is v), b) (enters k u (rw r at activated-within) x))
+      (λ b r. rw (← (still (rw b)), ← r, b) (stays false a)))
+    where
+      still : (isNow p i && not (activeAt s i)) ≡ false → standing (isNow p i) k (s .waiting) (s .store) ≡ t
+      still q = either-is (isNow p i && not (activeAt s i)) z (λ r e. no-way (sym q ∙ r)) (λ r e. done-is e)
+
+      goes : (isNow p i && not (activeAt s i)) ≡ true →
+          (entering i k (s .waiting) (s .store) >>= λ u. done (standing (isNow p i) k (map (restamp i k) (s .waiting)) u)) ≡ done t
+      goes q = either-is (isNow p i && not (activeAt s i)) z (λ r e. e) (λ r e. no-way (sym r ∙ q))
+
+  turn : (t : Turning) → oneTurn (p .c) (isNow p i) (isInside p i) i (scopeAt s i) (s .waiting) (s .store) ≡ done t → Turned img p s i (isNow p i) (after t)
+  unfolding oneTurn
+  turn t d = bind-done (clockAfter (p .c) (isNow p i) (isInside p i) (scopeAt s i)) _ d λ k y z. clocked-turn k t y z
 
 -- "Scopes ascending": before scope i's turn, those below it are as planned
 pub record Walked (img : Image) (p : Plan) (ms : List ℕ) (i : ℕ) (s : State) : Type 0 where
@@ -126,21 +154,15 @@ module _ (img : Image) (p : Plan) (w : within (p .c) ≡ true) (ms : List ℕ) w
   one-turn : (s : State) (i : ℕ) (t : State) → i < scopes img → Walked img p ms i s → turned p s i ≡ done t → Walked img p ms (suc i) t
   unfolding turned
   one-turn s i t l h d =
-      bind-done (changed p s i) (λ u. done (noted u i (isNow p i))) d λ u e r.
-      rw (← (done-is r)) (next u (turn img p w s i l (h .sound) (h .outside) u e))
+      bind-done (oneTurn (p .c) (isNow p i) (isInside p i) i (scopeAt s i) (s .waiting) (s .store)) _ d λ u e r.
+      rw (← (done-is r)) (next (withTurn s i u) (turn img p w s i l (h .sound) (h .outside) u e))
     where
-      next : (u : State) → Turned img p s i (isNow p i) (noted u i (isNow p i)) → Walked img p ms (suc i) (noted u i (isNow p i))
-      next u k =
-          record {
-            sound = k .sound;
-            outside = k .outside;
-            modes = k .modes ∙ h .modes;
-            below = λ j m. ap (λ a. getD a j false) (k .active) ∙ low j m (ℕ-discrete j i);
-          }
+      next : (u : State) → Turned img p s i (isNow p i) u → Walked img p ms (suc i) u
+      next u k = record { sound = k .sound; outside = k .outside; modes = k .modes ∙ h .modes; below = λ j m. low j m (ℕ-discrete j i) }
         where
-          low : (j : ℕ) → j < suc i → Dec (j ≡ i) → getD (set (s .active) i (isNow p i)) j false ≡ isNow p j
-          low j m (yes q) = rw q (getD-set-same (s .active) i (isNow p i) false (omega (arith, h .sound .marked .long)))
-          low j m (no q) = getD-set-other (s .active) i j (isNow p i) false q ∙ h .below j (omega arith)
+          low : (j : ℕ) → j < suc i → Dec (j ≡ i) → activeAt u j ≡ isNow p j
+          low j m (yes q) = rw q (k .own)
+          low j m (no q) = k .others j q ∙ h .below j (omega arith)
 
   pub all-turns : (n i : ℕ) (s t : State) → i + n ≡ scopes img → Walked img p ms i s → walk (turned p) s (from i n) ≡ done t → Walked img p ms (scopes img) t
   unfolding walk from

@@ -16,7 +16,8 @@ use lib.Seq.{getD-set-same, getD-set-other, set-out, ext-getD}
 use borrow.Author.Tests.{eq-eqb, ne-eqb, lt-ltb, le-ltb, le-leb}
 use Rattle.lists.specs.Tests.{same?, gt-eqb, below?, and-yes, or-no, or-yes}
 use Rattle.lists.specs.Lists.{keep, any, foldl}
-use Rattle.lists.specs.Ranges.{ascending, those-ascend, first-none, Lowest, those-end, those-first, those-lowest, those-none, those-empty, those-fit, those-any, those-same, keep-those, both, either, count-either, count-more}
+use Rattle.lists.specs.Ranges.{ascending, those-ascend, first-none, Lowest, those-end, those-first, those-lowest, those-none}
+use Rattle.lists.specs.Ranges.{those-empty, those-fit, those-any, those-same, keep-those, both, either, count-either, count-more}
 use Rattle.key_set.specs.declared.Found.{Found}
 use Rattle.key_set.specs.declared.Found.the-variants.{Key, Nothing}
 use Rattle.key_set.specs.Views.{foundOf}

@@ -1,2 +1,4 @@
 pub mod Padded
 pub mod Lens
+pub mod Holds
+pub mod Parts

@@ -1,7 +1,37 @@
-// The manager's state in lent arrays of words. What the arrays hold, and when, is in specs/.
+// One room for the state: document 01, "The plain machine", its events, scopes, modes, work and values, in rows of words that are lent, and a ledger
+// of all that lies in no row. What the rows hold, and what a call does to them, is in specs/. A new part of the state comes in here: in the ledger or
+// as a row, in `Holds` and in `stateIn`; crates above speak of these alone.
+use entries::BucketRows;
+use entries::ValueRows;
+use refusals::Outcome;
+
+// How many reactors there may be; `mostReactors` of specs/ says the same.
+pub const MOST_REACTORS: usize = 16;
 
 // How many events wait, and how many of them are ordinary.
 pub struct Counts {
     pub waiting: usize,
     pub work: usize,
+}
+
+// All of the state that lies in no row: a mode for each reactor, zeros behind them, how many events wait and how much is held.
+pub struct Ledger {
+    pub modes: [u16; MOST_REACTORS],
+    pub counts: Counts,
+    pub held: store_calls::Counts,
+}
+
+// The whole state by value: its rows of words, blanks behind what is in use, and the ledger.
+pub struct Room {
+    pub scopes: [u64; scopes::ROOM],
+    pub events: [u64; slots::ROOM],
+    pub values: ValueRows,
+    pub buckets: BucketRows,
+    pub ledger: Ledger,
+}
+
+// What a step or a call on lent rows comes to, and the ledger after it.
+pub struct Stepped {
+    pub outcome: Outcome,
+    pub ledger: Ledger,
 }

@@ -1,5 +1,6 @@
-// The lines that answer a gate day: document 01, "The bench program". Each is written into a lent buffer, and how many bytes it has is answered.
-// Total: past the buffer's end nothing is written.
+// The lines that answer a gate day: document 01, "Lists are joined by commas", "table ok", "ready ..", "refused N". Each is written into a lent
+// buffer, and how many bytes it has is answered. Total: past the buffer's end nothing is written.
+// A new word of a line comes in here, in `write_head` and in `lineOf` of specs/; LINE is as long as the longest.
 ghost use mathlib.Core.Path.{_≡_};
 ghost use mathlib.Core.Bool.{cond};
 ghost use mathlib.Core.List.{List, _∷_, [], _++_, map};
@@ -8,6 +9,7 @@ ghost use lib.Dec.{leb};
 ghost use lib.ListN.{length, take, drop};
 ghost use lib.Seq.{sets};
 ghost use Rattle.lists.specs.Lists.{keep};
+ghost use Rattle.lists.specs.Lent.{was, is};
 ghost use Rattle.key_set.specs.Sets.{keysOf, wordCount};
 ghost use Rattle.rows.specs.Rows as R;
 ghost use Rattle.machine.specs.Machine as M;
@@ -180,7 +182,7 @@ fn put_in(keys: &mut [u16], n: usize, place: usize, key: u16)
 // One key more among keys that stand by level: behind those at its own.
 fn put_key(keys: &mut [u16], n: usize, key: u16, levels: &[u8])
     requires { ⌜ n < length (now keys) ⌝ }
-    ensures { λ _. ⌜ ((x : List ℕ) → take n (now (keys .entry)) ≡ byLevel (levelIn (now (levels .entry))) x 0 levelCount → take (n + 1) (now (keys .exit)) ≡ byLevel (levelIn (now (levels .entry))) (x ++ (key ∷ [])) 0 levelCount) ⌝ }
+    ensures { λ _. ⌜ ((x : List ℕ) → take n (was keys) ≡ byLevel (levelIn (was levels)) x 0 levelCount → take (n + 1) (is keys) ≡ byLevel (levelIn (was levels)) (x ++ (key ∷ [])) 0 levelCount) ⌝ }
 {
     let v = level_of(levels, key);
     let place = up_to(levels, keys, n, v);

@@ -107,7 +107,8 @@ module _ {A : Type 0} (p : A → Bool) (f : A → A) (x : A) where
   length-upsert [] = refl
   length-upsert (a ∷ l) = go (p a) (length-upsert l)
     where
-      go : (b : Bool) → length (upsert p f x l) ≡ cond (any p l) (length l) (suc (length l)) → length (cond b (f a ∷ l) (a ∷ upsert p f x l)) ≡ cond (b || any p l) (suc (length l)) (suc (suc (length l)))
+      go : (b : Bool) → length (upsert p f x l) ≡ cond (any p l) (length l) (suc (length l)) →
+          length (cond b (f a ∷ l) (a ∷ upsert p f x l)) ≡ cond (b || any p l) (suc (length l)) (suc (suc (length l)))
       go true r = refl
       go false r = ap suc r ∙ out (any p l)
         where

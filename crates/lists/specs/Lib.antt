@@ -12,3 +12,4 @@ pub mod Marks
 pub mod Changes
 pub mod Every
 pub mod Each
+pub mod Lent

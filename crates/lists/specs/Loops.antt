@@ -311,9 +311,11 @@ module _ {A : Type 0} (decode : List ℕ → A) (encode : A → List ℕ) (w n :
         → Held decode encode w n long out (set (thingsOf decode encode w n long ws) i (view (getD things i d))) → take (i + 1) (thingsOf decode encode w n long out) ≡ take (i + 1) (map view things)
     rows-more i ws out d h e q =
         let l : i < length things = omega arith in
-        rw (add-one, q .things, take-suc-set (thingsOf decode encode w n long ws) i (view (getD things i d)) (rw things-length h), e, ← (map-take view i things), ← (map-take view (suc i) things), take-suc things i d l, map-append)
+        rw (add-one, q .things, take-suc-set (thingsOf decode encode w n long ws) i (view (getD things i d)) (rw things-length h), e)
+        (rw (← (map-take view i things), ← (map-take view (suc i) things), take-suc things i d l, map-append))
 
-    pub rows-all : (i : ℕ) (ws : List ℕ) → Whole decode encode w n long ws → n ≤ i → take i (thingsOf decode encode w n long ws) ≡ take i (map view things) → Held decode encode w n long ws (map view things)
+    pub rows-all : (i : ℕ) (ws : List ℕ) → Whole decode encode w n long ws → n ≤ i → take i (thingsOf decode encode w n long ws) ≡ take i (map view things)
+        → Held decode encode w n long ws (map view things)
     rows-all i ws h b e =
         record { whole = h; things = sym (take-all i (thingsOf decode encode w n long ws) (rw things-length b)) ∙ (e ∙ take-all i (map view things) (rw length-map (omega arith))) }
 

@@ -55,8 +55,10 @@ module _ {a : Bool} where
   pub or-stop : (b : Bool) → a ≡ true → true ≡ (a || b)
   or-stop b e = rw e
 
+pub ruleset compares = (is-same, is-not-other, is-other, is-not-same, ne-eqb, is-below, is-not-below, test-same, test-below, test-at-most)
+
 -- the code's tests in a definition's order: `search chains`, under `unfolding` of the definition
-pub ruleset chains = (and-pass, and-stop, or-pass, or-stop, is-same, is-not-other, is-other, is-not-same, ne-eqb, is-below, is-not-below, test-same, test-below, test-at-most, flag, flag-no, flag-yes, refl)
+pub ruleset chains = (and-pass, and-stop, or-pass, or-stop, compares, flag, flag-no, flag-yes, refl)
 
 -- what is left of a list, as a loop goes over it
 module _ {A : Type 0} (p : A → Bool) (l : List A) (i : ℕ) (d : A) where

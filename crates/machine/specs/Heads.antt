@@ -4,14 +4,14 @@ use mathlib.Core.Bool.{Bool, true, false, cond, not, _&&_, _||_}
 use mathlib.Core.List.{List, [], _∷_, _++_, map}
 use lib.Dec.{eqb}
 use lib.ListN.{length}
-use Rattle.lists.specs.Lists.{keep, any, every, from, foldl}
+use Rattle.lists.specs.Lists.{keep, lose, any, every, from, foldl}
 use Rattle.lists.specs.Walk.{Result, done, refused}
 use Rattle.rows.specs.Bytes.{Image}
 use Rattle.rows.specs.Rows.{none}
-use Rattle.tags.specs.Tags.{Tag, Answer, sameTag, earlier, toGlobal}
+use Rattle.tags.specs.Tags.{Tag, Clock, Answer, sameTag, earlier, toGlobal}
 use Rattle.key_set.specs.Sets.{unionOf, noKeys, wordCount}
 use Rattle.machine.specs.Table.{scopes}
-use Rattle.machine.specs.State.{Event, State, root, ordinary, inQueue, atHead, clockAt, activeAt, without}
+use Rattle.machine.specs.State.{Event, Scope, root, ordinary, inQueue, atHead, scopeIn, workLess}
 
 -- ---- the least tag of a queue
 
@@ -43,15 +43,18 @@ abbrev pub mapped : ℕ → Tag → Answer → Head
 mapped i t (done g) = head i t g
 mapped i t (refused n) = empty
 
-abbrev pub scopeOf : State → ℕ → Least → Head
-scopeOf s i noTag = empty
-scopeOf s i (least t) = mapped i t (toGlobal (clockAt s i) t)
+abbrev pub mappedHead : Clock → ℕ → Least → Head
+mappedHead k i noTag = empty
+mappedHead k i (least t) = mapped i t (toGlobal k t)
 
-unfoldable pub rootHead : State → Head
-rootHead s = rootOf (leastOf root (s .waiting))
+unfoldable pub scopeHeadOf : Scope → ℕ → Least → Head
+scopeHeadOf x i l = cond (x .active) (mappedHead (x .clock) i l) empty
 
-unfoldable pub headAt : State → ℕ → Head
-headAt s i = cond (activeAt s i) (scopeOf s i (leastOf i (s .waiting))) empty
+unfoldable pub rootHead : List Event → Head
+rootHead es = rootOf (leastOf root es)
+
+unfoldable pub headAt : List Scope → List Event → ℕ → Head
+headAt ss es i = scopeHeadOf (scopeIn ss i) i (leastOf i es)
 
 -- ---- "Peek is the least head over root and active scopes."
 
@@ -62,11 +65,11 @@ sooner (head q t g) empty = head q t g
 sooner (head q t g) (head r u h) = cond (earlier h g) (head r u h) (head q t g)
 
 -- the least scope head, of the lowest-numbered such scope
-unfoldable pub scopeHead : Image → State → Head
-scopeHead img s = foldl sooner empty (map (headAt s) (from 0 (scopes img)))
+unfoldable pub scopeHead : Image → List Scope → List Event → Head
+scopeHead img ss es = foldl sooner empty (map (headAt ss es) (from 0 (scopes img)))
 
-unfoldable pub peek : Image → State → Head
-peek img s = sooner (rootHead s) (scopeHead img s)
+unfoldable pub peek : Image → List Scope → List Event → Head
+peek img ss es = sooner (rootHead es) (scopeHead img ss es)
 
 abbrev pub isAt : Tag → Head → Bool
 isAt t empty = false
@@ -75,39 +78,50 @@ isAt t (head q x g) = sameTag g t
 -- ---- "Control only: yes exactly if there is a peek tag, the root head is that tag, all root events there are control,
 -- and no active scope has that head."
 
-abbrev pub controlAt : Image → State → Head → Bool
-controlAt img s empty = false
-controlAt img s (head q x t) =
-    isAt t (rootHead s) && (every (λ e. not (atHead root t e) || e .control) (s .waiting) && not (isAt t (scopeHead img s)))
+-- of the root's events at t, only control events
+unfoldable pub controlled : Tag → Event → Bool
+controlled t e = not (atHead root t e) || e .control
 
-unfoldable pub controlOnly : Image → State → Bool
-controlOnly img s = controlAt img s (peek img s)
+abbrev pub controlAt : Image → List Scope → List Event → Head → Bool
+controlAt img ss es empty = false
+controlAt img ss es (head q x t) = isAt t (rootHead es) && (every (controlled t) es && not (isAt t (scopeHead img ss es)))
+
+unfoldable pub controlOnly : Image → List Scope → List Event → Bool
+controlOnly img ss es = controlAt img ss es (peek img ss es)
 
 -- ---- "Pop at peek tag t"
 
--- the state, and what was taken out of it so far
+-- what still waits, how much of it is ordinary work, and what was taken so far
 pub record Taking : Type 0 where
-  pub state : State
+  pub waiting : List Event
+  pub work : ℕ
   pub events : List Event
+
+abbrev pub untaken : List Event → ℕ → Taking
+untaken es work = record { waiting = es; work = work; events = [] }
+
+-- all events of a queue at a tag of that queue
+unfoldable pub taken : ℕ → Tag → Taking → Taking
+taken q x k =
+    let p = atHead q x in
+    record { waiting = lose p (k .waiting); work = workLess p (k .waiting) (k .work); events = k .events ++ keep p (k .waiting) }
 
 -- all events at a head, if the head is t
 abbrev pub takeAt : Tag → Taking → Head → Taking
 takeAt t k empty = k
-takeAt t k (head q x g) =
-    cond (sameTag g t)
-    (record { state = without (atHead q x) (k .state); events = k .events ++ keep (atHead q x) (k .state .waiting) }) k
+takeAt t k (head q x g) = cond (sameTag g t) (taken q x k) k
 
 -- "while the least scope head is t, all events at the least local tag of the lowest-numbered such scope";
 -- each turn takes an event, so n turns are enough for n events
-unfoldable pub takeScopes : ℕ → Image → Tag → Taking → Taking
-takeScopes zero img t k = k
-takeScopes (suc n) img t k =
-    let h = scopeHead img (k .state) in
-    cond (isAt t h) (takeScopes n img t (takeAt t k h)) k
+unfoldable pub takeScopes : ℕ → Image → List Scope → Tag → Taking → Taking
+takeScopes zero img ss t k = k
+takeScopes (suc n) img ss t k =
+    let h = scopeHead img ss (k .waiting) in
+    cond (isAt t h) (takeScopes n img ss t (takeAt t k h)) k
 
 -- "the root's events at t if its head is t; then" the scopes'
-unfoldable pub taking : Image → Tag → State → Taking
-taking img t s = takeScopes (length (s .waiting)) img t (takeAt t (record { state = s; events = [] }) (rootHead s))
+unfoldable pub taking : Image → List Scope → Tag → Taking → Taking
+taking img ss t k = takeScopes (length (k .waiting)) img ss t (takeAt t k (rootHead (k .waiting)))
 
 -- "Answer: union of reactions, terminal, some ordinary work, network by "or", and each action key once, in order of taking."
 pub record Ready : Type 0 where

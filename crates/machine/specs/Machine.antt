@@ -17,9 +17,9 @@ use Rattle.store.specs.Store.{Found, storeRules}
 use Rattle.schedule.specs.Schedule.{isModal, isActive}
 use Rattle.table.specs.Check.{isTable}
 use Rattle.machine.specs.Table.{scopes, reactors, modes, reactions, actions, hasParent, setOf}
-use Rattle.machine.specs.State.{Event, State, root, ordinary, rootEvent, mostWaiting, clockAt, activeAt, everAt, withStore, accepted}
+use Rattle.machine.specs.State.{Event, Scope, State, root, ordinary, rootEvent, mostWaiting, scopeIn, scopeAt, activeAt, everAt, withQueue, withStore, accepted}
 use Rattle.machine.specs.Heads as H
-use Rattle.machine.specs.Heads.{Head, Ready, peek, controlOnly, taking, readyOf}
+use Rattle.machine.specs.Heads.{Head, Ready, peek, controlOnly, untaken, taking, readyOf}
 use Rattle.machine.specs.Transition.{Step, transition, isTag}
 
 -- ---- "State rules"
@@ -36,32 +36,30 @@ eventRules img e =
     (eqb (e .action) none || (ltb (e .action) (actions img) && within (e .stored))))
 
 -- "events in active scopes map within limits"
-unfoldable pub imageRules : State → Event → Bool
-imageRules s e = eqb (e .queue) root || (not (activeAt s (e .queue)) || isTag (toGlobal (clockAt s (e .queue)) (e .tag)))
+unfoldable pub imageRules : List Scope → Event → Bool
+imageRules ss e = let x = scopeIn ss (e .queue) in eqb (e .queue) root || (not (x .active) || isTag (toGlobal (x .clock) (e .tag)))
 
 -- "a scope is active exactly if it and all ancestors that name a mode find it current; an active scope counts as active before"
-unfoldable pub scopeRules : Image → State → ℕ → Bool
-scopeRules img s i = Bool·beq (activeAt s i) (isActive img (s .modes) i) && (not (activeAt s i) || everAt s i)
+unfoldable pub scopeRules : Image → List ℕ → List Scope → ℕ → Bool
+scopeRules img modes ss i = let x = scopeIn ss i in Bool·beq (x .active) (isActive img modes i) && (not (x .active) || x .ever)
 
 unfoldable pub modeRules : Image → ℕ → Bool
 modeRules img m = eqb m none || ltb m (modes img)
 
--- a mode for each reactor; a clock and two marks for each scope
+-- a mode for each reactor, and all scopes
 unfoldable pub sized : Image → State → Bool
-sized img s =
-    eqb (length (s .modes)) (reactors img) &&
-    (eqb (length (s .clocks)) (scopes img) && (eqb (length (s .active)) (scopes img) && eqb (length (s .ever)) (scopes img)))
+sized img s = eqb (length (s .modes)) (reactors img) && eqb (length (s .scopes)) (scopes img)
 
 unfoldable pub rules : Image → State → Bool
 rules img s =
     isTable img && (sized img s &&
     (every (modeRules img) (s .modes) &&
-    (every withinClock (s .clocks) &&
+    (every (λ x. withinClock (x .clock)) (s .scopes) &&
     (leb (length (s .waiting)) mostWaiting &&
-    (every (scopeRules img s) (from 0 (scopes img)) &&
+    (every (scopeRules img (s .modes) (s .scopes)) (from 0 (scopes img)) &&
     (every (eventRules img) (s .waiting) &&
     (every (queueRules img) (s .waiting) &&
-    (every (imageRules s) (s .waiting) &&
+    (every (imageRules (s .scopes)) (s .waiting) &&
     (eqb (s .work) (count ordinary (s .waiting)) &&
     storeRules (actions img) (s .store))))))))))
 
@@ -122,33 +120,47 @@ need b n r = cond b r (refused n)
 unfoldable pub keysOk : Image → List ℕ → Bool
 keysOk img ks = every (λ k. ltb k (reactions img)) ks
 
--- "Push (plain, network, control): to the root at its tag."
+-- ---- a push: the event that is to wait, or the refusal; then it comes last, or 8
+
+-- "Push (plain, network, control): to the root at its tag." The table has all its keys, or not.
+unfoldable pub rootMade : Bool → Tag → List ℕ → Bool → Bool → Bool → Result Refusal Event
+rootMade known t set isTerminal isControl isNetwork = need known R.Key (need (within t) R.ArgumentTag (done (rootEvent t set isTerminal isControl isNetwork)))
+
 unfoldable pub pushRoot : Image → State → Tag → List ℕ → Bool → Bool → Bool → Step
-pushRoot img s t ks isTerminal isControl isNetwork =
-    need (keysOk img ks) R.Key (need (within t) R.ArgumentTag (accepted s (rootEvent t (setOf ks) isTerminal isControl isNetwork)))
+pushRoot img s t ks isTerminal isControl isNetwork = rootMade (keysOk img ks) t (setOf ks) isTerminal isControl isNetwork >>= accepted s
 
 -- "Push of an action: to the root if the table isn't modal, the action isn't logical, or its scope has no parent; else to its scope at the local tag."
 unfoldable pub toRoot : Image → ℕ → Bool
 toRoot img a = not (isModal img) || (not (isLogical img a) || not (hasParent img (actionScope img a)))
 
 -- "Refusal 7 if that tag, or in an active scope its global image, overruns."
-unfoldable pub localTag : State → ℕ → Tag → Result Refusal Tag
-localTag s i t = toLocal (clockAt s i) t >>= λ x. need (not (activeAt s i) || isTag (toGlobal (clockAt s i) x)) R.MappedTag (done x)
+unfoldable pub localTag : Scope → Tag → Result Refusal Tag
+localTag x t = toLocal (x .clock) t >>= λ u. need (not (x .active) || isTag (toGlobal (x .clock) u)) R.MappedTag (done u)
 
 -- "Stored tag: the tag given, not its image."
 abbrev pub actionEvent : ℕ → ℕ → Tag → Tag → Bool → List ℕ → Event
-actionEvent q a x stored terminal ks =
-    record { queue = q; tag = x; reactions = setOf ks; terminal = terminal; control = false; network = false; action = a; stored = stored }
+actionEvent q a x stored terminal set =
+    record { queue = q; tag = x; reactions = set; terminal = terminal; control = false; network = false; action = a; stored = stored }
+
+-- where `x` is its scope
+unfoldable pub actionPlaced : Image → Scope → ℕ → Tag → Bool → List ℕ → Result Refusal Event
+actionPlaced img x a t terminal set =
+    cond (toRoot img a) (done (actionEvent root a t t terminal set))
+    (localTag x t >>= λ u. done (actionEvent (actionScope img a) a u t terminal set))
+
+unfoldable pub actionMade : Image → Scope → ℕ → Tag → Bool → Bool → List ℕ → Result Refusal Event
+actionMade img x a t terminal known set =
+    need (ltb a (actions img) && known) R.Key (need (within t) R.ArgumentTag (actionPlaced img x a t terminal set))
 
 unfoldable pub pushAction : Image → State → ℕ → Tag → Bool → List ℕ → Step
-pushAction img s a t terminal ks =
-    cond (toRoot img a) (accepted s (actionEvent root a t t terminal ks))
-    (localTag s (actionScope img a) t >>= λ x. accepted s (actionEvent (actionScope img a) a x t terminal ks))
+pushAction img s a t terminal ks = actionMade img (scopeAt s (actionScope img a)) a t terminal (keysOk img ks) (setOf ks) >>= accepted s
 
 -- "A pop or peek with no head answers "nothing"."
 abbrev pub popAt : Image → State → Head → Outcome
 popAt img s H.empty = answer nothing s
-popAt img s (H.head q x t) = let k = taking img t s in answer (ready (readyOf t (k .events))) (k .state)
+popAt img s (H.head q x t) =
+    let k = taking img (s .scopes) t (untaken (s .waiting) (s .work)) in
+    answer (ready (readyOf t (k .events))) (withQueue s (k .waiting) (k .work))
 
 abbrev pub peekAt : Head → Reply
 peekAt H.empty = nothing
@@ -167,15 +179,14 @@ unfoldable pub perform : Image → State → Call → Outcome
 perform img s (plain t terminal ks) = settle s (pushRoot img s t ks terminal false false)
 perform img s (network t ks) = settle s (pushRoot img s t ks false false true)
 perform img s (control t) = settle s (pushRoot img s t [] false true false)
-perform img s (action a t terminal ks) =
-    settle s (need (ltb a (actions img) && keysOk img ks) R.Key (need (within t) R.ArgumentTag (pushAction img s a t terminal ks)))
+perform img s (action a t terminal ks) = settle s (pushAction img s a t terminal ks)
 perform img s (transit r m reset c) =
     settle s
     (need (ltb r (reactors img) && ltb m (modes img)) R.Key
     (need (eqb (modeReactor img m) r) R.TargetMode (need (within c) R.ArgumentTag (transition img r m reset c s))))
-perform img s pop = popAt img s (peek img s)
-perform img s peekTag = answer (peekAt (peek img s)) s
-perform img s onlyControl = answer (flag (controlOnly img s)) s
+perform img s pop = popAt img s (peek img (s .scopes) (s .waiting))
+perform img s peekTag = answer (peekAt (peek img (s .scopes) (s .waiting))) s
+perform img s onlyControl = answer (flag (controlOnly img (s .scopes) (s .waiting))) s
 perform img s ordinaryWork = answer (number (s .work)) s
 perform img s (activeNow i) = asked s (need (ltb i (scopes img)) R.Key (done (flag (activeAt s i))))
 perform img s (everActive i) = asked s (need (ltb i (scopes img)) R.Key (done (flag (everAt s i))))

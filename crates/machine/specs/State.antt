@@ -69,12 +69,20 @@ inQueue q e = eqb (e .queue) q
 unfoldable pub atHead : ℕ → Tag → Event → Bool
 atHead q t e = inQueue q e && sameTag (e .tag) t
 
--- modes by reactor; clocks, active now and ever active by scope; the waiting events of all queues "in order of acceptance, one slot each"
+-- each scope has a clock, is active now or not, and was active before or not
+pub record Scope : Type 0 where
+  pub clock : Clock
+  pub active : Bool
+  pub ever : Bool
+
+-- what a scope has when fresh, active or not; also what stands where there is no scope
+abbrev pub freshScope : Bool → Scope
+freshScope b = record { clock = freshClock b; active = b; ever = b }
+
+-- modes by reactor, and the scopes; the waiting events of all queues "in order of acceptance, one slot each"
 pub record State : Type 0 where
   pub modes : List ℕ
-  pub clocks : List Clock
-  pub active : List Bool
-  pub ever : List Bool
+  pub scopes : List Scope
   pub waiting : List Event
   pub work : ℕ
   pub store : Store
@@ -83,44 +91,41 @@ pub record State : Type 0 where
 abbrev pub mostWaiting : ℕ
 mostWaiting = 256
 
+abbrev pub scopeIn : List Scope → ℕ → Scope
+scopeIn ss i = getD ss i (freshScope false)
+
+abbrev pub scopeAt : State → ℕ → Scope
+scopeAt s i = scopeIn (s .scopes) i
+
 abbrev pub clockAt : State → ℕ → Clock
-clockAt s i = getD (s .clocks) i (freshClock false)
+clockAt s i = scopeAt s i .clock
 
 abbrev pub activeAt : State → ℕ → Bool
-activeAt s i = getD (s .active) i false
+activeAt s i = scopeAt s i .active
 
 abbrev pub everAt : State → ℕ → Bool
-everAt s i = getD (s .ever) i false
+everAt s i = scopeAt s i .ever
 
--- ---- a state with one part changed
+-- ---- a scope or a state with one part changed
+
+abbrev pub clocked : Clock → Scope → Scope
+clocked k x = record { clock = k; active = x .active; ever = x .ever }
+
+-- active or not from now on; it counts as ever active once it was
+abbrev pub marked : Bool → Scope → Scope
+marked b x = record { clock = x .clock; active = b; ever = x .ever || b }
 
 abbrev pub withQueue : State → List Event → ℕ → State
-withQueue s w n = record { modes = s .modes; clocks = s .clocks; active = s .active; ever = s .ever; waiting = w; work = n; store = s .store }
+withQueue s w n = record { modes = s .modes; scopes = s .scopes; waiting = w; work = n; store = s .store }
 
 abbrev pub withStore : State → Store → State
-withStore s st = record { modes = s .modes; clocks = s .clocks; active = s .active; ever = s .ever; waiting = s .waiting; work = s .work; store = st }
+withStore s st = record { modes = s .modes; scopes = s .scopes; waiting = s .waiting; work = s .work; store = st }
 
 abbrev pub withModes : State → List ℕ → State
-withModes s m = record { modes = m; clocks = s .clocks; active = s .active; ever = s .ever; waiting = s .waiting; work = s .work; store = s .store }
+withModes s m = record { modes = m; scopes = s .scopes; waiting = s .waiting; work = s .work; store = s .store }
 
-abbrev pub withClocks : State → List Clock → State
-withClocks s c = record { modes = s .modes; clocks = c; active = s .active; ever = s .ever; waiting = s .waiting; work = s .work; store = s .store }
-
-abbrev pub withClock : State → ℕ → Clock → State
-withClock s i c = withClocks s (set (s .clocks) i c)
-
--- scope i is active or not from now on, and counts as ever active once it was
-abbrev pub noted : State → ℕ → Bool → State
-noted s i b =
-    record {
-      modes = s .modes;
-      clocks = s .clocks;
-      active = set (s .active) i b;
-      ever = set (s .ever) i (everAt s i || b);
-      waiting = s .waiting;
-      work = s .work;
-      store = s .store;
-    }
+abbrev pub withScopes : State → List Scope → State
+withScopes s l = record { modes = s .modes; scopes = l; waiting = s .waiting; work = s .work; store = s .store }
 
 -- ---- the waiting events
 
@@ -131,12 +136,13 @@ tally e n = cond (ordinary e) (n + 1) n
 unfoldable pub accepted : State → Event → Result Refusal State
 accepted s e = cond (leb mostWaiting (length (s .waiting))) (refused R.Waiting) (done (withQueue s (s .waiting ++ (e ∷ [])) (tally e (s .work))))
 
+-- the ordinary work once the events that pass are gone
+abbrev pub workLess : (Event → Bool) → List Event → ℕ → ℕ
+workLess p es work = work - count ordinary (keep p es)
+
 -- without the events that pass
 unfoldable pub without : (Event → Bool) → State → State
-without p s = withQueue s (lose p (s .waiting)) (s .work - count ordinary (keep p (s .waiting)))
-
-unfoldable pub restamped : (Event → Tag) → State → State
-restamped f s = withQueue s (map (λ e. stamped e (f e)) (s .waiting)) (s .work)
+without p s = withQueue s (lose p (s .waiting)) (workLess p (s .waiting) (s .work))
 
 -- ---- "A fresh manager has the initial modes, and nothing waits or is held."
 
@@ -144,4 +150,4 @@ unfoldable pub fresh : Image → State
 fresh s =
     let modes = map (initialMode s) (from 0 (reactors s)) in
     let active = map (isActive s modes) (from 0 (scopes s)) in
-    record { modes = modes; clocks = map freshClock active; active = active; ever = active; waiting = []; work = 0; store = emptyStore }
+    record { modes = modes; scopes = map freshScope active; waiting = []; work = 0; store = emptyStore }

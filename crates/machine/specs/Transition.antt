@@ -19,7 +19,7 @@ use Rattle.store.specs.Store as S
 use Rattle.store.specs.Store.{Store}
 use Rattle.schedule.specs.Schedule.{isActive, triggersOf, startupsOf, resetsOf}
 use Rattle.machine.specs.Table.{scopes, reactors, actions, hasParent}
-use Rattle.machine.specs.State.{Event, State, root, clockAt, activeAt, everAt, withModes, withClocks, withClock, withStore, noted, accepted, without, restamped, inQueue, rootEvent}
+use Rattle.machine.specs.State.{Event, Scope, State, root, scopeAt, clockAt, everAt, clocked, marked, withModes, withScopes, withStore, accepted, without, stamped, inQueue, rootEvent}
 
 abbrev pub Step : Type 0
 Step = Result Refusal State
@@ -49,11 +49,11 @@ dropped ins e = getD ins (e .queue) false
 abbrev pub zeroed : Clock → Clock
 zeroed k = record { G = k .G; L = zeroTag; allowed = k .allowed; S = zeroTag }
 
-unfoldable pub resetClocks : List Bool → List Clock → List Clock
-resetClocks (true ∷ bs) (k ∷ ks) = zeroed k ∷ resetClocks bs ks
-resetClocks (false ∷ bs) (k ∷ ks) = k ∷ resetClocks bs ks
-resetClocks [] ks = ks
-resetClocks (b ∷ bs) [] = []
+unfoldable pub resetScopes : List Bool → List Scope → List Scope
+resetScopes (true ∷ bs) (x ∷ l) = clocked (zeroed (x .clock)) x ∷ resetScopes bs l
+resetScopes (false ∷ bs) (x ∷ l) = x ∷ resetScopes bs l
+resetScopes [] l = l
+resetScopes (b ∷ bs) [] = []
 
 unfoldable pub resetStore : Image → List Bool → Store → Store
 resetStore img ins st =
@@ -65,7 +65,7 @@ resetModes img target modes = map (λ r. cond (under img target (rootScope img r
 unfoldable pub step1 : Image → ℕ → List Bool → State → State
 step1 img target ins s =
     let t = without (dropped ins) s in
-    withStore (withModes (withClocks t (resetClocks ins (s .clocks))) (resetModes img target (s .modes))) (resetStore img ins (s .store))
+    withStore (withModes (withScopes t (resetScopes ins (s .scopes))) (resetModes img target (s .modes))) (resetStore img ins (s .store))
 
 -- ---- 2. "Set the reactor's mode."
 
@@ -81,12 +81,25 @@ prepared img r m reset s =
 abbrev pub suspended : Clock → Tag → Clock
 suspended k t = record { G = k .G; L = k .L; allowed = k .allowed; S = t }
 
-unfoldable pub left : Tag → State → ℕ → Step
-left c s i = toLocal (clockAt s i) c >>= λ t. done (withClock s i (suspended (clockAt s i) t))
+unfoldable pub leaving : Tag → Clock → Result Refusal Clock
+leaving c k = toLocal k c >>= λ t. done (suspended k t)
 
 -- "Going active: G = c, allowed no, L = S (zero in a reset subtree)": step 1 has made S zero there
 abbrev pub activated : Tag → Clock → Clock
 activated c k = record { G = c; L = k .S; allowed = false; S = k .S }
+
+-- "Staying active in a reset subtree: G = c, L and S zero, allowed no."
+abbrev pub restarted : Tag → Clock
+restarted c = record { G = c; L = zeroTag; allowed = false; S = zeroTag }
+
+unfoldable pub staying : Tag → Bool → Clock → Clock
+staying c inside k = cond inside (restarted c) k
+
+-- a scope's clock after its turn: was it active, is it now
+unfoldable pub clockAfter : Tag → Bool → Bool → Scope → Result Refusal Clock
+clockAfter c now inside x =
+    cond (x .active) (cond now (done (staying c inside (x .clock))) (leaving c (x .clock)))
+    (done (cond now (activated c (x .clock)) (x .clock)))
 
 abbrev pub isTag : Answer → Bool
 isTag (done t) = true
@@ -100,35 +113,52 @@ tagOr t (refused n) = t
 unfoldable pub maps : ℕ → Clock → Event → Bool
 maps i k e = not (inQueue i e) || isTag (toGlobal k (e .tag))
 
+-- an event of scope i with an action
+unfoldable pub owns : ℕ → Event → Bool
+owns i e = inQueue i e && not (eqb (e .action) none)
+
 -- "set their stored tags": the new stored tag of an event with an action, where scope i goes active by the clock k
 unfoldable pub stamp : ℕ → Clock → Event → Tag
-stamp i k e = cond (inQueue i e && not (eqb (e .action) none)) (tagOr (e .stored) (toGlobal k (e .tag))) (e .stored)
+stamp i k e = cond (owns i e) (tagOr (e .stored) (toGlobal k (e .tag))) (e .stored)
+
+abbrev pub restamp : ℕ → Clock → Event → Event
+restamp i k e = stamped e (stamp i k e)
 
 -- "then move their values, later old tag first, ties by acceptance"
+unfoldable pub isLater : Event → Event → Bool
+isLater a b = earlier (a .stored) (b .stored)
+
 unfoldable pub movers : ℕ → List Event → List Event
-movers i es = sortBy (λ a b. earlier (a .stored) (b .stored)) (keep (λ e. inQueue i e && not (eqb (e .action) none)) es)
+movers i es = sortBy isLater (keep (owns i) es)
 
-unfoldable pub moveValue : ℕ → Clock → State → Event → Step
-moveValue i k s e = S.moved (s .store) (e .action) (e .stored) (stamp i k e) >>= λ st. done (withStore s st)
+unfoldable pub moveOne : ℕ → Clock → Store → Event → Result Refusal Store
+moveOne i k st e = S.moved st (e .action) (e .stored) (stamp i k e)
 
-unfoldable pub entered : ℕ → Clock → State → Step
-entered i k s =
-    cond (every (maps i k) (s .waiting)) (walk (moveValue i k) (restamped (stamp i k) (withClock s i k)) (movers i (s .waiting)))
-    (refused R.MappedTag)
+unfoldable pub entering : ℕ → Clock → List Event → Store → Result Refusal Store
+entering i k es st = cond (every (maps i k) es) (walk (moveOne i k) st (movers i es)) (refused R.MappedTag)
 
--- "Staying active in a reset subtree: G = c, L and S zero, allowed no."
-abbrev pub restarted : Tag → Clock
-restarted c = record { G = c; L = zeroTag; allowed = false; S = zeroTag }
+-- what one scope's turn changes: the scope, the waiting events and the store
+pub record Turning : Type 0 where
+  pub scope : Scope
+  pub waiting : List Event
+  pub store : Store
 
--- one scope's turn: was it active, is it now
-unfoldable pub changed : Plan → State → ℕ → Step
-changed p s i =
-    cond (activeAt s i)
-    (cond (isNow p i) (done (cond (isInside p i) (withClock s i (restarted (p .c))) s)) (left (p .c) s i))
-    (cond (isNow p i) (entered i (activated (p .c) (clockAt s i)) s) (done s))
+-- by its clock after the turn: a scope that goes active takes its events along
+unfoldable pub turnBy : Bool → ℕ → Scope → Clock → List Event → Store → Result Refusal Turning
+turnBy now i x k es st =
+    let y = marked now (clocked k x) in
+    cond (now && not (x .active))
+    (entering i k es st >>= λ u. done (record { scope = y; waiting = map (restamp i k) es; store = u }))
+    (done (record { scope = y; waiting = es; store = st }))
+
+unfoldable pub oneTurn : Tag → Bool → Bool → ℕ → Scope → List Event → Store → Result Refusal Turning
+oneTurn c now inside i x es st = clockAfter c now inside x >>= λ k. turnBy now i x k es st
+
+abbrev pub withTurn : State → ℕ → Turning → State
+withTurn s i t = record { modes = s .modes; scopes = set (s .scopes) i (t .scope); waiting = t .waiting; work = s .work; store = t .store }
 
 unfoldable pub turned : Plan → State → ℕ → Step
-turned p s i = changed p s i >>= λ t. done (noted t i (isNow p i))
+turned p s i = oneTurn (p .c) (isNow p i) (isInside p i) i (scopeAt s i) (s .waiting) (s .store) >>= λ t. done (withTurn s i t)
 
 -- ---- 4. "If any scope active for the first time has startup rows: a 0 value per row at c delayed by zero; then one plain ordinary event
 -- there, with its rows' reactions, for each first-time scope, those without rows included (empty set). Scopes active when fresh count as done."

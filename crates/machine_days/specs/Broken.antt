@@ -11,9 +11,9 @@ use Rattle.rows.specs.Bytes.{Image}
 use Rattle.rows.specs.Rows.{none}
 use Rattle.tags.specs.Tags.{Tag, at, Clock, freshClock}
 use Rattle.entries.specs.Entries.{Value, Bucket}
-use Rattle.machine.specs.State.{Event, State, root, rootEvent, withQueue, withStore, withModes, withClocks}
+use Rattle.machine.specs.State.{Event, Scope, State, freshScope, root, rootEvent, withQueue, withStore, withModes, withScopes}
 use Rattle.machine.specs.Machine.{pop, refusal, answer, rules, step}
-use Rattle.machine_days.specs.Computed.{dayOf, clock, value, bucket}
+use Rattle.machine_days.specs.Computed.{dayOf, scope, clock, value, bucket}
 
 -- two modes of reactor 0, a third of reactor 1; one reaction; a logical action in the scope of mode 0
 abbrev pub image : Image
@@ -28,34 +28,25 @@ image =
 abbrev pub waits : ℕ → Tag → List ℕ → ℕ → Tag → Event
 waits q t set a u = record { queue = q; tag = t; reactions = set; terminal = false; control = false; network = false; action = a; stored = u }
 
-abbrev pub clocks : List Clock
-clocks = freshClock true ∷ clock (at 100 0) (at 0 0) false (at 0 0) ∷ freshClock false ∷ freshClock false ∷ []
+-- the clock of mode 0's scope, which was entered at (100,0)
+abbrev pub entered : Clock
+entered = clock (at 100 0) (at 0 0) false (at 0 0)
+
+-- the scopes, where mode 0's has this clock and these marks
+abbrev pub first : Clock → Bool → Bool → List Scope
+first k active ever = freshScope true ∷ scope k active ever ∷ freshScope false ∷ freshScope false ∷ []
 
 abbrev pub sound : State
 sound =
     record {
       modes = 0 ∷ none ∷ [];
-      clocks = clocks;
-      active = true ∷ true ∷ false ∷ false ∷ [];
-      ever = true ∷ true ∷ false ∷ false ∷ [];
+      scopes = first entered true true;
       waiting = waits 1 (at 5 0) (1 ∷ 0 ∷ []) 0 (at 105 0) ∷ [];
       work = 1;
       store = record { values = value 0 (at 105 0) 7 ∷ []; buckets = bucket 0 105 1 ∷ [] };
     }
 
 -- ---- the same with one part changed
-
-abbrev pub marked : List Bool → List Bool → State
-marked active ever =
-    record {
-      modes = sound .modes;
-      clocks = clocks;
-      active = active;
-      ever = ever;
-      waiting = sound .waiting;
-      work = sound .work;
-      store = sound .store;
-    }
 
 -- one event waits, and is the work
 abbrev pub one : Event → State
@@ -66,14 +57,12 @@ holding vs bs = withStore sound (record { values = vs; buckets = bs })
 
 abbrev pub broken : List State
 broken =
-    -- a mode for each reactor, a clock and two marks for each scope
+    -- a mode for each reactor, and all scopes
     withModes sound (0 ∷ []) ∷
-    withClocks sound (freshClock true ∷ []) ∷
-    marked (true ∷ true ∷ []) (true ∷ true ∷ false ∷ false ∷ []) ∷
-    marked (true ∷ true ∷ false ∷ false ∷ []) (true ∷ true ∷ []) ∷
+    withScopes sound (freshScope true ∷ []) ∷
     -- "all keys exist and tags are within limits"
     withModes sound (0 ∷ 3 ∷ []) ∷
-    withClocks sound (freshClock true ∷ clock (at 100 0) (at 0 0) false (at 0 4294967296) ∷ freshClock false ∷ freshClock false ∷ []) ∷
+    withScopes sound (first (clock (at 100 0) (at 0 0) false (at 0 4294967296)) true true) ∷
     one (waits 1 (at 4611686018427387904 0) (1 ∷ 0 ∷ []) 0 (at 105 0)) ∷
     one (waits 1 (at 5 0) (2 ∷ 0 ∷ []) 0 (at 105 0)) ∷
     one (waits 1 (at 5 0) (1 ∷ 1 ∷ []) 0 (at 105 0)) ∷
@@ -87,9 +76,9 @@ broken =
     -- "events in active scopes map within limits"
     one (waits 1 (at 4611686018427387903 0) (1 ∷ 0 ∷ []) 0 (at 105 0)) ∷
     -- "a scope is active exactly if it and all ancestors that name a mode find it current; an active scope counts as active before"
-    marked (true ∷ true ∷ true ∷ false ∷ []) (true ∷ true ∷ true ∷ false ∷ []) ∷
-    marked (true ∷ false ∷ false ∷ false ∷ []) (true ∷ true ∷ false ∷ false ∷ []) ∷
-    marked (true ∷ true ∷ false ∷ false ∷ []) (true ∷ false ∷ false ∷ false ∷ []) ∷
+    withScopes sound (freshScope true ∷ scope entered true true ∷ scope (freshClock false) true true ∷ freshScope false ∷ []) ∷
+    withScopes sound (first entered false true) ∷
+    withScopes sound (first entered true false) ∷
     -- "ordinary work equals the number of ordinary events waiting"
     withQueue sound (sound .waiting) 0 ∷
     withQueue sound (rootEvent (at 5 0) (0 ∷ 0 ∷ []) true false false ∷ []) 1 ∷

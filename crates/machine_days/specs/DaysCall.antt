@@ -10,7 +10,7 @@ use Rattle.rows.specs.Rows.{none}
 use Rattle.tags.specs.Tags.{at}
 use Rattle.machine.specs.State.{root}
 use Rattle.machine.specs.Machine.{Call, plain, network, control, action, transit, pop, ok, refusal, nothing, ready, tag, flag, number}
-use Rattle.machine_days.specs.Computed.{dayOf, longDayOf, askedOf, clock, value, bucket}
+use Rattle.machine_days.specs.Computed.{dayOf, longDayOf, askedOf, scope, clock, value, bucket}
 
 -- Each action key once, in order of taking: the root's in order of acceptance, then scope by scope; pushing puts no value.
 abbrev pub call-actions-once-image : Image
@@ -48,12 +48,12 @@ pub call-actions-once : dayOf call-actions-once-image call-actions-once-calls �
       end =
           record {
             modes = 0 ∷ [];
-            clocks =
-                clock (at 0 0) (at 0 0) true (at 0 0) ∷ clock (at 0 0) (at 0 0) true (at 0 0) ∷
-                clock (at 0 0) (at 0 0) false (at 0 0) ∷ clock (at 0 0) (at 0 0) true (at 0 0) ∷
+            scopes =
+                scope (clock (at 0 0) (at 0 0) true (at 0 0)) true true ∷
+                scope (clock (at 0 0) (at 0 0) true (at 0 0)) true true ∷
+                scope (clock (at 0 0) (at 0 0) false (at 0 0)) false false ∷
+                scope (clock (at 0 0) (at 0 0) true (at 0 0)) true true ∷
                 [];
-            active = true ∷ true ∷ false ∷ true ∷ [];
-            ever = true ∷ true ∷ false ∷ true ∷ [];
             waiting = [];
             work = 0;
             store = record { values = []; buckets = [] };
@@ -99,9 +99,7 @@ pub call-bench : dayOf call-bench-image call-bench-calls ≡
       end =
           record {
             modes = none ∷ [];
-            clocks = clock (at 0 0) (at 0 0) true (at 0 0) ∷ [];
-            active = true ∷ [];
-            ever = true ∷ [];
+            scopes = scope (clock (at 0 0) (at 0 0) true (at 0 0)) true true ∷ [];
             waiting = [];
             work = 0;
             store = record { values = []; buckets = [] };
@@ -153,12 +151,11 @@ pub call-control-scope : dayOf call-control-scope-image call-control-scope-calls
       end =
           record {
             modes = 0 ∷ [];
-            clocks =
-                clock (at 0 0) (at 0 0) true (at 0 0) ∷ clock (at 20 0) (at 6 0) false (at 6 0) ∷
-                clock (at 6 0) (at 0 0) false (at 14 0) ∷
+            scopes =
+                scope (clock (at 0 0) (at 0 0) true (at 0 0)) true true ∷
+                scope (clock (at 20 0) (at 6 0) false (at 6 0)) true true ∷
+                scope (clock (at 6 0) (at 0 0) false (at 14 0)) false true ∷
                 [];
-            active = true ∷ true ∷ false ∷ [];
-            ever = true ∷ true ∷ true ∷ [];
             waiting = [];
             work = 0;
             store = record { values = []; buckets = [] };
@@ -206,9 +203,7 @@ pub call-control : dayOf call-bench-image call-control-calls ≡
       end =
           record {
             modes = none ∷ [];
-            clocks = clock (at 0 0) (at 0 0) true (at 0 0) ∷ [];
-            active = true ∷ [];
-            ever = true ∷ [];
+            scopes = scope (clock (at 0 0) (at 0 0) true (at 0 0)) true true ∷ [];
             waiting = [];
             work = 0;
             store = record { values = []; buckets = [] };
@@ -271,9 +266,7 @@ pub call-flags : dayOf call-flags-image call-flags-calls ≡
       end =
           record {
             modes = none ∷ [];
-            clocks = clock (at 0 0) (at 0 0) true (at 0 0) ∷ [];
-            active = true ∷ [];
-            ever = true ∷ [];
+            scopes = scope (clock (at 0 0) (at 0 0) true (at 0 0)) true true ∷ [];
             waiting = [];
             work = 0;
             store = record { values = []; buckets = [] };
@@ -337,13 +330,13 @@ pub call-later-pops : dayOf call-later-pops-image call-later-pops-calls ≡
       end =
           record {
             modes = 0 ∷ [];
-            clocks =
-                clock (at 0 0) (at 0 0) true (at 0 0) ∷ clock (at 0 0) (at 0 0) true (at 0 0) ∷
-                clock (at 0 0) (at 0 0) false (at 0 0) ∷ clock (at 0 0) (at 0 0) true (at 0 0) ∷
-                clock (at 0 0) (at 0 0) true (at 0 0) ∷
+            scopes =
+                scope (clock (at 0 0) (at 0 0) true (at 0 0)) true true ∷
+                scope (clock (at 0 0) (at 0 0) true (at 0 0)) true true ∷
+                scope (clock (at 0 0) (at 0 0) false (at 0 0)) false false ∷
+                scope (clock (at 0 0) (at 0 0) true (at 0 0)) true true ∷
+                scope (clock (at 0 0) (at 0 0) true (at 0 0)) true true ∷
                 [];
-            active = true ∷ true ∷ false ∷ true ∷ true ∷ [];
-            ever = true ∷ true ∷ false ∷ true ∷ true ∷ [];
             waiting = [];
             work = 0;
             store = record { values = []; buckets = [] };
@@ -398,13 +391,13 @@ pub call-odd-table : dayOf call-odd-table-image call-odd-table-calls ≡
       end =
           record {
             modes = 1 ∷ 2 ∷ none ∷ [];
-            clocks =
-                clock (at 0 0) (at 0 0) true (at 0 0) ∷ clock (at 0 0) (at 0 0) true (at 0 0) ∷
-                clock (at 0 0) (at 0 0) true (at 1 0) ∷ clock (at 0 0) (at 0 0) false (at 0 0) ∷
-                clock (at 2 0) (at 0 0) false (at 0 0) ∷
+            scopes =
+                scope (clock (at 0 0) (at 0 0) true (at 0 0)) true true ∷
+                scope (clock (at 0 0) (at 0 0) true (at 0 0)) true true ∷
+                scope (clock (at 0 0) (at 0 0) true (at 1 0)) false true ∷
+                scope (clock (at 0 0) (at 0 0) false (at 0 0)) false false ∷
+                scope (clock (at 2 0) (at 0 0) false (at 0 0)) true true ∷
                 [];
-            active = true ∷ true ∷ false ∷ false ∷ true ∷ [];
-            ever = true ∷ true ∷ true ∷ false ∷ true ∷ [];
             waiting =
                 record { queue = 3; tag = (at 2 0); reactions = 1 ∷ 0 ∷ []; terminal = false; control = false; network = false; action = 1; stored = (at 2 0) } ∷
                 [];
@@ -463,9 +456,7 @@ pub call-order-of-tags : dayOf call-order-of-tags-image call-order-of-tags-calls
       end =
           record {
             modes = none ∷ [];
-            clocks = clock (at 0 0) (at 0 0) true (at 0 0) ∷ [];
-            active = true ∷ [];
-            ever = true ∷ [];
+            scopes = scope (clock (at 0 0) (at 0 0) true (at 0 0)) true true ∷ [];
             waiting = [];
             work = 0;
             store = record { values = []; buckets = [] };
@@ -522,9 +513,7 @@ pub call-reactions : dayOf call-reactions-image call-reactions-calls ≡
       end =
           record {
             modes = none ∷ [];
-            clocks = clock (at 0 0) (at 0 0) true (at 0 0) ∷ [];
-            active = true ∷ [];
-            ever = true ∷ [];
+            scopes = scope (clock (at 0 0) (at 0 0) true (at 0 0)) true true ∷ [];
             waiting = [];
             work = 0;
             store = record { values = []; buckets = [] };
@@ -582,12 +571,12 @@ pub call-refusal-order : dayOf call-refusal-order-image call-refusal-order-calls
       end =
           record {
             modes = 0 ∷ 2 ∷ [];
-            clocks =
-                clock (at 0 0) (at 0 0) true (at 0 0) ∷ clock (at 0 0) (at 0 0) true (at 0 0) ∷
-                clock (at 0 0) (at 0 0) false (at 0 0) ∷ clock (at 5 0) (at 0 0) false (at 0 0) ∷
+            scopes =
+                scope (clock (at 0 0) (at 0 0) true (at 0 0)) true true ∷
+                scope (clock (at 0 0) (at 0 0) true (at 0 0)) true true ∷
+                scope (clock (at 0 0) (at 0 0) false (at 0 0)) false false ∷
+                scope (clock (at 5 0) (at 0 0) false (at 0 0)) true true ∷
                 [];
-            active = true ∷ true ∷ false ∷ true ∷ [];
-            ever = true ∷ true ∷ false ∷ true ∷ [];
             waiting = [];
             work = 0;
             store = record { values = []; buckets = [] };
@@ -637,9 +626,10 @@ pub call-to-root : dayOf call-to-root-image call-to-root-calls ≡
       end =
           record {
             modes = none ∷ [];
-            clocks = clock (at 0 0) (at 0 0) true (at 0 0) ∷ clock (at 0 0) (at 0 0) true (at 0 0) ∷ [];
-            active = true ∷ true ∷ [];
-            ever = true ∷ true ∷ [];
+            scopes =
+                scope (clock (at 0 0) (at 0 0) true (at 0 0)) true true ∷
+                scope (clock (at 0 0) (at 0 0) true (at 0 0)) true true ∷
+                [];
             waiting =
                 record { queue = root; tag = (at 6 0); reactions = 0 ∷ 0 ∷ []; terminal = true; control = false; network = false; action = 0; stored = (at 6 0) } ∷
                 [];
@@ -687,12 +677,11 @@ pub call-to-scope : dayOf call-to-scope-image call-to-scope-calls ≡
       end =
           record {
             modes = 0 ∷ [];
-            clocks =
-                clock (at 0 0) (at 0 0) true (at 0 0) ∷ clock (at 30 0) (at 10 0) false (at 10 0) ∷
-                clock (at 10 0) (at 0 0) false (at 20 0) ∷
+            scopes =
+                scope (clock (at 0 0) (at 0 0) true (at 0 0)) true true ∷
+                scope (clock (at 30 0) (at 10 0) false (at 10 0)) true true ∷
+                scope (clock (at 10 0) (at 0 0) false (at 20 0)) false true ∷
                 [];
-            active = true ∷ true ∷ false ∷ [];
-            ever = true ∷ true ∷ true ∷ [];
             waiting =
                 record { queue = root; tag = (at 32 0); reactions = 0 ∷ 0 ∷ []; terminal = false; control = false; network = false; action = 0; stored = (at 32 0) } ∷
                 record { queue = root; tag = (at 33 0); reactions = 0 ∷ 0 ∷ []; terminal = false; control = false; network = false; action = 1; stored = (at 33 0) } ∷

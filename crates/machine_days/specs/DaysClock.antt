@@ -10,7 +10,7 @@ use Rattle.rows.specs.Rows.{none}
 use Rattle.tags.specs.Tags.{at}
 use Rattle.machine.specs.State.{root}
 use Rattle.machine.specs.Machine.{Call, plain, network, control, action, transit, pop, ok, refusal, nothing, ready, tag, flag, number}
-use Rattle.machine_days.specs.Computed.{dayOf, longDayOf, askedOf, clock, value, bucket}
+use Rattle.machine_days.specs.Computed.{dayOf, longDayOf, askedOf, scope, clock, value, bucket}
 
 -- m11: G delayed by zero past the microstep limit is 7, and the state is as given.
 abbrev pub clock-delay-at-limit-image : Image
@@ -39,12 +39,11 @@ pub clock-delay-at-limit : dayOf clock-delay-at-limit-image clock-delay-at-limit
       end =
           record {
             modes = 1 ∷ [];
-            clocks =
-                clock (at 0 0) (at 0 0) true (at 0 0) ∷ clock (at 0 0) (at 0 0) true (at 100 4294967294) ∷
-                clock (at 100 4294967294) (at 0 0) false (at 0 0) ∷
+            scopes =
+                scope (clock (at 0 0) (at 0 0) true (at 0 0)) true true ∷
+                scope (clock (at 0 0) (at 0 0) true (at 100 4294967294)) false true ∷
+                scope (clock (at 100 4294967294) (at 0 0) false (at 0 0)) true true ∷
                 [];
-            active = true ∷ false ∷ true ∷ [];
-            ever = true ∷ true ∷ true ∷ [];
             waiting = [];
             work = 0;
             store = record { values = []; buckets = [] };
@@ -93,12 +92,11 @@ pub clock-equal-not-allowed : dayOf clock-equal-not-allowed-image clock-equal-no
       end =
           record {
             modes = 1 ∷ [];
-            clocks =
-                clock (at 0 0) (at 0 0) true (at 0 0) ∷ clock (at 0 0) (at 0 0) false (at 0 0) ∷
-                clock (at 0 0) (at 0 0) false (at 0 0) ∷
+            scopes =
+                scope (clock (at 0 0) (at 0 0) true (at 0 0)) true true ∷
+                scope (clock (at 0 0) (at 0 0) false (at 0 0)) false true ∷
+                scope (clock (at 0 0) (at 0 0) false (at 0 0)) true true ∷
                 [];
-            active = true ∷ false ∷ true ∷ [];
-            ever = true ∷ true ∷ true ∷ [];
             waiting = [];
             work = 0;
             store = record { values = []; buckets = [] };
@@ -154,12 +152,12 @@ pub clock-heads-fall-back : dayOf clock-heads-fall-back-image clock-heads-fall-b
       end =
           record {
             modes = 0 ∷ [];
-            clocks =
-                clock (at 0 0) (at 0 0) true (at 0 0) ∷ clock (at 100 2) (at 40 9) false (at 40 9) ∷
-                clock (at 40 9) (at 0 0) false (at 60 2) ∷ clock (at 0 0) (at 0 0) true (at 0 0) ∷
+            scopes =
+                scope (clock (at 0 0) (at 0 0) true (at 0 0)) true true ∷
+                scope (clock (at 100 2) (at 40 9) false (at 40 9)) true true ∷
+                scope (clock (at 40 9) (at 0 0) false (at 60 2)) false true ∷
+                scope (clock (at 0 0) (at 0 0) true (at 0 0)) true true ∷
                 [];
-            active = true ∷ true ∷ false ∷ true ∷ [];
-            ever = true ∷ true ∷ true ∷ true ∷ [];
             waiting = [];
             work = 0;
             store = record { values = []; buckets = [] };
@@ -224,12 +222,11 @@ pub clock-maps : dayOf clock-maps-image clock-maps-calls ≡
       end =
           record {
             modes = 0 ∷ [];
-            clocks =
-                clock (at 0 0) (at 0 0) true (at 0 0) ∷ clock (at 100 2) (at 40 1) false (at 40 1) ∷
-                clock (at 40 1) (at 0 0) false (at 60 2) ∷
+            scopes =
+                scope (clock (at 0 0) (at 0 0) true (at 0 0)) true true ∷
+                scope (clock (at 100 2) (at 40 1) false (at 40 1)) true true ∷
+                scope (clock (at 40 1) (at 0 0) false (at 60 2)) false true ∷
                 [];
-            active = true ∷ true ∷ false ∷ [];
-            ever = true ∷ true ∷ true ∷ [];
             waiting = [];
             work = 0;
             store = record { values = []; buckets = [] };
@@ -283,12 +280,11 @@ pub clock-moves-earlier : dayOf clock-moves-earlier-image clock-moves-earlier-ca
       end =
           record {
             modes = 1 ∷ [];
-            clocks =
-                clock (at 0 0) (at 0 0) true (at 0 0) ∷ clock (at 110 0) (at 100 0) false (at 97 0) ∷
-                clock (at 107 0) (at 10 0) false (at 10 0) ∷
+            scopes =
+                scope (clock (at 0 0) (at 0 0) true (at 0 0)) true true ∷
+                scope (clock (at 110 0) (at 100 0) false (at 97 0)) false true ∷
+                scope (clock (at 107 0) (at 10 0) false (at 10 0)) true true ∷
                 [];
-            active = true ∷ false ∷ true ∷ [];
-            ever = true ∷ true ∷ true ∷ [];
             waiting =
                 record { queue = 2; tag = (at 503 0); reactions = 0 ∷ 0 ∷ []; terminal = false; control = false; network = false; action = 0; stored = (at 600 0) } ∷
                 [];
@@ -334,12 +330,11 @@ pub clock-moves-later-first : dayOf clock-moves-later-first-image clock-moves-la
       end =
           record {
             modes = 1 ∷ [];
-            clocks =
-                clock (at 0 0) (at 0 0) true (at 0 0) ∷ clock (at 12 0) (at 10 0) false (at 13 0) ∷
-                clock (at 15 0) (at 2 0) false (at 2 0) ∷
+            scopes =
+                scope (clock (at 0 0) (at 0 0) true (at 0 0)) true true ∷
+                scope (clock (at 12 0) (at 10 0) false (at 13 0)) false true ∷
+                scope (clock (at 15 0) (at 2 0) false (at 2 0)) true true ∷
                 [];
-            active = true ∷ false ∷ true ∷ [];
-            ever = true ∷ true ∷ true ∷ [];
             waiting =
                 record { queue = 2; tag = (at 5 0); reactions = 0 ∷ 0 ∷ []; terminal = false; control = false; network = false; action = 0; stored = (at 18 0) } ∷
                 record { queue = 2; tag = (at 8 0); reactions = 0 ∷ 0 ∷ []; terminal = false; control = false; network = false; action = 0; stored = (at 21 0) } ∷
@@ -381,13 +376,11 @@ pub clock-push-image : dayOf clock-delay-at-limit-image clock-push-image-calls �
       end =
           record {
             modes = 0 ∷ [];
-            clocks =
-                clock (at 0 0) (at 0 0) true (at 0 0) ∷
-                clock (at 100 4294967294) (at 100 4294967294) false (at 100 4294967294) ∷
-                clock (at 100 4294967294) (at 0 0) false (at 0 0) ∷
+            scopes =
+                scope (clock (at 0 0) (at 0 0) true (at 0 0)) true true ∷
+                scope (clock (at 100 4294967294) (at 100 4294967294) false (at 100 4294967294)) true true ∷
+                scope (clock (at 100 4294967294) (at 0 0) false (at 0 0)) false true ∷
                 [];
-            active = true ∷ true ∷ false ∷ [];
-            ever = true ∷ true ∷ true ∷ [];
             waiting =
                 record { queue = 2; tag = (at 0 4294967293); reactions = 0 ∷ 0 ∷ []; terminal = false; control = false; network = false; action = 0; stored = (at 100 4294967293) } ∷
                 [];
@@ -433,12 +426,12 @@ pub clock-suspend-overruns : dayOf clock-suspend-overruns-image clock-suspend-ov
       end =
           record {
             modes = 0 ∷ [];
-            clocks =
-                clock (at 0 0) (at 0 0) true (at 0 0) ∷ clock (at 100 0) (at 100 0) false (at 100 0) ∷
-                clock (at 100 0) (at 0 0) false (at 0 0) ∷ clock (at 0 0) (at 0 0) true (at 0 0) ∷
+            scopes =
+                scope (clock (at 0 0) (at 0 0) true (at 0 0)) true true ∷
+                scope (clock (at 100 0) (at 100 0) false (at 100 0)) true true ∷
+                scope (clock (at 100 0) (at 0 0) false (at 0 0)) false true ∷
+                scope (clock (at 0 0) (at 0 0) true (at 0 0)) true true ∷
                 [];
-            active = true ∷ true ∷ false ∷ true ∷ [];
-            ever = true ∷ true ∷ true ∷ true ∷ [];
             waiting = [];
             work = 0;
             store = record { values = []; buckets = [] };
@@ -490,12 +483,11 @@ pub clock-suspended : dayOf clock-suspended-image clock-suspended-calls ≡
       end =
           record {
             modes = 0 ∷ [];
-            clocks =
-                clock (at 0 0) (at 0 0) true (at 0 0) ∷ clock (at 20 0) (at 3 0) false (at 3 0) ∷
-                clock (at 3 0) (at 0 0) false (at 17 0) ∷
+            scopes =
+                scope (clock (at 0 0) (at 0 0) true (at 0 0)) true true ∷
+                scope (clock (at 20 0) (at 3 0) false (at 3 0)) true true ∷
+                scope (clock (at 3 0) (at 0 0) false (at 17 0)) false true ∷
                 [];
-            active = true ∷ true ∷ false ∷ [];
-            ever = true ∷ true ∷ true ∷ [];
             waiting =
                 record { queue = 1; tag = (at 8 0); reactions = 0 ∷ 0 ∷ []; terminal = false; control = false; network = false; action = 0; stored = (at 25 0) } ∷
                 [];
@@ -556,12 +548,12 @@ pub clock-two-scopes : dayOf clock-two-scopes-image clock-two-scopes-calls ≡
       end =
           record {
             modes = 0 ∷ [];
-            clocks =
-                clock (at 0 0) (at 0 0) true (at 0 0) ∷ clock (at 140 0) (at 0 0) false (at 0 0) ∷
-                clock (at 20 0) (at 0 0) false (at 80 0) ∷ clock (at 140 0) (at 0 0) false (at 0 0) ∷
+            scopes =
+                scope (clock (at 0 0) (at 0 0) true (at 0 0)) true true ∷
+                scope (clock (at 140 0) (at 0 0) false (at 0 0)) true true ∷
+                scope (clock (at 20 0) (at 0 0) false (at 80 0)) false true ∷
+                scope (clock (at 140 0) (at 0 0) false (at 0 0)) true true ∷
                 [];
-            active = true ∷ true ∷ false ∷ true ∷ [];
-            ever = true ∷ true ∷ true ∷ true ∷ [];
             waiting = [];
             work = 0;
             store = record { values = []; buckets = [] };
@@ -612,12 +604,11 @@ pub clock-value-moves : dayOf clock-value-moves-image clock-value-moves-calls �
       end =
           record {
             modes = 1 ∷ [];
-            clocks =
-                clock (at 0 0) (at 0 0) true (at 0 0) ∷ clock (at 12 0) (at 10 0) false (at 28 0) ∷
-                clock (at 30 0) (at 2 0) false (at 2 0) ∷
+            scopes =
+                scope (clock (at 0 0) (at 0 0) true (at 0 0)) true true ∷
+                scope (clock (at 12 0) (at 10 0) false (at 28 0)) false true ∷
+                scope (clock (at 30 0) (at 2 0) false (at 2 0)) true true ∷
                 [];
-            active = true ∷ false ∷ true ∷ [];
-            ever = true ∷ true ∷ true ∷ [];
             waiting = [];
             work = 0;
             store = record { values = value 0 (at 33 0) 0 ∷ []; buckets = bucket 0 15 1 ∷ bucket 0 33 1 ∷ [] };

@@ -10,7 +10,7 @@ use Rattle.rows.specs.Rows.{none}
 use Rattle.tags.specs.Tags.{at}
 use Rattle.machine.specs.State.{root}
 use Rattle.machine.specs.Machine.{Call, plain, network, control, action, transit, pop, ok, refusal, nothing, ready, tag, flag, number}
-use Rattle.machine_days.specs.Computed.{dayOf, longDayOf, askedOf, clock, value, bucket}
+use Rattle.machine_days.specs.Computed.{dayOf, longDayOf, askedOf, scope, clock, value, bucket}
 
 -- 256 wait: keys (5), 6 and a mapped tag (7) still come before 8; a pop frees its slots.
 abbrev pub full-events-image : Image
@@ -50,12 +50,11 @@ pub full-events : longDayOf full-events-image full-events-calls ≡
       end =
           record {
             modes = 0 ∷ [];
-            clocks =
-                clock (at 0 0) (at 0 0) true (at 0 0) ∷ clock (at 100 0) (at 40 0) false (at 40 0) ∷
-                clock (at 40 0) (at 0 0) false (at 60 0) ∷
+            scopes =
+                scope (clock (at 0 0) (at 0 0) true (at 0 0)) true true ∷
+                scope (clock (at 100 0) (at 40 0) false (at 40 0)) true true ∷
+                scope (clock (at 40 0) (at 0 0) false (at 60 0)) false true ∷
                 [];
-            active = true ∷ true ∷ false ∷ [];
-            ever = true ∷ true ∷ true ∷ [];
             waiting =
                 replicate 255 (record { queue = root; tag = (at 200 0); reactions = 1 ∷ 0 ∷ []; terminal = true; control = false; network = false; action = none; stored = (at 0 0) }) ++
                 record { queue = 1; tag = (at 60 0); reactions = 0 ∷ 0 ∷ []; terminal = false; control = false; network = false; action = 0; stored = (at 120 0) } ∷
@@ -131,12 +130,11 @@ pub full-held : longDayOf full-held-image full-held-calls ≡
       end =
           record {
             modes = 0 ∷ [];
-            clocks =
-                clock (at 0 0) (at 0 0) true (at 0 0) ∷ clock (at 1600 0) (at 0 0) false (at 0 0) ∷
-                clock (at 0 0) (at 0 0) false (at 0 0) ∷
+            scopes =
+                scope (clock (at 0 0) (at 0 0) true (at 0 0)) true true ∷
+                scope (clock (at 1600 0) (at 0 0) false (at 0 0)) true true ∷
+                scope (clock (at 0 0) (at 0 0) false (at 0 0)) false false ∷
                 [];
-            active = true ∷ true ∷ false ∷ [];
-            ever = true ∷ true ∷ false ∷ [];
             waiting =
                 record { queue = 1; tag = (at 0 0); reactions = 0 ∷ 0 ∷ []; terminal = false; control = false; network = false; action = 0; stored = (at 1600 1) } ∷
                 record { queue = 1; tag = (at 1 0); reactions = 0 ∷ 0 ∷ []; terminal = false; control = false; network = false; action = 0; stored = (at 1601 0) } ∷
@@ -349,12 +347,12 @@ pub full-moves : longDayOf full-moves-image full-moves-calls ≡
       end =
           record {
             modes = 0 ∷ [];
-            clocks =
-                clock (at 0 0) (at 0 0) true (at 0 0) ∷ clock (at 651 0) (at 0 0) false (at 0 0) ∷
-                clock (at 10 0) (at 0 0) false (at 10 0) ∷ clock (at 10 0) (at 0 0) false (at 10 0) ∷
+            scopes =
+                scope (clock (at 0 0) (at 0 0) true (at 0 0)) true true ∷
+                scope (clock (at 651 0) (at 0 0) false (at 0 0)) true true ∷
+                scope (clock (at 10 0) (at 0 0) false (at 10 0)) false true ∷
+                scope (clock (at 10 0) (at 0 0) false (at 10 0)) false true ∷
                 [];
-            active = true ∷ true ∷ false ∷ false ∷ [];
-            ever = true ∷ true ∷ true ∷ true ∷ [];
             waiting =
                 record { queue = 2; tag = (at 5 0); reactions = 0 ∷ 0 ∷ []; terminal = false; control = false; network = false; action = 1; stored = (at 15 0) } ∷
                 record { queue = 1; tag = (at 0 1); reactions = 0 ∷ 0 ∷ []; terminal = false; control = false; network = false; action = 0; stored = (at 651 1) } ∷
@@ -543,12 +541,11 @@ pub full-startup : longDayOf full-startup-image full-startup-calls ≡
       end =
           record {
             modes = 0 ∷ [];
-            clocks =
-                clock (at 0 0) (at 0 0) true (at 0 0) ∷ clock (at 0 0) (at 0 0) true (at 0 0) ∷
-                clock (at 0 0) (at 0 0) false (at 0 0) ∷
+            scopes =
+                scope (clock (at 0 0) (at 0 0) true (at 0 0)) true true ∷
+                scope (clock (at 0 0) (at 0 0) true (at 0 0)) true true ∷
+                scope (clock (at 0 0) (at 0 0) false (at 0 0)) false false ∷
                 [];
-            active = true ∷ true ∷ false ∷ [];
-            ever = true ∷ true ∷ false ∷ [];
             waiting =
                 replicate 256 (record { queue = root; tag = (at 3 0); reactions = 0 ∷ 0 ∷ []; terminal = false; control = false; network = false; action = none; stored = (at 0 0) }) ++
                 [];
@@ -585,12 +582,11 @@ pub full-timer : longDayOf full-timer-image full-timer-calls ≡
       end =
           record {
             modes = 0 ∷ [];
-            clocks =
-                clock (at 0 0) (at 0 0) true (at 0 0) ∷ clock (at 0 0) (at 0 0) true (at 0 0) ∷
-                clock (at 0 0) (at 0 0) false (at 0 0) ∷
+            scopes =
+                scope (clock (at 0 0) (at 0 0) true (at 0 0)) true true ∷
+                scope (clock (at 0 0) (at 0 0) true (at 0 0)) true true ∷
+                scope (clock (at 0 0) (at 0 0) false (at 0 0)) false false ∷
                 [];
-            active = true ∷ true ∷ false ∷ [];
-            ever = true ∷ true ∷ false ∷ [];
             waiting =
                 replicate 256 (record { queue = root; tag = (at 3 0); reactions = 0 ∷ 0 ∷ []; terminal = false; control = true; network = false; action = none; stored = (at 0 0) }) ++
                 [];

@@ -10,7 +10,7 @@ use Rattle.rows.specs.Rows.{none}
 use Rattle.tags.specs.Tags.{at}
 use Rattle.machine.specs.State.{root}
 use Rattle.machine.specs.Machine.{Call, plain, network, control, action, transit, pop, ok, refusal, nothing, ready, tag, flag, number}
-use Rattle.machine_days.specs.Computed.{dayOf, longDayOf, askedOf, clock, value, bucket}
+use Rattle.machine_days.specs.Computed.{dayOf, longDayOf, askedOf, scope, clock, value, bucket}
 
 -- A gate's worked hour: the hold timer, the lamp and the pass, through locking, history and reset
 -- The text of docs/MODES.md and its picture; a minute is 60000000000 nanoseconds.
@@ -74,15 +74,14 @@ pub hour : longDayOf hour-image hour-calls ≡
       end =
           record {
             modes = 0 ∷ 2 ∷ [];
-            clocks =
-                clock (at 0 0) (at 0 0) true (at 0 0) ∷ clock (at 6000000000000 0) (at 0 0) false (at 0 0) ∷
-                clock (at 5100000000000 0) (at 1200000000000 0) false (at 2100000000000 0) ∷
-                clock (at 6000000000000 0) (at 0 0) false (at 0 0) ∷
-                clock (at 6000000000000 0) (at 0 0) false (at 0 0) ∷
-                clock (at 4680000000000 0) (at 0 0) false (at 0 0) ∷
+            scopes =
+                scope (clock (at 0 0) (at 0 0) true (at 0 0)) true true ∷
+                scope (clock (at 6000000000000 0) (at 0 0) false (at 0 0)) true true ∷
+                scope (clock (at 5100000000000 0) (at 1200000000000 0) false (at 2100000000000 0)) false true ∷
+                scope (clock (at 6000000000000 0) (at 0 0) false (at 0 0)) true true ∷
+                scope (clock (at 6000000000000 0) (at 0 0) false (at 0 0)) true true ∷
+                scope (clock (at 4680000000000 0) (at 0 0) false (at 0 0)) false true ∷
                 [];
-            active = true ∷ true ∷ false ∷ true ∷ true ∷ false ∷ [];
-            ever = true ∷ true ∷ true ∷ true ∷ true ∷ true ∷ [];
             waiting =
                 record { queue = 5; tag = (at 720000000000 0); reactions = 4 ∷ 0 ∷ []; terminal = false; control = false; network = false; action = 2; stored = (at 5400000000000 0) } ∷
                 [];

@@ -10,7 +10,7 @@ use Rattle.rows.specs.Rows.{none}
 use Rattle.tags.specs.Tags.{at}
 use Rattle.machine.specs.State.{root}
 use Rattle.machine.specs.Machine.{Call, plain, network, control, action, transit, pop, ok, refusal, nothing, ready, tag, flag, number}
-use Rattle.machine_days.specs.Computed.{dayOf, longDayOf, askedOf, clock, value, bucket}
+use Rattle.machine_days.specs.Computed.{dayOf, longDayOf, askedOf, scope, clock, value, bucket}
 
 -- Step 1: the subtree's local events are dropped and their work with them; the root's and other scopes' stay.
 abbrev pub reset-drops-image : Image
@@ -47,12 +47,12 @@ pub reset-drops : dayOf reset-drops-image reset-drops-calls ≡
       end =
           record {
             modes = 0 ∷ [];
-            clocks =
-                clock (at 0 0) (at 0 0) true (at 0 0) ∷ clock (at 4 0) (at 0 0) false (at 0 0) ∷
-                clock (at 0 0) (at 0 0) false (at 0 0) ∷ clock (at 0 0) (at 0 0) true (at 0 0) ∷
+            scopes =
+                scope (clock (at 0 0) (at 0 0) true (at 0 0)) true true ∷
+                scope (clock (at 4 0) (at 0 0) false (at 0 0)) true true ∷
+                scope (clock (at 0 0) (at 0 0) false (at 0 0)) false false ∷
+                scope (clock (at 0 0) (at 0 0) true (at 0 0)) true true ∷
                 [];
-            active = true ∷ true ∷ false ∷ true ∷ [];
-            ever = true ∷ true ∷ false ∷ true ∷ [];
             waiting = [];
             work = 0;
             store = record { values = []; buckets = [] };
@@ -103,13 +103,13 @@ pub reset-inactive-rows : dayOf reset-inactive-rows-image reset-inactive-rows-ca
       end =
           record {
             modes = 0 ∷ 2 ∷ [];
-            clocks =
-                clock (at 0 0) (at 0 0) true (at 0 0) ∷ clock (at 30 0) (at 0 0) false (at 0 0) ∷
-                clock (at 30 0) (at 0 0) false (at 0 0) ∷ clock (at 30 0) (at 0 0) false (at 20 0) ∷
-                clock (at 50 0) (at 0 0) false (at 0 0) ∷
+            scopes =
+                scope (clock (at 0 0) (at 0 0) true (at 0 0)) true true ∷
+                scope (clock (at 30 0) (at 0 0) false (at 0 0)) true true ∷
+                scope (clock (at 30 0) (at 0 0) false (at 0 0)) true true ∷
+                scope (clock (at 30 0) (at 0 0) false (at 20 0)) false true ∷
+                scope (clock (at 50 0) (at 0 0) false (at 0 0)) true true ∷
                 [];
-            active = true ∷ true ∷ true ∷ false ∷ true ∷ [];
-            ever = true ∷ true ∷ true ∷ true ∷ true ∷ [];
             waiting = [];
             work = 0;
             store = record { values = value 0 (at 55 0) 0 ∷ []; buckets = bucket 0 5 1 ∷ bucket 0 55 1 ∷ [] };
@@ -159,13 +159,13 @@ pub reset-initial-none : dayOf reset-initial-none-image reset-initial-none-calls
       end =
           record {
             modes = 0 ∷ 2 ∷ [];
-            clocks =
-                clock (at 0 0) (at 0 0) true (at 0 0) ∷ clock (at 11 0) (at 0 0) false (at 0 0) ∷
-                clock (at 11 0) (at 0 0) false (at 0 0) ∷ clock (at 0 0) (at 0 0) false (at 0 0) ∷
-                clock (at 20 0) (at 1 0) false (at 1 0) ∷
+            scopes =
+                scope (clock (at 0 0) (at 0 0) true (at 0 0)) true true ∷
+                scope (clock (at 11 0) (at 0 0) false (at 0 0)) true true ∷
+                scope (clock (at 11 0) (at 0 0) false (at 0 0)) true true ∷
+                scope (clock (at 0 0) (at 0 0) false (at 0 0)) false false ∷
+                scope (clock (at 20 0) (at 1 0) false (at 1 0)) true true ∷
                 [];
-            active = true ∷ true ∷ true ∷ false ∷ true ∷ [];
-            ever = true ∷ true ∷ true ∷ false ∷ true ∷ [];
             waiting = [];
             work = 0;
             store = record { values = []; buckets = [] };
@@ -219,13 +219,13 @@ pub reset-keeps-clock : dayOf reset-keeps-clock-image reset-keeps-clock-calls �
       end =
           record {
             modes = 0 ∷ 2 ∷ [];
-            clocks =
-                clock (at 0 0) (at 0 0) true (at 0 0) ∷ clock (at 30 0) (at 0 0) false (at 0 0) ∷
-                clock (at 30 0) (at 0 0) false (at 0 0) ∷ clock (at 30 0) (at 0 0) false (at 10 0) ∷
-                clock (at 40 0) (at 0 0) false (at 0 0) ∷
+            scopes =
+                scope (clock (at 0 0) (at 0 0) true (at 0 0)) true true ∷
+                scope (clock (at 30 0) (at 0 0) false (at 0 0)) true true ∷
+                scope (clock (at 30 0) (at 0 0) false (at 0 0)) true true ∷
+                scope (clock (at 30 0) (at 0 0) false (at 10 0)) false true ∷
+                scope (clock (at 40 0) (at 0 0) false (at 0 0)) true true ∷
                 [];
-            active = true ∷ true ∷ true ∷ false ∷ true ∷ [];
-            ever = true ∷ true ∷ true ∷ true ∷ true ∷ [];
             waiting = [];
             work = 0;
             store = record { values = []; buckets = [] };
@@ -275,12 +275,11 @@ pub reset-logical-only : dayOf reset-logical-only-image reset-logical-only-calls
       end =
           record {
             modes = 0 ∷ [];
-            clocks =
-                clock (at 0 0) (at 0 0) true (at 0 0) ∷ clock (at 20 0) (at 0 0) false (at 0 0) ∷
-                clock (at 0 0) (at 0 0) false (at 0 0) ∷
+            scopes =
+                scope (clock (at 0 0) (at 0 0) true (at 0 0)) true true ∷
+                scope (clock (at 20 0) (at 0 0) false (at 0 0)) true true ∷
+                scope (clock (at 0 0) (at 0 0) false (at 0 0)) false false ∷
                 [];
-            active = true ∷ true ∷ false ∷ [];
-            ever = true ∷ true ∷ false ∷ [];
             waiting =
                 record { queue = 1; tag = (at 5 0); reactions = 0 ∷ 0 ∷ []; terminal = false; control = false; network = false; action = 0; stored = (at 25 0) } ∷
                 record { queue = 1; tag = (at 6 0); reactions = 0 ∷ 0 ∷ []; terminal = false; control = false; network = false; action = 1; stored = (at 26 0) } ∷
@@ -341,13 +340,13 @@ pub reset-nested : dayOf reset-nested-image reset-nested-calls ≡
       end =
           record {
             modes = 0 ∷ 1 ∷ [];
-            clocks =
-                clock (at 0 0) (at 0 0) true (at 0 0) ∷ clock (at 20 0) (at 0 0) false (at 0 0) ∷
-                clock (at 20 0) (at 0 0) false (at 0 0) ∷ clock (at 20 0) (at 0 0) false (at 0 0) ∷
-                clock (at 10 0) (at 0 0) false (at 10 0) ∷
+            scopes =
+                scope (clock (at 0 0) (at 0 0) true (at 0 0)) true true ∷
+                scope (clock (at 20 0) (at 0 0) false (at 0 0)) true true ∷
+                scope (clock (at 20 0) (at 0 0) false (at 0 0)) true true ∷
+                scope (clock (at 20 0) (at 0 0) false (at 0 0)) true true ∷
+                scope (clock (at 10 0) (at 0 0) false (at 10 0)) false true ∷
                 [];
-            active = true ∷ true ∷ true ∷ true ∷ false ∷ [];
-            ever = true ∷ true ∷ true ∷ true ∷ true ∷ [];
             waiting = [];
             work = 0;
             store = record { values = []; buckets = [] };
@@ -398,12 +397,11 @@ pub reset-rows-at-limit : dayOf reset-rows-at-limit-image reset-rows-at-limit-ca
       end =
           record {
             modes = 1 ∷ [];
-            clocks =
-                clock (at 0 0) (at 0 0) true (at 0 0) ∷ clock (at 0 0) (at 0 0) true (at 10 4294967294) ∷
-                clock (at 10 4294967294) (at 0 0) false (at 0 0) ∷
+            scopes =
+                scope (clock (at 0 0) (at 0 0) true (at 0 0)) true true ∷
+                scope (clock (at 0 0) (at 0 0) true (at 10 4294967294)) false true ∷
+                scope (clock (at 10 4294967294) (at 0 0) false (at 0 0)) true true ∷
                 [];
-            active = true ∷ false ∷ true ∷ [];
-            ever = true ∷ true ∷ true ∷ [];
             waiting = [];
             work = 0;
             store = record { values = value 0 (at 15 0) 0 ∷ []; buckets = bucket 0 15 1 ∷ [] };
@@ -449,12 +447,12 @@ pub reset-rows : dayOf reset-rows-image reset-rows-calls ≡
       end =
           record {
             modes = 0 ∷ [];
-            clocks =
-                clock (at 0 0) (at 0 0) true (at 0 0) ∷ clock (at 20 0) (at 10 2) false (at 10 2) ∷
-                clock (at 10 2) (at 0 0) false (at 10 0) ∷ clock (at 10 2) (at 0 0) false (at 10 0) ∷
+            scopes =
+                scope (clock (at 0 0) (at 0 0) true (at 0 0)) true true ∷
+                scope (clock (at 20 0) (at 10 2) false (at 10 2)) true true ∷
+                scope (clock (at 10 2) (at 0 0) false (at 10 0)) false true ∷
+                scope (clock (at 10 2) (at 0 0) false (at 10 0)) false true ∷
                 [];
-            active = true ∷ true ∷ false ∷ false ∷ [];
-            ever = true ∷ true ∷ true ∷ true ∷ [];
             waiting = [];
             work = 0;
             store = record { values = []; buckets = [] };
@@ -498,12 +496,12 @@ pub reset-strictly-under : dayOf reset-strictly-under-image reset-strictly-under
       end =
           record {
             modes = 0 ∷ 2 ∷ [];
-            clocks =
-                clock (at 0 0) (at 0 0) true (at 0 0) ∷ clock (at 20 0) (at 0 0) false (at 0 0) ∷
-                clock (at 0 0) (at 0 0) true (at 0 0) ∷ clock (at 20 0) (at 0 0) false (at 0 0) ∷
+            scopes =
+                scope (clock (at 0 0) (at 0 0) true (at 0 0)) true true ∷
+                scope (clock (at 20 0) (at 0 0) false (at 0 0)) true true ∷
+                scope (clock (at 0 0) (at 0 0) true (at 0 0)) false true ∷
+                scope (clock (at 20 0) (at 0 0) false (at 0 0)) true true ∷
                 [];
-            active = true ∷ true ∷ false ∷ true ∷ [];
-            ever = true ∷ true ∷ true ∷ true ∷ [];
             waiting = [];
             work = 0;
             store = record { values = value 0 (at 24 0) 0 ∷ []; buckets = bucket 0 24 1 ∷ [] };
@@ -548,13 +546,13 @@ pub reset-suspends : dayOf reset-suspends-image reset-suspends-calls ≡
       end =
           record {
             modes = 0 ∷ 2 ∷ [];
-            clocks =
-                clock (at 0 0) (at 0 0) true (at 0 0) ∷ clock (at 30 0) (at 0 0) false (at 0 0) ∷
-                clock (at 30 0) (at 0 0) false (at 0 0) ∷ clock (at 30 0) (at 0 0) false (at 20 0) ∷
-                clock (at 50 0) (at 20 0) false (at 20 0) ∷
+            scopes =
+                scope (clock (at 0 0) (at 0 0) true (at 0 0)) true true ∷
+                scope (clock (at 30 0) (at 0 0) false (at 0 0)) true true ∷
+                scope (clock (at 30 0) (at 0 0) false (at 0 0)) true true ∷
+                scope (clock (at 30 0) (at 0 0) false (at 20 0)) false true ∷
+                scope (clock (at 50 0) (at 20 0) false (at 20 0)) true true ∷
                 [];
-            active = true ∷ true ∷ true ∷ false ∷ true ∷ [];
-            ever = true ∷ true ∷ true ∷ true ∷ true ∷ [];
             waiting = [];
             work = 0;
             store = record { values = value 0 (at 50 1) 0 ∷ []; buckets = bucket 0 15 1 ∷ bucket 0 50 2 ∷ [] };
@@ -598,13 +596,13 @@ pub reset-timer-overruns : dayOf reset-timer-overruns-image reset-timer-overruns
       end =
           record {
             modes = 0 ∷ 1 ∷ [];
-            clocks =
-                clock (at 0 0) (at 0 0) true (at 0 0) ∷ clock (at 0 0) (at 0 0) true (at 0 0) ∷
-                clock (at 0 0) (at 0 0) true (at 0 0) ∷ clock (at 200 0) (at 100 0) false (at 100 0) ∷
-                clock (at 100 0) (at 0 0) false (at 100 0) ∷
+            scopes =
+                scope (clock (at 0 0) (at 0 0) true (at 0 0)) true true ∷
+                scope (clock (at 0 0) (at 0 0) true (at 0 0)) true true ∷
+                scope (clock (at 0 0) (at 0 0) true (at 0 0)) true true ∷
+                scope (clock (at 200 0) (at 100 0) false (at 100 0)) true true ∷
+                scope (clock (at 100 0) (at 0 0) false (at 100 0)) false true ∷
                 [];
-            active = true ∷ true ∷ true ∷ true ∷ false ∷ [];
-            ever = true ∷ true ∷ true ∷ true ∷ true ∷ [];
             waiting = [];
             work = 0;
             store = record { values = []; buckets = [] };
@@ -648,12 +646,11 @@ pub reset-timers : dayOf reset-timers-image reset-timers-calls ≡
       end =
           record {
             modes = 1 ∷ [];
-            clocks =
-                clock (at 0 0) (at 0 0) true (at 0 0) ∷ clock (at 0 0) (at 0 0) true (at 10 2) ∷
-                clock (at 10 2) (at 0 0) false (at 0 0) ∷
+            scopes =
+                scope (clock (at 0 0) (at 0 0) true (at 0 0)) true true ∷
+                scope (clock (at 0 0) (at 0 0) true (at 10 2)) false true ∷
+                scope (clock (at 10 2) (at 0 0) false (at 0 0)) true true ∷
                 [];
-            active = true ∷ false ∷ true ∷ [];
-            ever = true ∷ true ∷ true ∷ [];
             waiting = [];
             work = 0;
             store = record { values = value 1 (at 15 1) 0 ∷ value 0 (at 15 1) 0 ∷ value 0 (at 10 3) 0 ∷ []; buckets = bucket 1 15 2 ∷ bucket 0 15 2 ∷ bucket 0 10 4 ∷ [] };
@@ -702,13 +699,13 @@ pub reset-zeroes-local : dayOf reset-keeps-clock-image reset-zeroes-local-calls 
       end =
           record {
             modes = 0 ∷ 1 ∷ [];
-            clocks =
-                clock (at 0 0) (at 0 0) true (at 0 0) ∷ clock (at 70 0) (at 0 0) false (at 0 0) ∷
-                clock (at 70 0) (at 0 0) false (at 0 0) ∷ clock (at 70 0) (at 0 0) false (at 0 0) ∷
-                clock (at 60 0) (at 0 0) false (at 0 0) ∷
+            scopes =
+                scope (clock (at 0 0) (at 0 0) true (at 0 0)) true true ∷
+                scope (clock (at 70 0) (at 0 0) false (at 0 0)) true true ∷
+                scope (clock (at 70 0) (at 0 0) false (at 0 0)) true true ∷
+                scope (clock (at 70 0) (at 0 0) false (at 0 0)) true true ∷
+                scope (clock (at 60 0) (at 0 0) false (at 0 0)) false true ∷
                 [];
-            active = true ∷ true ∷ true ∷ true ∷ false ∷ [];
-            ever = true ∷ true ∷ true ∷ true ∷ true ∷ [];
             waiting =
                 record { queue = 4; tag = (at 3 0); reactions = 0 ∷ 0 ∷ []; terminal = false; control = false; network = false; action = 0; stored = (at 63 0) } ∷
                 [];

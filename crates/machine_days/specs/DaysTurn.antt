@@ -10,7 +10,7 @@ use Rattle.rows.specs.Rows.{none}
 use Rattle.tags.specs.Tags.{at}
 use Rattle.machine.specs.State.{root}
 use Rattle.machine.specs.Machine.{Call, plain, network, control, action, transit, pop, ok, refusal, nothing, ready, tag, flag, number}
-use Rattle.machine_days.specs.Computed.{dayOf, longDayOf, askedOf, clock, value, bucket}
+use Rattle.machine_days.specs.Computed.{dayOf, longDayOf, askedOf, scope, clock, value, bucket}
 
 -- READINGS, "Transition": a history transition to the current mode changes nothing, at any c within the limits.
 abbrev pub turn-history-to-current-image : Image
@@ -41,12 +41,11 @@ pub turn-history-to-current : dayOf turn-history-to-current-image turn-history-t
       end =
           record {
             modes = 0 ∷ [];
-            clocks =
-                clock (at 0 0) (at 0 0) true (at 0 0) ∷ clock (at 0 0) (at 0 0) true (at 0 0) ∷
-                clock (at 0 0) (at 0 0) false (at 0 0) ∷
+            scopes =
+                scope (clock (at 0 0) (at 0 0) true (at 0 0)) true true ∷
+                scope (clock (at 0 0) (at 0 0) true (at 0 0)) true true ∷
+                scope (clock (at 0 0) (at 0 0) false (at 0 0)) false false ∷
                 [];
-            active = true ∷ true ∷ false ∷ [];
-            ever = true ∷ true ∷ false ∷ [];
             waiting = [];
             work = 0;
             store = record { values = []; buckets = [] };
@@ -97,13 +96,14 @@ pub turn-nested-history : dayOf turn-nested-history-image turn-nested-history-ca
       end =
           record {
             modes = 0 ∷ 3 ∷ [];
-            clocks =
-                clock (at 0 0) (at 0 0) true (at 0 0) ∷ clock (at 30 0) (at 11 0) false (at 11 0) ∷
-                clock (at 11 0) (at 0 0) false (at 19 0) ∷ clock (at 30 0) (at 11 0) false (at 11 0) ∷
-                clock (at 0 0) (at 0 0) true (at 10 0) ∷ clock (at 30 0) (at 1 0) false (at 1 0) ∷
+            scopes =
+                scope (clock (at 0 0) (at 0 0) true (at 0 0)) true true ∷
+                scope (clock (at 30 0) (at 11 0) false (at 11 0)) true true ∷
+                scope (clock (at 11 0) (at 0 0) false (at 19 0)) false true ∷
+                scope (clock (at 30 0) (at 11 0) false (at 11 0)) true true ∷
+                scope (clock (at 0 0) (at 0 0) true (at 10 0)) false true ∷
+                scope (clock (at 30 0) (at 1 0) false (at 1 0)) true true ∷
                 [];
-            active = true ∷ true ∷ false ∷ true ∷ false ∷ true ∷ [];
-            ever = true ∷ true ∷ true ∷ true ∷ true ∷ true ∷ [];
             waiting = [];
             work = 0;
             store = record { values = []; buckets = [] };
@@ -145,12 +145,11 @@ pub turn-nothing-starts : dayOf turn-nothing-starts-image turn-nothing-starts-ca
       end =
           record {
             modes = 0 ∷ [];
-            clocks =
-                clock (at 0 0) (at 0 0) true (at 0 0) ∷ clock (at 0 0) (at 0 0) true (at 0 0) ∷
-                clock (at 0 0) (at 0 0) false (at 0 0) ∷
+            scopes =
+                scope (clock (at 0 0) (at 0 0) true (at 0 0)) true true ∷
+                scope (clock (at 0 0) (at 0 0) true (at 0 0)) true true ∷
+                scope (clock (at 0 0) (at 0 0) false (at 0 0)) false false ∷
                 [];
-            active = true ∷ true ∷ false ∷ [];
-            ever = true ∷ true ∷ false ∷ [];
             waiting = [];
             work = 0;
             store = record { values = []; buckets = [] };
@@ -188,12 +187,11 @@ pub turn-startup-at-limit : dayOf turn-startup-at-limit-image turn-startup-at-li
       end =
           record {
             modes = 0 ∷ [];
-            clocks =
-                clock (at 0 0) (at 0 0) true (at 0 0) ∷ clock (at 0 0) (at 0 0) true (at 0 0) ∷
-                clock (at 0 0) (at 0 0) false (at 0 0) ∷
+            scopes =
+                scope (clock (at 0 0) (at 0 0) true (at 0 0)) true true ∷
+                scope (clock (at 0 0) (at 0 0) true (at 0 0)) true true ∷
+                scope (clock (at 0 0) (at 0 0) false (at 0 0)) false false ∷
                 [];
-            active = true ∷ true ∷ false ∷ [];
-            ever = true ∷ true ∷ false ∷ [];
             waiting =
                 record { queue = 2; tag = (at 3 0); reactions = 1 ∷ 0 ∷ []; terminal = false; control = false; network = false; action = 0; stored = (at 3 0) } ∷
                 [];
@@ -240,13 +238,13 @@ pub turn-startup-children : dayOf turn-startup-children-image turn-startup-child
       end =
           record {
             modes = 1 ∷ 3 ∷ [];
-            clocks =
-                clock (at 0 0) (at 0 0) true (at 0 0) ∷ clock (at 0 0) (at 0 0) true (at 7 0) ∷
-                clock (at 7 0) (at 0 0) false (at 0 0) ∷ clock (at 7 0) (at 0 0) false (at 1 0) ∷
-                clock (at 8 0) (at 0 0) false (at 0 0) ∷
+            scopes =
+                scope (clock (at 0 0) (at 0 0) true (at 0 0)) true true ∷
+                scope (clock (at 0 0) (at 0 0) true (at 7 0)) false true ∷
+                scope (clock (at 7 0) (at 0 0) false (at 0 0)) true true ∷
+                scope (clock (at 7 0) (at 0 0) false (at 1 0)) false true ∷
+                scope (clock (at 8 0) (at 0 0) false (at 0 0)) true true ∷
                 [];
-            active = true ∷ false ∷ true ∷ false ∷ true ∷ [];
-            ever = true ∷ true ∷ true ∷ true ∷ true ∷ [];
             waiting = [];
             work = 0;
             store = record { values = value 1 (at 7 1) 0 ∷ value 0 (at 7 1) 0 ∷ value 0 (at 8 1) 0 ∷ []; buckets = bucket 1 7 2 ∷ bucket 0 7 2 ∷ bucket 0 8 2 ∷ [] };
@@ -296,12 +294,11 @@ pub turn-startup-once : dayOf turn-startup-once-image turn-startup-once-calls �
       end =
           record {
             modes = 1 ∷ [];
-            clocks =
-                clock (at 0 0) (at 0 0) true (at 0 0) ∷ clock (at 20 0) (at 10 0) false (at 20 0) ∷
-                clock (at 30 0) (at 0 0) false (at 0 0) ∷
+            scopes =
+                scope (clock (at 0 0) (at 0 0) true (at 0 0)) true true ∷
+                scope (clock (at 20 0) (at 10 0) false (at 20 0)) false true ∷
+                scope (clock (at 30 0) (at 0 0) false (at 0 0)) true true ∷
                 [];
-            active = true ∷ false ∷ true ∷ [];
-            ever = true ∷ true ∷ true ∷ [];
             waiting = [];
             work = 0;
             store = record { values = []; buckets = [] };
@@ -343,12 +340,12 @@ pub turn-startup-slots : dayOf turn-startup-slots-image turn-startup-slots-calls
       end =
           record {
             modes = 1 ∷ [];
-            clocks =
-                clock (at 0 0) (at 0 0) true (at 0 0) ∷ clock (at 0 0) (at 0 0) true (at 10 3) ∷
-                clock (at 10 3) (at 0 0) false (at 0 0) ∷ clock (at 10 3) (at 0 0) false (at 0 0) ∷
+            scopes =
+                scope (clock (at 0 0) (at 0 0) true (at 0 0)) true true ∷
+                scope (clock (at 0 0) (at 0 0) true (at 10 3)) false true ∷
+                scope (clock (at 10 3) (at 0 0) false (at 0 0)) true true ∷
+                scope (clock (at 10 3) (at 0 0) false (at 0 0)) true true ∷
                 [];
-            active = true ∷ false ∷ true ∷ true ∷ [];
-            ever = true ∷ true ∷ true ∷ true ∷ [];
             waiting =
                 record { queue = root; tag = (at 10 4); reactions = 3 ∷ 0 ∷ []; terminal = false; control = false; network = false; action = none; stored = (at 0 0) } ∷
                 record { queue = root; tag = (at 10 4); reactions = 0 ∷ 0 ∷ []; terminal = false; control = false; network = false; action = none; stored = (at 0 0) } ∷

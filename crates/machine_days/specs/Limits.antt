@@ -7,7 +7,7 @@ use Rattle.refusals.specs.declared.Refusal.the-variants as R
 use Rattle.rows.specs.Bytes.{Image}
 use Rattle.tags.specs.Tags.{at}
 use Rattle.machine.specs.Machine.{Call, action, transit, pop, activeNow, everActive, ok, refusal, ready, flag}
-use Rattle.machine_days.specs.Computed.{dayOf, clock, value, bucket}
+use Rattle.machine_days.specs.Computed.{dayOf, scope, clock, value, bucket}
 
 -- two modes, and a logical action in the second one's scope with a timer at (0,3)
 abbrev pub moves-image : Image
@@ -41,13 +41,11 @@ pub moves-tie : dayOf moves-image moves-calls ≡
       end =
           record {
             modes = 1 ∷ [];
-            clocks =
-                clock (at 0 0) (at 0 0) true (at 0 0) ∷
-                clock (at 30 1) (at 30 0) false (at 50 0) ∷
-                clock (at 50 0) (at 0 8) false (at 0 8) ∷
+            scopes =
+                scope (clock (at 0 0) (at 0 0) true (at 0 0)) true true ∷
+                scope (clock (at 30 1) (at 30 0) false (at 50 0)) false true ∷
+                scope (clock (at 50 0) (at 0 8) false (at 0 8)) true true ∷
                 [];
-            active = true ∷ false ∷ true ∷ [];
-            ever = true ∷ true ∷ true ∷ [];
             waiting = [];
             work = 0;
             store = record { values = value 0 (at 50 3) 0 ∷ []; buckets = bucket 0 10 4 ∷ bucket 0 30 4 ∷ bucket 0 50 4 ∷ [] };

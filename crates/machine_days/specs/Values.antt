@@ -9,10 +9,10 @@ use Rattle.lists.specs.Lists.{from}
 use Rattle.refusals.specs.declared.Refusal.the-variants as R
 use Rattle.rows.specs.Bytes.{Image}
 use Rattle.rows.specs.Rows.{none}
-use Rattle.tags.specs.Tags.{at, Clock, freshClock}
-use Rattle.machine.specs.State.{State, rootEvent}
+use Rattle.tags.specs.Tags.{at, freshClock}
+use Rattle.machine.specs.State.{Scope, State, rootEvent, freshScope}
 use Rattle.machine.specs.Machine.{Call, plain, transit, pushValue, nextStep, takeValue, clearBefore, moveValue, clearAction, ok, refusal, nothing, number, answer, perform, step}
-use Rattle.machine_days.specs.Computed.{dayOf, performed, clock, value, bucket}
+use Rattle.machine_days.specs.Computed.{dayOf, performed, scope, clock, value, bucket}
 
 -- one scope, one reactor without a mode, a physical action 0 and a logical action 1
 abbrev pub store-image : Image
@@ -61,9 +61,7 @@ pub store-day : dayOf store-image store-calls ≡
       end =
           record {
             modes = none ∷ [];
-            clocks = clock (at 0 0) (at 0 0) true (at 0 0) ∷ [];
-            active = true ∷ [];
-            ever = true ∷ [];
+            scopes = scope (clock (at 0 0) (at 0 0) true (at 0 0)) true true ∷ [];
             waiting = [];
             work = 0;
             store = record { values = []; buckets = bucket 0 5 2 ∷ bucket 0 6 1 ∷ [] };
@@ -99,20 +97,18 @@ store-refuses = refl
 -- ---- 256 of each
 
 -- 256 values and 256 buckets of action 0, at (0,1) to (255,1), and 256 events of the root
-abbrev pub full : List ℕ → List Clock → List Bool → List Bool → State
-full modes clocks active ever =
+abbrev pub full : List ℕ → List Scope → State
+full modes scopes =
     record {
       modes = modes;
-      clocks = clocks;
-      active = active;
-      ever = ever;
+      scopes = scopes;
       waiting = replicate 256 (rootEvent (at 5 0) (0 ∷ 0 ∷ []) false false false);
       work = 256;
       store = record { values = map (λ i. value 0 (at i 1) i) (from 0 256); buckets = map (λ i. bucket 0 i 2) (from 0 256) };
     }
 
 abbrev pub full-flat : State
-full-flat = full (none ∷ []) (freshClock true ∷ []) (true ∷ []) (true ∷ [])
+full-flat = full (none ∷ []) (freshScope true ∷ [])
 
 abbrev pub full-calls : List Call
 full-calls =
@@ -150,8 +146,7 @@ turn-image =
 
 -- in the first mode, where the second one's scope was active before, or not
 abbrev pub full-modal : Bool → State
-full-modal before =
-    full (0 ∷ []) (freshClock true ∷ freshClock true ∷ freshClock false ∷ []) (true ∷ true ∷ false ∷ []) (true ∷ true ∷ before ∷ [])
+full-modal before = full (0 ∷ []) (freshScope true ∷ freshScope true ∷ scope (freshClock false) false before ∷ [])
 
 -- "a value before its event": step 4's startup value, and step 5's timer value, are 9 before their events are 8
 pub startup-value-first : perform turn-image (full-modal false) (transit 0 1 false (at 10 0)) ≡ answer (refusal R.Held) (full-modal false)

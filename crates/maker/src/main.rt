@@ -1,4 +1,4 @@
-// The maker of table images: the numbers of a table from standard input, its image to standard output.
+// The maker of table images, document 02, C-11: the numbers of a table from standard input, its image to standard output. What is written is writer's.
 // Standard input: numbers of eight bytes, the highest first: nine counts, then three for each row in the image's order, its fields, 0 for one
 // that it does not have. Standard output: the line of the table's check, as the bench writes it, then the image; of a table that is refused the
 // image as it would stand, for the words; of one that is refused by a count its head alone.

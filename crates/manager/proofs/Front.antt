@@ -1,9 +1,9 @@
 -- The front of an array with blanks behind it, and the loops that copy an array to rows and back. Assumes nothing.
-use mathlib.Core.Bool.{Bool, false}
+use mathlib.Core.Bool.{Bool}
 use mathlib.Core.Path.{_≡_, refl, ap, _∙_, sym}
-use mathlib.Core.Logic.{_⊎_, ⊎-elim}
-use mathlib.Core.List.{List, map}
-use Prim.Native.Nat.{ℕ, _+_, _≤_, _<_, min}
+use mathlib.Core.Logic.{⊎-elim}
+use mathlib.Core.List.{List, [], _∷_, map}
+use Prim.Native.Nat.{ℕ, zero, suc, _+_, _≤_, _<_, min}
 use native.Mathlib.Nat.{min-eq-left, min-eq-right, min-le-right}
 use native.Mathlib.Numerals.{add-one}
 use native.Mathlib.Omega.{arith}
@@ -11,16 +11,16 @@ use lib.ListN.{length, take, getD, set, replicate, length-take, length-map, List
 use lib.Seq.{take-suc, take-suc-set, take-all}
 use Rattle.lists.specs.Tests.{below?}
 use Rattle.lists.specs.Rows.{map-set}
-use Rattle.lists.specs.Steps.{read-in}
 use Rattle.lists.specs.Held.{thingsOf, things-length, Held}
-use Rattle.tags.specs.Tags.{freshClock}
+use Rattle.tags.specs.Tags.{Clock}
 use Rattle.tags.specs.Views.{ofClock}
 use Rattle.tags.specs.declared.ScopeClock.{ScopeClock}
 use Rattle.scopes.specs.declared.Scope as code
 use Rattle.scopes.specs.Scopes as scope
 use Rattle.scopes.specs.Scopes.{Scope, mostScopes, scopeOf, scopesOf}
 use Rattle.lens.specs.Padded.{padded, padded-none, padded-length, padded-take, padded-more}
-use Rattle.lens.specs.Lens.{joined, joined-length, joined-get, Even, Scoped}
+use Rattle.lens.specs.Lens.{Scoped}
+use Rattle.manager.specs.Views.{joined}
 
 module _ {A : Type 0} (b : A) (N : ℕ) (l : List A) (full : length l ≡ N) where
   front-long : (i : ℕ) → i ≤ N → length (take i l) ≡ i
@@ -87,23 +87,45 @@ module _ {A : Type 0} (decode : List ℕ → A) (encode : A → List ℕ) (w N :
         → Held decode encode w N long ws (padded b N (take i (map view things))) → Held decode encode w N long ws (padded b N (take n (map view things)))
     rows-all ws i n e u v q h = rows-end (map view things) ws i n e (length-map things view ∙ full) u v q h
 
--- the three arrays of the scopes
+-- ---- the three arrays of the scopes
+
+joined-length : (ks : List Clock) (now before : List Bool) → length now ≡ length ks → length before ≡ length ks → length (joined ks now before) ≡ length ks
+unfolding joined
+joined-length [] now before a b = refl
+joined-length (k ∷ ks) [] before a b = absurd (omega arith)
+joined-length (k ∷ ks) (x ∷ now) [] a b = absurd (omega arith)
+joined-length (k ∷ ks) (x ∷ now) (y ∷ before) a b = ap suc (joined-length ks now before (omega arith) (omega arith))
+
+joined-get :
+    (ks : List Clock) (now before : List Bool) (i : ℕ) (d : Scope) (k : Clock) (a b : Bool) → i < length ks → i < length now → i < length before →
+    getD (joined ks now before) i d ≡ record { clock = getD ks i k; active = getD now i a; ever = getD before i b }
+unfolding joined
+joined-get [] now before i d k a b f g h = absurd (omega arith)
+joined-get (x ∷ ks) [] before i d k a b f g h = absurd (omega arith)
+joined-get (x ∷ ks) (y ∷ now) [] i d k a b f g h = absurd (omega arith)
+joined-get (x ∷ ks) (y ∷ now) (z ∷ before) zero d k a b f g h = refl
+joined-get (x ∷ ks) (y ∷ now) (z ∷ before) (suc i) d k a b f g h = joined-get ks now before i d k a b (omega arith) (omega arith) (omega arith)
+
+-- as one list and back
+pub joined-back : (l : List Scope) → joined (map (λ x. x .clock) l) (map (λ x. x .active) l) (map (λ x. x .ever) l) ≡ l
+unfolding joined
+joined-back [] = refl
+joined-back (x ∷ l) = ap (x ∷_) (joined-back l)
+
 module _ (clocks : List ScopeClock) (now before : List Bool) (k : length clocks ≡ mostScopes) (a : length now ≡ mostScopes) (b : length before ≡ mostScopes) where
-  scopes-even : Even mostScopes (map ofClock clocks) now before
-  scopes-even = record { clocks = length-map clocks ofClock ∙ k; active = a; ever = b }
+  pub scopes-long : length (joined (map ofClock clocks) now before) ≡ mostScopes
+  scopes-long =
+      let l = length-map clocks ofClock ∙ k in
+      joined-length (map ofClock clocks) now before (a ∙ sym l) (b ∙ sym l) ∙ l
 
-  scopes-long : length (joined (map ofClock clocks) now before) ≡ mostScopes
-  scopes-long = joined-length mostScopes (map ofClock clocks) now before scopes-even
-
-  scope-next : (i e : ℕ) (d : ScopeClock) (ws out : List ℕ) → i < e → e ≤ mostScopes → Scoped (take i (joined (map ofClock clocks) now before)) ws
-      → scope.Held out (set (scopesOf ws) i (record { clock = ofClock (getD clocks i d); active = getD now i false; ever = getD before i false }))
+  scope-next : (i e : ℕ) (d : ScopeClock) (x y : Bool) (ws out : List ℕ) → i < e → e ≤ mostScopes → Scoped (take i (joined (map ofClock clocks) now before)) ws
+      → scope.Held out (set (scopesOf ws) i (record { clock = ofClock (getD clocks i d); active = getD now i x; ever = getD before i y }))
       → Scoped (take (i + 1) (joined (map ofClock clocks) now before)) out
-  scope-next i e d ws out u v p q =
+  scope-next i e d x y ws out u v p q =
       let h : i < mostScopes = omega arith in
-      let c : ofClock (getD clocks i d) ≡ getD (map ofClock clocks) i (freshClock false)
-      = sym (List·getD-map ofClock clocks i d) ∙ read-in (map ofClock clocks) i (ofClock d) (freshClock false) (rw (length-map, k) h) in
+      let g = joined-get (map ofClock clocks) now before i scope.blank (ofClock d) x y (rw (length-map, k) h) (rw a h) (rw b h) in
       one-next scope.decode scope.encode scope.scopeWords mostScopes scope.encode-long scope.blank (joined (map ofClock clocks) now before) scopes-long i scope.blank _ ws out h
-      (rw c (sym (joined-get mostScopes (map ofClock clocks) now before scopes-even i))) p q
+      (sym (g ∙ rw (List·getD-map ofClock clocks i d))) p q
 
   scope-all : (ws : List ℕ) (i n e : ℕ) → i ≤ e → e ≤ i → e ≡ min n mostScopes → Scoped (take i (joined (map ofClock clocks) now before)) ws
       → Scoped (take n (joined (map ofClock clocks) now before)) ws
@@ -118,7 +140,9 @@ pub record Copying (clocks : List ScopeClock) (now before : List Bool) (i : ℕ)
   pub ever-long : length before ≡ mostScopes
 
 module _ (clocks : List ScopeClock) (now before : List Bool) where
-  pub copying-none : (ws : List ℕ) → scope.Held ws (replicate mostScopes scope.blank) → length clocks ≡ mostScopes → length now ≡ mostScopes → length before ≡ mostScopes → Copying clocks now before 0 ws
+  pub copying-none :
+      (ws : List ℕ) → scope.Held ws (replicate mostScopes scope.blank) → length clocks ≡ mostScopes → length now ≡ mostScopes → length before ≡ mostScopes →
+      Copying clocks now before 0 ws
   copying-none ws h k a b =
       record {
         held = rows-none scope.decode scope.encode scope.scopeWords mostScopes scope.encode-long scope.blank (joined (map ofClock clocks) now before) ws h;
@@ -127,18 +151,19 @@ module _ (clocks : List ScopeClock) (now before : List Bool) where
         ever-long = b;
       }
 
-  pub copying-next : (i e : ℕ) (d : ScopeClock) (ws out : List ℕ) → Copying clocks now before i ws → i < e → e ≤ mostScopes
-      → scope.Held out (set (scopesOf ws) i (record { clock = ofClock (getD clocks i d); active = getD now i false; ever = getD before i false }))
+  pub copying-next : (i e : ℕ) (d : ScopeClock) (x y : Bool) (ws out : List ℕ) → Copying clocks now before i ws → i < e → e ≤ mostScopes
+      → scope.Held out (set (scopesOf ws) i (record { clock = ofClock (getD clocks i d); active = getD now i x; ever = getD before i y }))
       → Copying clocks now before (i + 1) out
-  copying-next i e d ws out p u v q =
+  copying-next i e d x y ws out p u v q =
       record {
-        held = scope-next clocks now before (p .clocks-long) (p .active-long) (p .ever-long) i e d ws out u v (p .held) q;
+        held = scope-next clocks now before (p .clocks-long) (p .active-long) (p .ever-long) i e d x y ws out u v (p .held) q;
         clocks-long = p .clocks-long;
         active-long = p .active-long;
         ever-long = p .ever-long;
       }
 
-  pub copying-all : (ws : List ℕ) (i n e : ℕ) → Copying clocks now before i ws → i ≤ e → e ≤ i → e ≡ min n mostScopes → Scoped (take n (joined (map ofClock clocks) now before)) ws
+  pub copying-all :
+      (ws : List ℕ) (i n e : ℕ) → Copying clocks now before i ws → i ≤ e → e ≤ i → e ≡ min n mostScopes → Scoped (take n (joined (map ofClock clocks) now before)) ws
   copying-all ws i n e p u v q = scope-all clocks now before (p .clocks-long) (p .active-long) (p .ever-long) ws i n e u v q (p .held)
 
 -- ---- and back: a list copied one by one

@@ -2,5 +2,4 @@ pub mod Front
 pub mod Packs
 pub mod Calls
 pub mod Runs
-pub mod Transits
 pub mod Values

@@ -1,54 +1,39 @@
 -- The manager as rows and back: the state in them, its rules, and the state that is packed again. Assumes nothing.
-use mathlib.Core.Bool.{Bool, true, false, _&&_}
-use mathlib.Core.Path.{_≡_, refl, ap, _∙_, sym}
-use mathlib.Core.List.{List, [], _∷_, map}
-use Prim.Native.Nat.{ℕ, zero, suc, _≤_, min}
+use mathlib.Core.Bool.{Bool, true}
+use mathlib.Core.Path.{_≡_, refl, _∙_, sym}
+use mathlib.Core.List.{List, map}
+use Prim.Native.Nat.{ℕ, _≤_}
 use native.Mathlib.Nat.{min-eq-left}
 use lib.Dec.{leb}
 use lib.ListN.{length, take, replicate, length-take, length-map}
 use borrow.Author.Tests.{leb-true}
 use Rattle.lists.specs.Tests.{and-left, and-right}
 use Rattle.rows.specs.Bytes.{Image}
-use Rattle.table.specs.Check.{isTable}
-use Rattle.tags.specs.Views.{ofClock}
-use Rattle.tags.specs.Tags.{Clock, freshClock}
-use Rattle.entries.specs.Entries.{mostHeld, blankValue, blankBucket, ofValue, ofBucket}
-use Rattle.entries.specs.Words.{valuesOf, bucketsOf, HeldValues, HeldBuckets}
-use Rattle.store.specs.Store.{emptyStore}
-use Rattle.store_calls.specs.Lent.{storeOf}
-use Rattle.store_rules.proofs.Kept.{Kept, rules-kept}
-use Rattle.machine.specs.Table.{scopes, reactors, actions}
-use Rattle.machine.specs.State.{Event, State, mostWaiting, withQueue, fresh}
-use Rattle.machine.specs.Machine.{rules}
-use Rattle.kept.specs.Kept.{rules-tell, fresh-rules}
-use Rattle.fresh.specs.Fresh.{freshModes, freshScopes, noEvents, noValues, scopes-fresh, modes-room, modes-taken}
-use Rattle.kept.specs.Steps.{Ruled}
-use Rattle.slots.specs.Slots as slot
-use Rattle.slots.specs.Slots.{eventOf, eventsOf}
-use Rattle.scopes.specs.Scopes as scope
-use Rattle.scopes.specs.Scopes.{mostScopes, scopesOf}
-use Rattle.lens.specs.declared.Counts.{Counts}
-use Rattle.lens.specs.Padded.{padded, padded-none, padded-take, padded-map}
-use Rattle.lens.specs.Lens.{Queued, Waits, joined, joined-length, scopesFrom, stateIn, Scoped, Even, clocks-of, active-of, ever-of, mostReactors}
-use Rattle.unpacked.specs.Unpacked as rows
-use Rattle.state_rules.specs.Sound.{sound}
-use Rattle.manager.specs.Arrays.{Arrays, viewOf, packed, isSound, noState, bareOf, freshOver}
-use Rattle.table.specs.Check.{check}
+use Rattle.table.specs.Check.{isTable, check}
 use Rattle.table.specs.declared.Checked.{Checked}
 use Rattle.table.specs.declared.Checked.the-variants.{Accepted, Refused}
-use Rattle.state_rules.proofs.Rules.{scopes-few, reactors-few}
-use Rattle.manager.specs.Views.{arraysOf, arraysIn, Holds, Full, Unpacks}
+use Rattle.tags.specs.Views.{ofClock}
+use Rattle.entries.specs.Entries.{mostHeld, blankValue, blankBucket, ofValue, ofBucket}
+use Rattle.entries.specs.Words.{HeldValues, HeldBuckets}
+use Rattle.store_rules.proofs.Kept.{Kept, rules-kept}
+use Rattle.machine.specs.Table.{scopes, reactors, actions}
+use Rattle.machine.specs.State.{State, mostWaiting, fresh}
+use Rattle.machine.specs.Machine.{rules}
+use Rattle.kept.specs.Steps.{Ruled}
+use Rattle.fresh.specs.Fresh.{Bare, bare-queued, bare-stored}
+use Rattle.slots.specs.Slots as slot
+use Rattle.slots.specs.Slots.{eventOf}
+use Rattle.scopes.specs.Scopes as scope
+use Rattle.scopes.specs.Scopes.{mostScopes}
+use Rattle.lens.specs.Padded.{padded, padded-none, padded-take}
+use Rattle.lens.specs.Lens.{Scoped, Queued, Stored, mostReactors}
+use Rattle.lens.specs.declared.Room.{Room}
+use Rattle.lens.specs.Holds.{rowsOf, stateIn, Holds, ruled-holds, most-scopes, most-reactors, rules-table}
+use Rattle.state_rules.specs.Sound.{sound, soundIn}
+use Rattle.manager.specs.Arrays.{Arrays, viewOf, packed, isSound, noState, freshOver}
+use Rattle.manager.specs.Views.{joined, arraysOf, arraysIn, Unpacks}
 use Rattle.manager.specs.declared.Manager.{Manager}
-use Rattle.manager.specs.declared.Unpacked.{Unpacked}
-use Rattle.manager.proofs.Front.{front-view}
-
-joined-take : (n : ℕ) (ks : List Clock) (now before : List Bool) → take n (joined ks now before) ≡ joined (take n ks) (take n now) (take n before)
-unfolding joined
-joined-take zero ks now before = refl
-joined-take (suc n) [] now before = refl
-joined-take (suc n) (k ∷ ks) [] before = refl
-joined-take (suc n) (k ∷ ks) (a ∷ now) [] = refl
-joined-take (suc n) (k ∷ ks) (a ∷ now) (b ∷ before) = ap (record { clock = k; active = a; ever = b } ∷_) (joined-take n ks now before)
+use Rattle.manager.proofs.Front.{front-view, scopes-long}
 
 -- ---- to rows
 
@@ -62,59 +47,47 @@ pub unpacks :
     HeldValues vws (padded blankValue mostHeld (take (m .store .held) (map ofValue (m .store .values)))) →
     HeldBuckets bws (padded blankBucket mostHeld (take (m .store .«open») (map ofBucket (m .store .buckets)))) →
     Unpacks img (arraysOf m)
-    (record { modes = ms; scopes = sws; events = ews; values = vws; buckets = bws; counts = record { waiting = m .waiting; work = m .work }; held = record { values = m .store .held; buckets = m .store .«open» } })
+    (record {
+      scopes = sws;
+      events = ews;
+      values = vws;
+      buckets = bws;
+      ledger =
+          record {
+            modes = ms;
+            counts = record { waiting = m .waiting; work = m .work };
+            held = record { values = m .store .held; buckets = m .store .«open» };
+          };
+    })
 unpacks img m ms sws ews vws bws lc la le lm ls lv lb er en em es ee ev eb =
     record {
       full =
           record {
-            clocks = length-map (m .clocks) ofClock ∙ lc;
-            active = la;
-            ever = le;
+            scopes = scopes-long (m .clocks) (m .active) (m .ever) lc la le;
             modes = lm;
             slots = length-map (m .slots) eventOf ∙ ls;
             values = length-map (m .store .values) ofValue ∙ lv;
             buckets = length-map (m .store .buckets) ofBucket ∙ lb;
           };
-      holds =
-          record {
-            modes = rw er at em;
-            scopes = rw (← (joined-take (scopes img) (map ofClock (m .clocks)) (m .active) (m .ever))) (rw en at es);
-            events = ee;
-            values = ev;
-            buckets = eb;
-          };
-      waiting = refl;
-      work = refl;
+      moded = rw er at em;
+      scoped = rw en at es;
+      events = ee;
+      values = ev;
+      buckets = eb;
+      counted = refl;
       held = refl;
-      open-buckets = refl;
     }
-
--- the state that the rows hold
-abbrev pub rowState : Image → Unpacked → State
-rowState img u = stateIn img (u .modes) (scopesOf (u .scopes)) (take (u .counts .waiting) (eventsOf (u .events))) (u .counts .work) (storeOf (u .values) (u .buckets) (u .held))
 
 -- ---- and back
 
-pub packs : (t : State) (u : Unpacked) (k : ℕ) → Even k (t .clocks) (t .active) (t .ever) → Holds t u → u .counts .waiting ≡ length (t .waiting) → u .counts .work ≡ t .work →
-    u .held .values ≡ length (t .store .values) → u .held .buckets ≡ length (t .store .buckets) → arraysIn u ≡ packed t
-packs t u k e h w o v b =
-    rw (
-      h .scopes .things,
-      padded-map (λ x. x .clock) scope.blank mostScopes (scopesFrom t),
-      padded-map (λ x. x .active) scope.blank mostScopes (scopesFrom t),
-      padded-map (λ x. x .ever) scope.blank mostScopes (scopesFrom t),
-      clocks-of k (t .clocks) (t .active) (t .ever) e,
-      active-of k (t .clocks) (t .active) (t .ever) e,
-      ever-of k (t .clocks) (t .active) (t .ever) e,
-      h .modes,
-      h .events .things,
-      h .values .things,
-      h .buckets .things,
-      w,
-      o,
-      v,
-      b,
-    )
+pub packs :
+    (t : State) (u : Room) → u .ledger .modes ≡ padded 0 mostReactors (t .modes) → Scoped (t .scopes) (u .scopes) →
+    Queued (t .waiting) (t .work) (u .events) (u .ledger .counts) → Stored (t .store) (u .values) (u .buckets) (u .ledger .held) → arraysIn u ≡ packed t
+packs t u m s q h =
+    rw (s .things, m, q .held .things, q .waiting, q .work, h .values .things, h .some-values, h .buckets .things, h .some-buckets)
+
+pub holds-packs : (img : Image) (t : State) (u : Room) → Holds img t (rowsOf u) → arraysIn u ≡ packed t
+holds-packs img t u h = packs t u (h .moded) (h .scoped) (h .queued) (h .stored)
 
 -- what a state handed in that is sound keeps
 module _ (img : Image) (a : Arrays) (s : isSound img a ≡ true) where
@@ -123,139 +96,56 @@ module _ (img : Image) (a : Arrays) (s : isSound img a ≡ true) where
   rules-of-sound = and-right (leb (a .store .«open») mostHeld) _ (and-right (leb (a .store .held) mostHeld) _ (and-right (leb (a .waiting) mostWaiting) _ s))
 
   pub table-of-sound : isTable img ≡ true
-  unfolding rules
-  table-of-sound = and-left (isTable img) _ rules-of-sound
+  table-of-sound = rules-table img (viewOf img a) rules-of-sound
 
-pub unpacked-packs :
-    (t : State) (u : Unpacked) (k : ℕ) → Even k (t .clocks) (t .active) (t .ever) →
-    rows.Unpacked t (u .modes) (u .scopes) (u .events) (u .values) (u .buckets) (u .counts) (u .held) → arraysIn u ≡ packed t
-unpacked-packs t u k e h =
-    packs t u k e
-    (record { modes = h .in-modes; scopes = h .in-scopes; events = h .in-events .held; values = h .in-store .values; buckets = h .in-store .buckets })
-    (h .in-events .waiting) (h .in-events .work) (h .in-store .some-values) (h .in-store .some-buckets)
-
-module _ (img : Image) (a : Arrays) (u : Unpacked) (x : Unpacks img a u) where
-  short : {A : Type 0} (l : List A) → length l ≡ mostScopes → length (take (scopes img) l) ≡ min (scopes img) mostScopes
-  short l e = length-take (scopes img) l ∙ ap (min (scopes img)) e
-
-  pub even : Even (min (scopes img) mostScopes) (take (scopes img) (a .clocks)) (take (scopes img) (a .active)) (take (scopes img) (a .ever))
-  even = record { clocks = short (a .clocks) (x .full .clocks); active = short (a .active) (x .full .active); ever = short (a .ever) (x .full .ever) }
-
-  own-scopes : take (scopes img) (scopesOf (u .scopes)) ≡ joined (take (scopes img) (a .clocks)) (take (scopes img) (a .active)) (take (scopes img) (a .ever))
-  own-scopes =
-      let j = joined-take (scopes img) (a .clocks) (a .active) (a .ever) in
-      let l = joined-length mostScopes (a .clocks) (a .active) (a .ever) (record { clocks = x .full .clocks; active = x .full .active; ever = x .full .ever }) in
-      ap (take (scopes img)) (x .holds .scopes .things) ∙ rw (← j) (front-view scope.blank mostScopes (joined (a .clocks) (a .active) (a .ever)) l (scopes img))
-
-  pub state-is : rowState img u ≡ viewOf img a
+module _ (img : Image) (a : Arrays) (u : Room) (x : Unpacks img a u) where
+  -- the state that the rows hold
+  state-is : stateIn img (rowsOf u) ≡ viewOf img a
   state-is =
-      let k = min (scopes img) mostScopes in
-      let m : take (reactors img) (u .modes) ≡ take (reactors img) (a .modes) = ap (take (reactors img)) (x .holds .modes) ∙ front-view 0 mostReactors (a .modes) (x .full .modes) (reactors img) in
-      let e : take (u .counts .waiting) (eventsOf (u .events)) ≡ take (a .waiting) (a .slots)
-      = rw (x .waiting, x .holds .events .things) (front-view slot.blank mostWaiting (a .slots) (x .full .slots) (a .waiting)) in
-      let v : take (u .held .values) (valuesOf (u .values)) ≡ take (a .store .held) (a .store .values)
-      = rw (x .held, x .holds .values .things) (front-view blankValue mostHeld (a .store .values) (x .full .values) (a .store .held)) in
-      let b : take (u .held .buckets) (bucketsOf (u .buckets)) ≡ take (a .store .«open») (a .store .buckets)
-      = rw (x .open-buckets, x .holds .buckets .things) (front-view blankBucket mostHeld (a .store .buckets) (x .full .buckets) (a .store .«open»)) in
+      let f = x .full in
       rw (
-        m,
-        own-scopes,
-        clocks-of k (take (scopes img) (a .clocks)) (take (scopes img) (a .active)) (take (scopes img) (a .ever)) even,
-        active-of k (take (scopes img) (a .clocks)) (take (scopes img) (a .active)) (take (scopes img) (a .ever)) even,
-        ever-of k (take (scopes img) (a .clocks)) (take (scopes img) (a .active)) (take (scopes img) (a .ever)) even,
-        e,
-        x .work,
-        v,
-        b,
+        x .moded,
+        front-view 0 mostReactors (a .modes) (f .modes) (reactors img),
+        x .scoped .things,
+        front-view scope.blank mostScopes (a .scopes) (f .scopes) (scopes img),
+        x .counted,
+        x .events .things,
+        front-view slot.blank mostWaiting (a .slots) (f .slots) (a .waiting),
+        x .held,
+        x .values .things,
+        front-view blankValue mostHeld (a .store .values) (f .values) (a .store .held),
+        x .buckets .things,
+        front-view blankBucket mostHeld (a .store .buckets) (f .buckets) (a .store .«open»),
       )
 
-  pub sound-is : {b : Bool} → b ≡ sound img (u .counts .waiting) (u .held .values) (u .held .buckets) (rowState img u) → b ≡ isSound img a
+  pub sound-is : {b : Bool} → b ≡ soundIn img (rowsOf u) → b ≡ isSound img a
   unfolding isSound
-  sound-is e = e ∙ rw (state-is, x .waiting, x .held, x .open-buckets)
+  sound-is e = e ∙ rw (state-is, x .counted, x .held)
 
-  -- ---- a state that keeps the rules
-
+  -- where they keep the rules, their counts are the state's own
   module _ (s : isSound img a ≡ true) where
-    few-waiting : a .waiting ≤ mostWaiting
-    unfolding isSound sound
-    few-waiting = leb-true _ _ (and-left (leb (a .waiting) mostWaiting) _ s)
-
-    few-values : a .store .held ≤ mostHeld
-    unfolding isSound sound
-    few-values = leb-true _ _ (and-left (leb (a .store .held) mostHeld) _ (and-right (leb (a .waiting) mostWaiting) _ s))
-
-    few-buckets : a .store .«open» ≤ mostHeld
-    unfolding isSound sound
-    few-buckets = leb-true _ _ (and-left (leb (a .store .«open») mostHeld) _ (and-right (leb (a .store .held) mostHeld) _ (and-right (leb (a .waiting) mostWaiting) _ s)))
-
     long : {A : Type 0} (n N : ℕ) (l : List A) → n ≤ N → length l ≡ N → n ≡ length (take n l)
     long n N l h e = sym (length-take n l ∙ min-eq-left (rw e h))
 
-    -- what a working function asks of the events
-    pub waits : Waits (u .events) (u .counts)
-    waits =
-        let e : take (u .counts .waiting) (eventsOf (u .events)) ≡ take (a .waiting) (a .slots) = ap (λ (s : State). s .waiting) state-is in
-        record {
-          held = rw e (x .holds .events);
-          few = rw (x .waiting) few-waiting;
-          counted = rw (e, x .work) (rules-tell img (viewOf img a) (rules-of-sound img a s) .sound .queued .work);
-        }
-
-    -- the rows hold the state, as a working function on all of it asks
-    pub unpacked : rows.Unpacked (viewOf img a) (u .modes) (u .scopes) (u .events) (u .values) (u .buckets) (u .counts) (u .held)
-    unpacked =
-        record {
-          in-modes = x .holds .modes;
-          in-scopes = x .holds .scopes;
-          in-events = record { held = x .holds .events; waiting = x .waiting ∙ long (a .waiting) mostWaiting (a .slots) few-waiting (x .full .slots); work = x .work };
-          in-store =
-              record {
-                values = x .holds .values;
-                buckets = x .holds .buckets;
-                some-values = x .held ∙ long (a .store .held) mostHeld (a .store .values) few-values (x .full .values);
-                some-buckets = x .open-buckets ∙ long (a .store .«open») mostHeld (a .store .buckets) few-buckets (x .full .buckets);
-              };
-        }
-
-    -- ---- what is packed again
-
-    module _ (es : List Event) (work : ℕ) (ws : List ℕ) (c : Counts) (q : Queued es work ws c) where
-      queue-held : Holds (withQueue (viewOf img a) es work) (record { modes = u .modes; scopes = u .scopes; events = ws; values = u .values; buckets = u .buckets; counts = c; held = u .held })
-      queue-held = record { modes = x .holds .modes; scopes = x .holds .scopes; events = q .held; values = x .holds .values; buckets = x .holds .buckets }
-
-      pub queue-packs :
-          arraysIn (record { modes = u .modes; scopes = u .scopes; events = ws; values = u .values; buckets = u .buckets; counts = c; held = u .held }) ≡
-          packed (withQueue (viewOf img a) es work)
-      queue-packs =
-          packs (withQueue (viewOf img a) es work) _ (min (scopes img) mostScopes) even queue-held (q .waiting) (q .work)
-          (unpacked .in-store .some-values) (unpacked .in-store .some-buckets)
+    pub holds : Holds img (viewOf img a) (rowsOf u)
+    unfolding isSound sound
+    holds =
+        let f = x .full in
+        let v = and-right (leb (a .waiting) mostWaiting) _ s in
+        let w = leb-true _ _ (and-left (leb (a .waiting) mostWaiting) _ s) in
+        let n = leb-true _ _ (and-left (leb (a .store .held) mostHeld) _ v) in
+        let o = leb-true _ _ (and-left (leb (a .store .«open») mostHeld) _ (and-right (leb (a .store .held) mostHeld) _ v)) in
+        ruled-holds img (viewOf img a) (rules-of-sound img a s) (rowsOf u) (x .moded) (x .scoped)
+        (rw (x .counted) (record { held = x .events; waiting = long (a .waiting) mostWaiting (a .slots) w (f .slots); work = refl }))
+        (rw (x .held)
+        (record {
+          values = x .values;
+          buckets = x .buckets;
+          some-values = long (a .store .held) mostHeld (a .store .values) n (f .values);
+          some-buckets = long (a .store .«open») mostHeld (a .store .buckets) o (f .buckets);
+        }))
 
 -- ---- a fresh manager
-
-pub bare-is : (modes ss es vs bs : List ℕ) {m : Arrays} → slot.Held es (replicate mostWaiting slot.blank) → HeldValues vs (replicate mostHeld blankValue) → HeldBuckets bs (replicate mostHeld blankBucket) →
-    m ≡ arraysIn (record { modes = modes; scopes = ss; events = es; values = vs; buckets = bs; counts = noEvents; held = noValues }) → m ≡ bareOf modes (scopesOf ss)
-bare-is modes ss es vs bs e v b q = q ∙ rw (e .things, v .things, b .things)
-
--- nothing waits in this state
-bare-packs : (s : State) (k : ℕ) {modes ss : List ℕ} → Even k (s .clocks) (s .active) (s .ever) → s .waiting ≡ [] → s .work ≡ 0 → s .store ≡ emptyStore →
-    modes ≡ padded 0 mostReactors (s .modes) → Scoped (scopesFrom s) ss → bareOf modes (scopesOf ss) ≡ packed s
-bare-packs s k e w o t em es =
-    rw (
-      es .things,
-      padded-map (λ x. x .clock) scope.blank mostScopes (scopesFrom s),
-      padded-map (λ x. x .active) scope.blank mostScopes (scopesFrom s),
-      padded-map (λ x. x .ever) scope.blank mostScopes (scopesFrom s),
-      clocks-of k (s .clocks) (s .active) (s .ever) e,
-      active-of k (s .clocks) (s .active) (s .ever) e,
-      ever-of k (s .clocks) (s .active) (s .ever) e,
-      em,
-      w,
-      o,
-      t,
-      padded-none slot.blank mostWaiting,
-      padded-none blankValue mostHeld,
-      padded-none blankBucket mostHeld,
-    )
 
 module _ (img : Image) {k : Checked} (ek : k ≡ check img) where
   module _ (y : k ≡ Accepted) where
@@ -263,30 +153,19 @@ module _ (img : Image) {k : Checked} (ek : k ≡ check img) where
     unfolding isTable
     fresh-table = let c : check img ≡ Accepted = sym ek ∙ y in rw c
 
-    module _ {modes : List ℕ} {n : ℕ} (em : modes ≡ padded 0 mostReactors (freshModes img)) (en : n ≡ reactors img) where
-      pub fresh-prefix : n ≤ length modes
-      fresh-prefix = modes-room img fresh-table modes em n en
+    pub fresh-packs : (u : Room) {m : Arrays} → Holds img (fresh img) (rowsOf u) → m ≡ arraysIn u → m ≡ freshOver img
+    unfolding freshOver
+    fresh-packs u h q = let t = fresh-table in rw t (q ∙ holds-packs img (fresh img) u h)
 
-      pub fresh-own : n ≡ length (take n modes)
-      fresh-own = let f = fresh-prefix in sym (length-take n modes ∙ min-eq-left f)
-
-      pub fresh-packs : {ss : List ℕ} {m : Arrays} → Scoped (freshScopes img (take n modes)) ss → m ≡ bareOf modes (scopesOf ss) → m ≡ freshOver img
-      unfolding freshOver fresh
-      fresh-packs s q =
-          let t = fresh-table in
-          rw t
-          (q ∙
-          bare-packs (fresh img) (scopes img) (rows.even img (fresh img) (fresh-rules img t)) refl refl refl em
-          (rw (scopes-fresh img, ← (modes-taken img t modes em n en)) s))
-
-  pub blank-packs : {x : _} {ss : List ℕ} {m : Arrays} → k ≡ Refused x → scope.Held ss (replicate mostScopes scope.blank) → m ≡ bareOf (replicate mostReactors 0) (scopesOf ss) → m ≡ freshOver img
-  unfolding freshOver isTable joined
-  blank-packs y h q =
+  pub blank-packs :
+      (u : Room) {x : _} {ss : List ℕ} {m : Arrays} → k ≡ Refused x → scope.Held ss (replicate mostScopes scope.blank) →
+      Bare (replicate mostReactors 0) ss (rowsOf u) → m ≡ arraysIn u → m ≡ freshOver img
+  unfolding freshOver isTable
+  blank-packs u y h b q =
       let c : check img ≡ Refused _ = sym ek ∙ y in
       rw c
       (q ∙
-      bare-packs noState 0 (record { clocks = refl; active = refl; ever = refl }) refl refl refl (sym (padded-none {A = ℕ} 0 mostReactors))
-      (record { whole = h .whole; things = h .things ∙ sym (padded-none scope.blank mostScopes) }))
+      packs noState u (rw (b .ledger-is, padded-none {A = ℕ} 0 mostReactors)) (rw (b .scopes-are, padded-none scope.blank mostScopes) h) (bare-queued b) (bare-stored b))
 
 -- ---- what is packed is read again
 
@@ -299,10 +178,8 @@ module _ (img : Image) (s : State) (t : isTable img ≡ true) (h : Ruled img s) 
       let o = h .sound in
       let f : Kept (actions img) (s .store) = rules-kept (actions img) (s .store) (o .stored) in
       rw (
-        again {A = ℕ} 0 (reactors img) mostReactors (s .modes) (o .moded .long) (reactors-few img t),
-        again (freshClock false) (scopes img) mostScopes (s .clocks) (o .clocked .long) (scopes-few img t),
-        again false (scopes img) mostScopes (s .active) (o .marked .long) (scopes-few img t),
-        again false (scopes img) mostScopes (s .ever) (o .marked .ever-long) (scopes-few img t),
+        again {A = ℕ} 0 (reactors img) mostReactors (s .modes) (o .moded .long) (most-reactors img t),
+        again scope.blank (scopes img) mostScopes (s .scopes) (o .scoped .long) (most-scopes img t),
         padded-take slot.blank mostWaiting (s .waiting) (o .queued .room),
         padded-take blankValue mostHeld (s .store .values) (f .few-values),
         padded-take blankBucket mostHeld (s .store .buckets) (f .few-buckets),

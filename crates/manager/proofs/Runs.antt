@@ -1,11 +1,10 @@
 -- The manager after some calls, each handed the manager that the one before gave: the plain machine's run. Assumes nothing.
-use mathlib.Core.Bool.{Bool, true, false, cond, _&&_}
+use mathlib.Core.Bool.{Bool, true, false, _&&_}
 use mathlib.Core.Path.{_≡_, refl, ap, _∙_, sym}
 use mathlib.Core.List.{List, [], _∷_}
 use Prim.Native.Nat.{ℕ}
 use native.Mathlib.Omega.{arith}
-use lib.Dec.{ltb, leb, eqb}
-use lib.ListN.{length}
+use lib.Dec.{ltb, eqb}
 use borrow.Author.Tests.{le-leb}
 use Rattle.lists.specs.Every.{no-way, both}
 use Rattle.lists.specs.Walk.{Result, done, refused, _>>=_}
@@ -24,7 +23,7 @@ use Rattle.machine.specs.Heads as H
 use Rattle.machine.specs.Heads.{Head, peek}
 use Rattle.machine.specs.Transition.{Step, transition}
 use Rattle.machine.specs.Machine as M
-use Rattle.machine.specs.Machine.{Call, Reply, Outcome, settleWith, asked, popAt, foundReply, need, forStore, keysOk, pushRoot, pushAction, perform, rules, step, run}
+use Rattle.machine.specs.Machine.{Call, Reply, Outcome, settleWith, asked, popAt, foundReply, need, forStore, pushRoot, pushAction, perform, rules, step, run}
 use Rattle.kept.specs.Kept.{rules-tell, rules-pass, step-performs, step-keeps, fresh-rules}
 use Rattle.kept.specs.Steps.{Ruled}
 use Rattle.state_rules.specs.Sound.{sound}
@@ -78,9 +77,12 @@ module _ (img : Image) (s : State) where
   refused-back (M.plain t b ks) f e = settled-back M.ok (pushRoot img s t ks b false false) not-ok e
   refused-back (M.network t ks) f e = settled-back M.ok (pushRoot img s t ks false false true) not-ok e
   refused-back (M.control t) f e = settled-back M.ok (pushRoot img s t [] false true false) not-ok e
-  refused-back (M.action a t b ks) f e = settled-back M.ok (need (ltb a (actions img) && keysOk img ks) R.Key (need (within t) R.ArgumentTag (pushAction img s a t b ks))) not-ok e
-  refused-back (M.transit r m k t) f e = settled-back M.ok (need (ltb r (reactors img) && ltb m (modes img)) R.Key (need (eqb (modeReactor img m) r) R.TargetMode (need (within t) R.ArgumentTag (transition img r m k t s)))) not-ok e
-  refused-back M.pop f e = pop-back (peek img s) e
+  refused-back (M.action a t b ks) f e = settled-back M.ok (pushAction img s a t b ks) not-ok e
+  refused-back (M.transit r m k t) f e =
+      settled-back M.ok
+      (need (ltb r (reactors img) && ltb m (modes img)) R.Key
+      (need (eqb (modeReactor img m) r) R.TargetMode (need (within t) R.ArgumentTag (transition img r m k t s)))) not-ok e
+  refused-back M.pop f e = pop-back (peek img (s .scopes) (s .waiting)) e
   refused-back M.peekTag f e = no-way (sym f)
   refused-back M.onlyControl f e = no-way (sym f)
   refused-back M.ordinaryWork f e = no-way (sym f)
@@ -89,9 +91,11 @@ module _ (img : Image) (s : State) where
   refused-back (M.pushValue a t v) f e = settled-back M.ok (forStore img a t (S.pushed (s .store) a t v >>= λ st. done (withStore s st))) not-ok e
   refused-back (M.nextStep a o m) f e = no-way (sym f)
   refused-back (M.takeValue a t) f e =
-      settled-back (foundReply (S.valueIn a t (s .store .values))) (forStore img a t (done (withStore s (S.taken (s .store) a t)))) (not-found (S.valueIn a t (s .store .values))) e
+      let v = S.valueIn a t (s .store .values) in
+      settled-back (foundReply v) (forStore img a t (done (withStore s (S.taken (s .store) a t)))) (not-found v) e
   refused-back (M.clearBefore a t) f e = settled-back M.ok (forStore img a t (done (withStore s (S.clearedBefore (s .store) a t)))) not-ok e
-  refused-back (M.moveValue a t u) f e = settled-back M.ok (forStore img a t (need (within u) R.ArgumentTag (S.moved (s .store) a t u >>= λ st. done (withStore s st)))) not-ok e
+  refused-back (M.moveValue a t u) f e =
+      settled-back M.ok (forStore img a t (need (within u) R.ArgumentTag (S.moved (s .store) a t u >>= λ st. done (withStore s st)))) not-ok e
   refused-back (M.clearAction a) f e = settled-back M.ok (need (ltb a (actions img)) R.Key (done (withStore s (S.cleared (s .store) a)))) not-ok e
 
 -- ---- a state that is packed
@@ -137,11 +141,15 @@ module _ (img : Image) (a : Arrays) (c : Call) (s : isSound img a ≡ true) wher
   -- the machine's answer, and the machine's state in what is handed back
   pub step-reply : stepOn img a c .reply ≡ step img (viewOf img a) c .reply
   unfolding o
-  step-reply = ap (λ x. x .reply) step-is ∙ ap (λ (x : Outcome). x .reply) (sym (step-performs img (viewOf img a) c (rules-of-sound img a s)))
+  step-reply =
+      let p = step-performs img (viewOf img a) c (rules-of-sound img a s) in
+      ap (λ x. x .reply) step-is ∙ ap (λ (x : Outcome). x .reply) (sym p)
 
   pub step-view : viewOf img (stepOn img a c .manager) ≡ step img (viewOf img a) c .state
   unfolding o
-  step-view = ap (λ x. viewOf img (x .manager)) step-is ∙ (ended-view (asks c) refl (o .reply) refl ∙ ap (λ (x : Outcome). x .state) (sym (step-performs img (viewOf img a) c (rules-of-sound img a s))))
+  step-view =
+      let p = step-performs img (viewOf img a) c (rules-of-sound img a s) in
+      ap (λ x. viewOf img (x .manager)) step-is ∙ (ended-view (asks c) refl (o .reply) refl ∙ ap (λ (x : Outcome). x .state) (sym p))
 
   -- and it keeps the rules
   ended-sound : (b : Bool) → asks c ≡ b → (r : Reply) → o .reply ≡ r → isSound img (ended a b o .manager) ≡ true

@@ -2,7 +2,7 @@
 use mathlib.Core.Bool.{Bool, true, false, cond, not, _&&_}
 use mathlib.Core.Path.{_≡_, refl, ap, _∙_, sym}
 use mathlib.Core.List.{List}
-use Prim.Native.Nat.{ℕ, min}
+use Prim.Native.Nat.{ℕ}
 use lib.Dec.{ltb}
 use borrow.Author.Tests.{not-false}
 use Rattle.lists.specs.Walk.{Result, done, refused, _>>=_}
@@ -19,17 +19,17 @@ use Rattle.value_store.specs.Views.{answerOf, DidCall}
 use Rattle.value_store.specs.declared.Called.{Called}
 use Rattle.value_store.specs.declared.Answer as code
 use Rattle.value_store.specs.declared.Answer.the-variants as A
-use Rattle.machine.specs.Table.{scopes, actions}
+use Rattle.machine.specs.Table.{actions}
 use Rattle.machine.specs.State.{State, withStore}
 use Rattle.machine.specs.Machine as M
-use Rattle.machine.specs.Machine.{Reply, Outcome, answer, settle, settleWith, asked, foundReply, perform, rules}
-use Rattle.scopes.specs.Scopes.{mostScopes}
+use Rattle.machine.specs.Machine.{Reply, Outcome, answer, settle, settleWith, asked, foundReply, perform}
 use Rattle.lens.specs.Lens.{stored-laid}
-use Rattle.unpacked.specs.Unpacked as rows
+use Rattle.lens.specs.declared.Room.{Room}
+use Rattle.lens.specs.Holds as L
+use Rattle.lens.specs.Holds.{rowsOf, Holds}
 use Rattle.manager.specs.Arrays.{Arrays, Answered, answered, asks, isRefusal, endedBy, ended, packed, viewOf, isSound, stepOn}
 use Rattle.manager.specs.Views.{arraysIn, withValues, valueCall, valueReply, Unpacks}
-use Rattle.manager.specs.declared.Unpacked.{Unpacked}
-use Rattle.manager.proofs.Packs.{rules-of-sound, even, unpacked, unpacked-packs}
+use Rattle.manager.proofs.Packs.{holds, packs}
 
 -- ---- the machine's call by the store's
 
@@ -111,41 +111,35 @@ module _ (a b : Arrays) (asking : Bool) (r : Reply) {q : Reply} (e : q ≡ r) wh
 
 -- ---- the call
 
-module _ (img : Image) (a : Arrays) {b : Bool} (eb : b ≡ isSound img a) (y : not b ≡ false) (u : Unpacked) (x : Unpacks img a u) where
+module _ (img : Image) (a : Arrays) {b : Bool} (eb : b ≡ isSound img a) (y : not b ≡ false) (u : Room) (x : Unpacks img a u) where
   sound : isSound img a ≡ true
   sound = sym eb ∙ not-false b y
 
   abbrev s : State
   s = viewOf img a
 
-  ruled : rules img s ≡ true
-  ruled = rules-of-sound img a sound
+  is-held : Holds img s (rowsOf u)
+  is-held = holds img a u x sound
 
-  pub value-lent : Lent (u .values) (u .buckets) (u .held)
-  value-lent = rows.lent img s ruled (u .modes) (u .scopes) (u .events) (u .values) (u .buckets) (u .counts) (u .held) (unpacked img a u x sound)
+  pub value-lent : Lent (u .values) (u .buckets) (u .ledger .held)
+  value-lent = L.lent img s (rowsOf u) is-held
 
-  store-is : storeOf (u .values) (u .buckets) (u .held) ≡ s .store
-  store-is = rows.store-is img s ruled (u .modes) (u .scopes) (u .events) (u .values) (u .buckets) (u .counts) (u .held) (unpacked img a u x sound)
+  store-is : storeOf (u .values) (u .buckets) (u .ledger .held) ≡ s .store
+  store-is = L.store-is img s (rowsOf u) is-held
 
   module _ (vs bs : List ℕ) (k : Called) where
-    packs-is : (st : S.Store) → Laid (u .values) (u .buckets) (u .held) st vs bs (k .held) → arraysIn (withValues u vs bs (k .held)) ≡ packed (withStore s st)
+    packs-is : (st : S.Store) → Laid (u .values) (u .buckets) (u .ledger .held) st vs bs (k .held) → arraysIn (withValues u vs bs (k .held)) ≡ packed (withStore s st)
     packs-is st l =
-        let h = unpacked img a u x sound in
-        unpacked-packs (withStore s st) (withValues u vs bs (k .held)) (min (scopes img) mostScopes) (even img a u x)
-        (record {
-          in-modes = h .in-modes;
-          in-scopes = h .in-scopes;
-          in-events = h .in-events;
-          in-store = stored-laid (s .store) (u .values) (u .buckets) (u .held) (h .in-store) (rows.fits img s ruled) st vs bs (k .held) l;
-        })
+        packs (withStore s st) (withValues u vs bs (k .held)) (is-held .moded) (is-held .scoped) (is-held .queued)
+        (stored-laid (s .store) (u .values) (u .buckets) (u .ledger .held) (is-held .stored) (is-held .fits) st vs bs (k .held) l)
 
-    ends : (z : Result Refusal C.Outcome) → DidCall (u .values) (u .buckets) (u .held) z vs bs k → (q : Bool) →
+    ends : (z : Result Refusal C.Outcome) → DidCall (u .values) (u .buckets) (u .ledger .held) z vs bs k → (q : Bool) →
         endedBy a q (arraysIn (withValues u vs bs (k .held))) (valueReply (answerOf (k .answer))) ≡ ended a q (valued s z)
     ends (done o) d q = rw (d .answer, packs-is (o .store) (d .laid))
     ends (refused n) d true = rw (d .answer)
     ends (refused n) d false = rw (d .answer)
 
-    pub call-value : (c : C.Call) {r : Answered} → DidCall (u .values) (u .buckets) (u .held) (called img (storeOf (u .values) (u .buckets) (u .held)) c) vs bs k →
+    pub call-value : (c : C.Call) {r : Answered} → DidCall (u .values) (u .buckets) (u .ledger .held) (called img (storeOf (u .values) (u .buckets) (u .ledger .held)) c) vs bs k →
         r ≡ endedBy a (asks (valueCall c)) (arraysIn (withValues u vs bs (k .held))) (valueReply (answerOf (k .answer))) → r ≡ stepOn img a (valueCall c)
     unfolding stepOn
     call-value c d e =

@@ -1,33 +1,32 @@
 -- The manager as arrays, the plain machine's state in them, and one call on what is handed in. Assumes nothing.
 use Prim.Native.Nat.{ℕ}
 use mathlib.Core.Bool.{Bool, true, false, cond, _||_}
-use mathlib.Core.List.{List, [], _∷_, map}
-use lib.ListN.{length, take, replicate}
+use mathlib.Core.List.{List, [], _∷_}
+use lib.ListN.{length, take}
 use Rattle.refusals.specs.declared.Refusal.the-variants as R
 use Rattle.rows.specs.Bytes.{Image}
 use Rattle.table.specs.Check.{isTable}
-use Rattle.tags.specs.Tags.{Tag, Clock, freshClock, zeroTag}
+use Rattle.tags.specs.Tags.{Tag, zeroTag}
 use Rattle.key_set.specs.Sets.{noKeys, wordCount}
 use Rattle.entries.specs.Entries.{mostHeld, blankValue, blankBucket}
 use Rattle.store.specs.Store.{Store, emptyStore}
 use Rattle.value_store.specs.Calls as store
 use Rattle.value_store.specs.Calls.{heldIn}
 use Rattle.machine.specs.Table.{scopes, reactors}
-use Rattle.machine.specs.State.{Event, State, mostWaiting, fresh}
+use Rattle.machine.specs.State.{Event, Scope, State, mostWaiting, fresh}
 use Rattle.machine.specs.Heads.{Ready}
 use Rattle.machine.specs.Machine as M
 use Rattle.machine.specs.Machine.{Call, Reply, Outcome, refusal, perform}
-use Rattle.slots.specs.Slots.{blank}
-use Rattle.scopes.specs.Scopes.{Scope, mostScopes}
+use Rattle.slots.specs.Slots as slot
+use Rattle.scopes.specs.Scopes as scope
+use Rattle.scopes.specs.Scopes.{mostScopes}
 use Rattle.lens.specs.Padded.{padded}
 use Rattle.state_rules.specs.Sound.{sound}
 use Rattle.lens.specs.Lens.{mostReactors}
 
 -- "Arrays by value of scope clocks, active flags and event slots inside the manager"
 pub record Arrays : Type 0 where
-  pub clocks : List Clock
-  pub active : List Bool
-  pub ever : List Bool
+  pub scopes : List Scope
   pub modes : List ℕ
   pub slots : List Event
   pub waiting : ℕ
@@ -39,9 +38,7 @@ abbrev pub viewOf : Image → Arrays → State
 viewOf img a =
     record {
       modes = take (reactors img) (a .modes);
-      clocks = take (scopes img) (a .clocks);
-      active = take (scopes img) (a .active);
-      ever = take (scopes img) (a .ever);
+      scopes = take (scopes img) (a .scopes);
       waiting = take (a .waiting) (a .slots);
       work = a .work;
       store = heldIn (a .store);
@@ -60,11 +57,9 @@ packedStore st =
 abbrev pub packed : State → Arrays
 packed s =
     record {
-      clocks = padded (freshClock false) mostScopes (s .clocks);
-      active = padded false mostScopes (s .active);
-      ever = padded false mostScopes (s .ever);
+      scopes = padded scope.blank mostScopes (s .scopes);
       modes = padded 0 mostReactors (s .modes);
-      slots = padded blank mostWaiting (s .waiting);
+      slots = padded slot.blank mostWaiting (s .waiting);
       waiting = length (s .waiting);
       work = s .work;
       store = packedStore (s .store);
@@ -72,21 +67,7 @@ packed s =
 
 -- no scope, no reactor, and nothing waits or is held
 abbrev pub noState : State
-noState = record { modes = []; clocks = []; active = []; ever = []; waiting = []; work = 0; store = emptyStore }
-
--- these modes and scopes, and nothing waits or is held
-abbrev pub bareOf : List ℕ → List Scope → Arrays
-bareOf modes ss =
-    record {
-      clocks = map (λ x. x .clock) ss;
-      active = map (λ x. x .active) ss;
-      ever = map (λ x. x .ever) ss;
-      modes = modes;
-      slots = replicate mostWaiting blank;
-      waiting = 0;
-      work = 0;
-      store = store.freshArrays;
-    }
+noState = record { modes = []; scopes = []; waiting = []; work = 0; store = emptyStore }
 
 -- a fresh manager over an accepted table
 unfoldable pub freshOver : Image → Arrays

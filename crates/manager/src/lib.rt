@@ -1,16 +1,19 @@
-// The event manager by value: document 01, "The plain machine", "State rules" and "Numbers of refusal".
+// The event manager by value: document 01, "Arrays by value of scope clocks, active flags and event slots inside the manager".
 // Each call goes to rows, tests the state rules, works there, and comes back; the run of a day works on the rows themselves.
+// A new part of the state comes in here in `Manager` and in its two conversions, `unpack` and `pack`.
 // Every call of the plain machine (crate machine, `Call`) has its method:
 //   plain -> push_event, network -> push_network_event, control -> push_control_event, action -> push_action_event,
 //   transit -> apply_transition, pop -> pop_next_event, peekTag -> peek_tag, onlyControl -> peek_is_control_only,
 //   ordinaryWork -> nonterminal_work and has_nonterminal_work, activeNow -> scope_active, everActive -> scope_ever_active,
 //   pushValue -> push_value, nextStep -> next_value_microstep, takeValue -> take_value,
 //   clearBefore -> clear_values_older_than, moveValue -> move_value, clearAction -> clear_values.
+ghost use mathlib.Core.Bool.{false};
 ghost use mathlib.Core.Path.{_≡_};
 ghost use mathlib.Core.List.{map};
 ghost use Prim.Native.Nat.{_≤_, min};
 ghost use lib.ListN.{length, take};
-ghost use Rattle.tags.specs.Views.{ofClock};
+ghost use Rattle.lists.specs.Lent.{was};
+ghost use Rattle.tags.specs.Views.{ofClock, ofGlobal};
 ghost use Rattle.entries.specs.Entries.{mostHeld, blankValue, blankBucket, ofValue, ofBucket};
 ghost use Rattle.entries.specs.Words.{HeldValues, HeldBuckets};
 ghost use Rattle.slots.specs.Slots.{eventOf, eventsOf};
@@ -18,32 +21,34 @@ ghost use Rattle.slots.specs.Slots as slot;
 ghost use Rattle.scopes.specs.Scopes.{mostScopes, scopesOf};
 ghost use Rattle.machine.specs.State.{mostWaiting};
 ghost use Rattle.lens.specs.Padded.{padded};
-ghost use Rattle.lens.specs.Lens.{joined, Scoped, mostReactors};
-ghost use Rattle.manager.specs.Arrays.{isSound, asks, isRefusal, endedBy, stepOn, shownReady, noReady, popped, bareOf, freshOver};
+ghost use Rattle.lens.specs.Lens.{Scoped, mostReactors};
+ghost use Rattle.lens.specs.Holds.{replyOf as replied};
+ghost use Rattle.manager.specs.Arrays.{isSound, asks, isRefusal, endedBy, stepOn, shownReady, noReady, popped, freshOver};
 ghost use Rattle.table.specs.Check.{check};
-ghost use Rattle.manager.specs.Views.{arraysOf, arraysIn, Unpacks, withEvents, answeredOf, pushedIn, transitedIn, someWork, replyOf, shownOf, readyIn, readyFrom, poppedOf, poppedIn, valueCall, valueReply};
+ghost use Rattle.manager.specs.Views.{joined, arraysOf, arraysIn, Unpacks, withEvents, answeredOf, someWork, replyOf};
+ghost use Rattle.manager.specs.Views.{shownOf, readyIn, poppedOf, poppedIn, valueCall, valueReply};
 ghost use Rattle.value_store.specs.Views.{callOf, answerOf};
-ghost use Rattle.pops.specs.Pops.{replyOf as peekedReply};
-ghost use Rattle.tags.specs.Views.{ofGlobal};
-ghost use Rattle.machine.specs.Machine.{plain, network, control, action, transit, peekTag, onlyControl, ordinaryWork, activeNow, everActive, pop, pushValue, nextStep, takeValue, clearBefore, moveValue, clearAction};
+ghost use Rattle.pops.specs.Pops.{readyFrom, replyOf as peekedReply};
+ghost use Rattle.machine.specs.Machine.{plain, network, control, action, transit, peekTag, onlyControl, ordinaryWork, activeNow, everActive, pop};
+ghost use Rattle.machine.specs.Machine.{pushValue, nextStep, takeValue, clearBefore, moveValue, clearAction};
 use entries::Bucket;
 use entries::BucketRows;
 use entries::MOST_HELD;
 use entries::Value;
 use entries::ValueRows;
 use key_set::KeySet;
-use plan::MOST_REACTORS;
+use lens::Ledger;
+use lens::MOST_REACTORS;
+use lens::Room;
 use plan::Request;
 use pops::Peeked;
 use pushes::ActionPush;
-use pushes::Outcome;
-use pushes::Pushed;
+use refusals::Outcome;
 use refusals::Refusal;
 use scopes::MOST_SCOPES;
 use scopes::Scope;
 use slots::MOST_WAITING;
 use slots::Slot;
-use state_rules::Given;
 use table::Checked;
 use tags::GlobalTag;
 use tags::ScopeClock;
@@ -60,17 +65,6 @@ pub struct Manager {
     pub waiting: usize,
     pub work: usize,
     pub store: Store,
-}
-
-// The same as rows of words, with blanks behind what is in use.
-struct Unpacked {
-    modes: [u16; MOST_REACTORS],
-    scopes: [u64; scopes::ROOM],
-    events: [u64; slots::ROOM],
-    values: ValueRows,
-    buckets: BucketRows,
-    counts: lens::Counts,
-    held: store_calls::Counts,
 }
 
 // ---- to rows: of what is in use, and blanks behind it
@@ -145,7 +139,7 @@ fn value_rows(values: [Value; MOST_HELD], n: usize) -> ValueRows
     ensures { λ _. ⌜ length values ≡ mostHeld ⌝ }
 {
     let end = at_most(n, MOST_HELD);
-    let mut rows = fresh::values();
+    let mut rows: ValueRows = [0; entries::MOST_HELD * entries::VALUE_WORDS];
     let mut i: usize = 0;
     while i < end {
         let v = values[i];
@@ -160,7 +154,7 @@ fn bucket_rows(buckets: [Bucket; MOST_HELD], n: usize) -> BucketRows
     ensures { λ _. ⌜ length buckets ≡ mostHeld ⌝ }
 {
     let end = at_most(n, MOST_HELD);
-    let mut rows = fresh::buckets();
+    let mut rows: BucketRows = [0; entries::MOST_HELD * entries::BUCKET_WORDS];
     let mut i: usize = 0;
     while i < end {
         let b = buckets[i];
@@ -170,8 +164,8 @@ fn bucket_rows(buckets: [Bucket; MOST_HELD], n: usize) -> BucketRows
     rows
 }
 
-fn unpack(image: &[u8], m: Manager) -> Unpacked
-    ensures { λ r. ⌜ Unpacks (now (image .entry)) (arraysOf m) r ⌝ }
+fn unpack(image: &[u8], m: Manager) -> Room
+    ensures { λ r. ⌜ Unpacks (was image) (arraysOf m) r ⌝ }
 {
     let scope_count = rows::count(image, rows::SCOPE);
     let reactor_count = rows::count(image, rows::REACTOR);
@@ -196,21 +190,24 @@ fn unpack(image: &[u8], m: Manager) -> Unpacked
         values: store.held,
         buckets: store.open,
     };
-    Unpacked {
+    let ledger = Ledger {
         modes,
+        counts,
+        held,
+    };
+    Room {
         scopes,
         events,
         values,
         buckets,
-        counts,
-        held,
+        ledger,
     }
 }
 
 // ---- and back
 
 fn slots_of(rows: &[u64; slots::ROOM]) -> [Slot; MOST_WAITING]
-    ensures { λ r. ⌜ map eventOf r ≡ eventsOf (now (rows .entry)) ⌝ }
+    ensures { λ r. ⌜ map eventOf r ≡ eventsOf (was rows) ⌝ }
 {
     let blank = Slot::blank();
     let mut out = [blank; MOST_WAITING];
@@ -224,7 +221,7 @@ fn slots_of(rows: &[u64; slots::ROOM]) -> [Slot; MOST_WAITING]
 }
 
 fn clocks_of(rows: &[u64; scopes::ROOM]) -> [ScopeClock; MOST_SCOPES]
-    ensures { λ r. ⌜ map ofClock r ≡ map (λ x. x .clock) (scopesOf (now (rows .entry))) ⌝ }
+    ensures { λ r. ⌜ map ofClock r ≡ map (λ x. x .clock) (scopesOf (was rows)) ⌝ }
 {
     let blank = ScopeClock::fresh(false);
     let mut out = [blank; MOST_SCOPES];
@@ -239,7 +236,7 @@ fn clocks_of(rows: &[u64; scopes::ROOM]) -> [ScopeClock; MOST_SCOPES]
 }
 
 fn active_of(rows: &[u64; scopes::ROOM]) -> [bool; MOST_SCOPES]
-    ensures { λ r. ⌜ r ≡ map (λ x. x .active) (scopesOf (now (rows .entry))) ⌝ }
+    ensures { λ r. ⌜ r ≡ map (λ x. x .active) (scopesOf (was rows)) ⌝ }
 {
     let mut out = [false; MOST_SCOPES];
     let mut i: usize = 0;
@@ -252,7 +249,7 @@ fn active_of(rows: &[u64; scopes::ROOM]) -> [bool; MOST_SCOPES]
 }
 
 fn ever_of(rows: &[u64; scopes::ROOM]) -> [bool; MOST_SCOPES]
-    ensures { λ r. ⌜ r ≡ map (λ x. x .ever) (scopesOf (now (rows .entry))) ⌝ }
+    ensures { λ r. ⌜ r ≡ map (λ x. x .ever) (scopesOf (was rows)) ⌝ }
 {
     let mut out = [false; MOST_SCOPES];
     let mut i: usize = 0;
@@ -264,59 +261,33 @@ fn ever_of(rows: &[u64; scopes::ROOM]) -> [bool; MOST_SCOPES]
     out
 }
 
-fn pack(u: Unpacked) -> Manager
+fn pack(u: Room) -> Manager
     ensures { λ r. ⌜ arraysOf r ≡ arraysIn u ⌝ }
 {
     let scope_words = u.scopes;
     let event_words = u.events;
     let value_words = u.values;
     let bucket_words = u.buckets;
-    let modes = u.modes;
+    let ledger = u.ledger;
+    let modes = ledger.modes;
     let clocks = clocks_of(&scope_words);
     let active = active_of(&scope_words);
     let ever = ever_of(&scope_words);
     let slots = slots_of(&event_words);
-    let store = value_store::store_of(&value_words, &bucket_words, u.held);
+    let store = value_store::store_of(&value_words, &bucket_words, ledger.held);
     Manager {
         clocks,
         active,
         ever,
         modes,
         slots,
-        waiting: u.counts.waiting,
-        work: u.counts.work,
+        waiting: ledger.counts.waiting,
+        work: ledger.counts.work,
         store,
     }
 }
 
 // ---- a fresh manager
-
-// These modes and scopes, and nothing waits or is held.
-fn bare(modes: [u16; MOST_REACTORS], scopes: [u64; scopes::ROOM]) -> Manager
-    ensures { λ r. ⌜ arraysOf r ≡ bareOf modes (scopesOf scopes) ⌝ }
-{
-    let events = slots::blank_rows();
-    let values = fresh::values();
-    let buckets = fresh::buckets();
-    let counts = lens::Counts {
-        waiting: 0,
-        work: 0,
-    };
-    let held = store_calls::Counts {
-        values: 0,
-        buckets: 0,
-    };
-    let rows = Unpacked {
-        modes,
-        scopes,
-        events,
-        values,
-        buckets,
-        counts,
-        held,
-    };
-    pack(rows)
-}
 
 // What the table check answers, and over an accepted table the fresh manager, else a blank one.
 pub struct Fresh {
@@ -329,38 +300,33 @@ pub struct Fresh {
 // Whether the state handed in keeps the state rules, and its rows.
 struct Entered {
     sound: bool,
-    rows: Unpacked,
+    rows: Room,
 }
 
 fn enter(image: &[u8], m: Manager) -> Entered
-    ensures { λ r. ⌜ r .sound ≡ isSound (now (image .entry)) (arraysOf m) ⌝ }
-    ensures { λ r. ⌜ Unpacks (now (image .entry)) (arraysOf m) (r .rows) ⌝ }
+    ensures { λ r. ⌜ r .sound ≡ isSound (was image) (arraysOf m) ⌝ }
+    ensures { λ r. ⌜ Unpacks (was image) (arraysOf m) (r .rows) ⌝ }
 {
     let rows = unpack(image, m);
-    let modes = rows.modes;
     let scopes = rows.scopes;
     let events = rows.events;
     let values = rows.values;
     let buckets = rows.buckets;
-    let counts = rows.counts;
-    let held = rows.held;
-    let given = Given {
-        modes,
-        counts,
-        held,
-    };
-    let sound = state_rules::keeps_rules(image, given, &scopes, &events, &values, &buckets);
+    let ledger = rows.ledger;
+    let sound = state_rules::keeps_rules(image, &scopes, &events, &values, &buckets, ledger);
     Entered { sound, rows }
 }
 
-// The rows with other events, as a manager again.
-fn leave(u: Unpacked, events: [u64; slots::ROOM], counts: lens::Counts) -> Manager
-    ensures { λ r. ⌜ arraysOf r ≡ arraysIn (withEvents u events counts) ⌝ }
+// The rows with other events.
+fn with_events(u: Room, events: [u64; slots::ROOM], counts: lens::Counts) -> Room
+    ensures { λ r. ⌜ r ≡ withEvents u events counts ⌝ }
 {
+    let mut ledger = u.ledger;
+    ledger.counts = counts;
     let mut rows = u;
     rows.events = events;
-    rows.counts = counts;
-    pack(rows)
+    rows.ledger = ledger;
+    rows
 }
 
 // What a call answers.
@@ -379,37 +345,16 @@ pub struct Answered {
     pub manager: Manager,
 }
 
-// What a push answers and leaves: the manager as it was handed in where it is refused.
-fn finish_push(m: Manager, u: Unpacked, events: [u64; slots::ROOM], p: Pushed) -> Answered
-    ensures { λ r. ⌜ answeredOf r ≡ pushedIn (arraysOf m) u events p ⌝ }
+// What a push or a transition answers and leaves, of the rows after it: the manager as it was handed in where it is refused.
+fn finish(m: Manager, u: Room, o: Outcome) -> Answered
+    ensures { λ r. ⌜ answeredOf r ≡ endedBy (arraysOf m) false (arraysIn u) (replied o) ⌝ }
 {
-    let outcome = p.outcome;
-    let counts = p.counts;
-    match outcome {
+    match o {
         Outcome::Refused(n) => Answered {
             answer: Answer::Refused(n),
             manager: m,
         },
         Outcome::Done => {
-            let manager = leave(u, events, counts);
-            Answered {
-                answer: Answer::Done,
-                manager,
-            }
-        }
-    }
-}
-
-// What a transition answers and leaves, of the rows after it: the manager as it was handed in where it is refused.
-fn finish_transition(m: Manager, u: Unpacked, o: store_calls::Outcome) -> Answered
-    ensures { λ r. ⌜ answeredOf r ≡ transitedIn (arraysOf m) u o ⌝ }
-{
-    match o {
-        store_calls::Outcome::Refused(x) => Answered {
-            answer: Answer::Refused(x),
-            manager: m,
-        },
-        store_calls::Outcome::Done => {
             let manager = pack(u);
             Answered {
                 answer: Answer::Done,
@@ -457,7 +402,7 @@ fn is_refused(said: value_store::Answer) -> bool
 }
 
 // What a call on the values leaves, of the rows after it: the manager as it was handed in where it only asks or is refused.
-fn finish_value(m: Manager, u: Unpacked, call: Call, said: value_store::Answer) -> Answered
+fn finish_value(m: Manager, u: Room, call: Call, said: value_store::Answer) -> Answered
     ensures { λ r. ⌜ answeredOf r ≡ endedBy (arraysOf m) (asks (valueCall (callOf call))) (arraysIn u) (valueReply (answerOf said)) ⌝ }
 {
     let answer = value_answer(said);
@@ -473,13 +418,14 @@ fn finish_value(m: Manager, u: Unpacked, call: Call, said: value_store::Answer) 
 
 // A call on the values: to rows, 11, the call there, and back.
 fn value_call(m: Manager, image: &[u8], call: Call) -> Answered
-    ensures { λ r. ⌜ answeredOf r ≡ stepOn (now (image .entry)) (arraysOf m) (valueCall (callOf call)) ⌝ }
+    ensures { λ r. ⌜ answeredOf r ≡ stepOn (was image) (arraysOf m) (valueCall (callOf call)) ⌝ }
 {
     let e = enter(image, m);
     let u = e.rows;
     let mut values = u.values;
     let mut buckets = u.buckets;
-    let held = u.held;
+    let mut ledger = u.ledger;
+    let held = ledger.held;
     if !e.sound {
         return Answered {
             answer: Answer::Refused(Refusal::StateRule),
@@ -489,10 +435,11 @@ fn value_call(m: Manager, image: &[u8], call: Call) -> Answered
     let c = value_store::call_rows(image, &mut values, &mut buckets, held, call);
     let said = c.answer;
     let left = c.held;
+    ledger.held = left;
     let mut rows = u;
     rows.values = values;
     rows.buckets = buckets;
-    rows.held = left;
+    rows.ledger = ledger;
     finish_value(m, rows, call, said)
 }
 
@@ -581,7 +528,7 @@ fn ready_of(p: pops::Popped, keys: [u16; MOST_WAITING]) -> Ready
 }
 
 fn finish_pop(
-    u: Unpacked,
+    u: Room,
     events: [u64; slots::ROOM],
     keys: [u16; MOST_WAITING],
     p: pops::Popped,
@@ -590,7 +537,8 @@ fn finish_pop(
     ensures { λ r. ⌜ poppedOf r ≡ poppedIn u events keys p ⌝ }
 {
     let left = p.counts;
-    let manager = leave(u, events, left);
+    let rows = with_events(u, events, left);
+    let manager = pack(rows);
     if p.found {
         let ready = ready_of(p, keys);
         return Popped {
@@ -610,22 +558,20 @@ fn finish_pop(
 impl Manager {
     // The initial modes, and nothing waits or is held.
     pub fn fresh(image: &[u8]) -> Fresh
-        ensures { λ r. ⌜ r .checked ≡ check (now (image .entry)) ⌝ }
-        ensures { λ r. ⌜ arraysOf (r .manager) ≡ freshOver (now (image .entry)) ⌝ }
+        ensures { λ r. ⌜ r .checked ≡ check (was image) ⌝ }
+        ensures { λ r. ⌜ arraysOf (r .manager) ≡ freshOver (was image) ⌝ }
     {
         let checked = table::check(image);
         match checked {
             Checked::Refused(_) => {
                 let none = scopes::blank_rows();
-                let manager = bare([0u16; MOST_REACTORS], none);
+                let room = fresh::bare([0u16; MOST_REACTORS], none);
+                let manager = pack(room);
                 Fresh { checked, manager }
             }
             Checked::Accepted => {
-                let modes = fresh::modes(image);
-                let n = rows::count(image, rows::REACTOR);
-                let end = n as usize;
-                let scopes = fresh::scopes(image, &modes[..end]);
-                let manager = bare(modes, scopes);
+                let room = fresh::room(image);
+                let manager = pack(room);
                 Fresh { checked, manager }
             }
         }
@@ -635,12 +581,12 @@ impl Manager {
 
     // A plain event, to the root at its tag.
     pub fn push_event(self, image: &[u8], tag: GlobalTag, terminal: bool, keys: &[u16]) -> Answered
-        ensures { λ r. ⌜ answeredOf r ≡ stepOn (now (image .entry)) (arraysOf self) (plain (ofGlobal tag) terminal (now (keys .entry))) ⌝ }
+        ensures { λ r. ⌜ answeredOf r ≡ stepOn (was image) (arraysOf self) (plain (ofGlobal tag) terminal (was keys)) ⌝ }
     {
         let e = enter(image, self);
         let u = e.rows;
         let mut events = u.events;
-        let counts = u.counts;
+        let counts = u.ledger.counts;
         if !e.sound {
             return Answered {
                 answer: Answer::Refused(Refusal::StateRule),
@@ -648,17 +594,19 @@ impl Manager {
             };
         }
         let p = pushes::push_event(image, &mut events, counts, tag, terminal, keys);
-        finish_push(self, u, events, p)
+        let rows = with_events(u, events, p.counts);
+        let o = p.outcome;
+        finish(self, rows, o)
     }
 
     // An event from the network, to the root at its tag.
     pub fn push_network_event(self, image: &[u8], tag: GlobalTag, keys: &[u16]) -> Answered
-        ensures { λ r. ⌜ answeredOf r ≡ stepOn (now (image .entry)) (arraysOf self) (network (ofGlobal tag) (now (keys .entry))) ⌝ }
+        ensures { λ r. ⌜ answeredOf r ≡ stepOn (was image) (arraysOf self) (network (ofGlobal tag) (was keys)) ⌝ }
     {
         let e = enter(image, self);
         let u = e.rows;
         let mut events = u.events;
-        let counts = u.counts;
+        let counts = u.ledger.counts;
         if !e.sound {
             return Answered {
                 answer: Answer::Refused(Refusal::StateRule),
@@ -666,17 +614,19 @@ impl Manager {
             };
         }
         let p = pushes::push_network_event(image, &mut events, counts, tag, keys);
-        finish_push(self, u, events, p)
+        let rows = with_events(u, events, p.counts);
+        let o = p.outcome;
+        finish(self, rows, o)
     }
 
     // A control event, to the root at its tag.
     pub fn push_control_event(self, image: &[u8], tag: GlobalTag) -> Answered
-        ensures { λ r. ⌜ answeredOf r ≡ stepOn (now (image .entry)) (arraysOf self) (control (ofGlobal tag)) ⌝ }
+        ensures { λ r. ⌜ answeredOf r ≡ stepOn (was image) (arraysOf self) (control (ofGlobal tag)) ⌝ }
     {
         let e = enter(image, self);
         let u = e.rows;
         let mut events = u.events;
-        let counts = u.counts;
+        let counts = u.ledger.counts;
         if !e.sound {
             return Answered {
                 answer: Answer::Refused(Refusal::StateRule),
@@ -684,18 +634,20 @@ impl Manager {
             };
         }
         let p = pushes::push_control_event(&mut events, counts, tag);
-        finish_push(self, u, events, p)
+        let rows = with_events(u, events, p.counts);
+        let o = p.outcome;
+        finish(self, rows, o)
     }
 
     // An action's event, to the root or to its scope at the local tag.
     pub fn push_action_event(self, image: &[u8], push: ActionPush, keys: &[u16]) -> Answered
-        ensures { λ r. ⌜ answeredOf r ≡ stepOn (now (image .entry)) (arraysOf self) (action (push .action) (ofGlobal (push .tag)) (push .terminal) (now (keys .entry))) ⌝ }
+        ensures { λ r. ⌜ answeredOf r ≡ stepOn (was image) (arraysOf self) (action (push .action) (ofGlobal (push .tag)) (push .terminal) (was keys)) ⌝ }
     {
         let e = enter(image, self);
         let u = e.rows;
         let scopes = u.scopes;
         let mut events = u.events;
-        let counts = u.counts;
+        let counts = u.ledger.counts;
         if !e.sound {
             return Answered {
                 answer: Answer::Refused(Refusal::StateRule),
@@ -703,71 +655,61 @@ impl Manager {
             };
         }
         let p = pushes::push_action_event(image, &scopes, &mut events, counts, push, keys);
-        finish_push(self, u, events, p)
+        let rows = with_events(u, events, p.counts);
+        let o = p.outcome;
+        finish(self, rows, o)
     }
 
     // ---- transitions
 
     // A reactor goes to one of its modes, by a reset or by history.
     pub fn apply_transition(self, image: &[u8], request: Request) -> Answered
-        ensures { λ r. ⌜ answeredOf r ≡ stepOn (now (image .entry)) (arraysOf self) (transit (request .reactor) (request .mode) (request .reset) (ofGlobal (request .c))) ⌝ }
+        ensures { λ r. ⌜ answeredOf r ≡ stepOn (was image) (arraysOf self) (transit (request .reactor) (request .mode) (request .reset) (ofGlobal (request .c))) ⌝ }
     {
         let e = enter(image, self);
         let u = e.rows;
-        let modes = u.modes;
         let mut scopes = u.scopes;
         let mut events = u.events;
         let mut values = u.values;
         let mut buckets = u.buckets;
-        let counts = u.counts;
-        let held = u.held;
         if !e.sound {
             return Answered {
                 answer: Answer::Refused(Refusal::StateRule),
                 manager: self,
             };
         }
-        let given = transition::Given {
-            modes,
-            request,
-            counts,
-            held,
-        };
         let t = transition::apply_transition(
             image,
             &mut scopes,
             &mut events,
             &mut values,
             &mut buckets,
-            given,
+            u.ledger,
+            request,
         );
-        let outcome = t.outcome;
-        let turned = t.modes;
-        let waits = t.counts;
-        let holds = t.held;
-        let rows = Unpacked {
-            modes: turned,
+        let ledger = t.ledger;
+        let rows = Room {
             scopes,
             events,
             values,
             buckets,
-            counts: waits,
-            held: holds,
+            ledger,
         };
-        finish_transition(self, rows, outcome)
+        let o = t.outcome;
+        finish(self, rows, o)
     }
 
     // ---- questions
 
     // The least head's tag over root and active scopes.
     pub fn peek_tag(self, image: &[u8]) -> Answered
-        ensures { λ r. ⌜ answeredOf r ≡ stepOn (now (image .entry)) (arraysOf self) peekTag ⌝ }
+        ensures { λ r. ⌜ answeredOf r ≡ stepOn (was image) (arraysOf self) peekTag ⌝ }
     {
         let e = enter(image, self);
         let u = e.rows;
         let scopes = u.scopes;
         let events = u.events;
-        let counts = u.counts;
+        let counts = u.ledger.counts;
         if !e.sound {
             return Answered {
                 answer: Answer::Refused(Refusal::StateRule),
@@ -783,13 +725,13 @@ impl Manager {
 
     // Only control events of the root are at the peek tag.
     pub fn peek_is_control_only(self, image: &[u8]) -> Answered
-        ensures { λ r. ⌜ answeredOf r ≡ stepOn (now (image .entry)) (arraysOf self) onlyControl ⌝ }
+        ensures { λ r. ⌜ answeredOf r ≡ stepOn (was image) (arraysOf self) onlyControl ⌝ }
     {
         let e = enter(image, self);
         let u = e.rows;
         let scopes = u.scopes;
         let events = u.events;
-        let counts = u.counts;
+        let counts = u.ledger.counts;
         if !e.sound {
             return Answered {
                 answer: Answer::Refused(Refusal::StateRule),
@@ -805,7 +747,7 @@ impl Manager {
 
     // How many ordinary events wait, those of suspended scopes too.
     pub fn nonterminal_work(self, image: &[u8]) -> Answered
-        ensures { λ r. ⌜ answeredOf r ≡ stepOn (now (image .entry)) (arraysOf self) ordinaryWork ⌝ }
+        ensures { λ r. ⌜ answeredOf r ≡ stepOn (was image) (arraysOf self) ordinaryWork ⌝ }
     {
         let e = enter(image, self);
         if !e.sound {
@@ -822,7 +764,7 @@ impl Manager {
 
     // Some ordinary event waits.
     pub fn has_nonterminal_work(self, image: &[u8]) -> Answered
-        ensures { λ r. ⌜ answeredOf r ≡ someWork (stepOn (now (image .entry)) (arraysOf self) ordinaryWork) ⌝ }
+        ensures { λ r. ⌜ answeredOf r ≡ someWork (stepOn (was image) (arraysOf self) ordinaryWork) ⌝ }
     {
         let e = enter(image, self);
         if !e.sound {
@@ -839,7 +781,7 @@ impl Manager {
 
     // The scope is active now.
     pub fn scope_active(self, image: &[u8], scope: u16) -> Answered
-        ensures { λ r. ⌜ answeredOf r ≡ stepOn (now (image .entry)) (arraysOf self) (activeNow scope) ⌝ }
+        ensures { λ r. ⌜ answeredOf r ≡ stepOn (was image) (arraysOf self) (activeNow scope) ⌝ }
     {
         let e = enter(image, self);
         let u = e.rows;
@@ -866,7 +808,7 @@ impl Manager {
 
     // The scope was active at some time.
     pub fn scope_ever_active(self, image: &[u8], scope: u16) -> Answered
-        ensures { λ r. ⌜ answeredOf r ≡ stepOn (now (image .entry)) (arraysOf self) (everActive scope) ⌝ }
+        ensures { λ r. ⌜ answeredOf r ≡ stepOn (was image) (arraysOf self) (everActive scope) ⌝ }
     {
         let e = enter(image, self);
         let u = e.rows;
@@ -895,7 +837,7 @@ impl Manager {
 
     // Pushing again overwrites; the bucket rises to the largest pushed plus one, held at the limit.
     pub fn push_value(self, image: &[u8], action: u16, tag: GlobalTag, value: u64) -> Answered
-        ensures { λ r. ⌜ answeredOf r ≡ stepOn (now (image .entry)) (arraysOf self) (pushValue action (ofGlobal tag) value) ⌝ }
+        ensures { λ r. ⌜ answeredOf r ≡ stepOn (was image) (arraysOf self) (pushValue action (ofGlobal tag) value) ⌝ }
     {
         value_call(self, image, Call::Push(action, tag, value))
     }
@@ -908,35 +850,35 @@ impl Manager {
         offset: u64,
         least: u32,
     ) -> Answered
-        ensures { λ r. ⌜ answeredOf r ≡ stepOn (now (image .entry)) (arraysOf self) (nextStep action offset least) ⌝ }
+        ensures { λ r. ⌜ answeredOf r ≡ stepOn (was image) (arraysOf self) (nextStep action offset least) ⌝ }
     {
         value_call(self, image, Call::NextMicrostep(action, offset, least))
     }
 
     // "Nothing" for a value not held; the bucket stays.
     pub fn take_value(self, image: &[u8], action: u16, tag: GlobalTag) -> Answered
-        ensures { λ r. ⌜ answeredOf r ≡ stepOn (now (image .entry)) (arraysOf self) (takeValue action (ofGlobal tag)) ⌝ }
+        ensures { λ r. ⌜ answeredOf r ≡ stepOn (was image) (arraysOf self) (takeValue action (ofGlobal tag)) ⌝ }
     {
         value_call(self, image, Call::Take(action, tag))
     }
 
     // The action's values before the tag, and the buckets that have none left.
     pub fn clear_values_older_than(self, image: &[u8], action: u16, tag: GlobalTag) -> Answered
-        ensures { λ r. ⌜ answeredOf r ≡ stepOn (now (image .entry)) (arraysOf self) (clearBefore action (ofGlobal tag)) ⌝ }
+        ensures { λ r. ⌜ answeredOf r ≡ stepOn (was image) (arraysOf self) (clearBefore action (ofGlobal tag)) ⌝ }
     {
         value_call(self, image, Call::ClearOlderThan(action, tag))
     }
 
     // A take and then a push; nothing for equal tags or a value not held.
     pub fn move_value(self, image: &[u8], action: u16, old: GlobalTag, new: GlobalTag) -> Answered
-        ensures { λ r. ⌜ answeredOf r ≡ stepOn (now (image .entry)) (arraysOf self) (moveValue action (ofGlobal old) (ofGlobal new)) ⌝ }
+        ensures { λ r. ⌜ answeredOf r ≡ stepOn (was image) (arraysOf self) (moveValue action (ofGlobal old) (ofGlobal new)) ⌝ }
     {
         value_call(self, image, Call::MoveValue(action, old, new))
     }
 
     // All that the action has.
     pub fn clear_values(self, image: &[u8], action: u16) -> Answered
-        ensures { λ r. ⌜ answeredOf r ≡ stepOn (now (image .entry)) (arraysOf self) (clearAction action) ⌝ }
+        ensures { λ r. ⌜ answeredOf r ≡ stepOn (was image) (arraysOf self) (clearAction action) ⌝ }
     {
         value_call(self, image, Call::Clear(action))
     }
@@ -945,13 +887,13 @@ impl Manager {
 
     // The events at the peek tag: the root's, then the scopes'.
     pub fn pop_next_event(self, image: &[u8]) -> Popped
-        ensures { λ r. ⌜ poppedOf r ≡ popped (stepOn (now (image .entry)) (arraysOf self) pop) ⌝ }
+        ensures { λ r. ⌜ poppedOf r ≡ popped (stepOn (was image) (arraysOf self) pop) ⌝ }
     {
         let e = enter(image, self);
         let u = e.rows;
         let scopes = u.scopes;
         let mut events = u.events;
-        let counts = u.counts;
+        let counts = u.ledger.counts;
         if !e.sound {
             let none = no_ready();
             return Popped {

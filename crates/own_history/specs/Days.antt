@@ -14,13 +14,13 @@ use Rattle.table.specs.declared.Checked.the-variants.{Accepted}
 use Rattle.machine.specs.State.{State, fresh}
 use Rattle.machine.specs.Machine.{Call, peekTag, rules, step, run}
 use Rattle.kept.specs.Kept.{run-keeps}
-use Rattle.unpacked.specs.Unpacked.{state-is}
+use Rattle.lens.specs.Holds.{Rows, rowsOf, stateIn, state-is}
 use Rattle.records.specs.Records.{Record, call, malformed, cut, over, mostBytes, recordsFrom}
 use Rattle.records.proofs.DayLaws.{records-behind}
 use Rattle.lines.specs.Lines.{lineOf, tableLine}
-use Rattle.gate_day.specs.Days.{pending, broken, whole, nextAt, bytesLeft, bodyAt, malformedLine, longest, lineAt, stateAt, answersOf, together, linesOf, callsOf, Ran, stopped, ranIn, ranOn, ran, imageIn, opened, answersBy, dayAnswers, recordBytes}
-use Rattle.gate_day.specs.Views.{viewOf, Kept, Pieced}
-use Rattle.gate_day.specs.declared.Day.{Day}
+use Rattle.gate_day.specs.Days.{pending, broken, whole, nextAt, bytesLeft, bodyAt, malformedLine, longest, lineAt, stateAt, answersOf, together, linesOf, callsOf, Ran, stopped, ranIn, ranOn}
+use Rattle.gate_day.specs.Days.{ran, imageIn, opened, answersBy, dayAnswers, recordBytes}
+use Rattle.gate_day.specs.Views.{Pieced}
 use Rattle.gate_day.specs.declared.Pieces.{Pieces}
 use Rattle.gate_day.specs.Calls.{before, callsIn, callsOn, callsTaken, ran-runs}
 use Rattle.gate_day.proofs.WholeLaws.{open-table, whole-goes, broken-stops, piece-lines}
@@ -119,13 +119,9 @@ fed img s left (p ∷ ps) = let f = first img s left p in cond (f .ended) f (the
 
 -- for the day that `gate_day::run_records` hands back holds the state that its run came to
 pub handed-on :
-    (img : Image) (d : Day) → Kept img d → (bytes : List ℕ) (p : Pieces) {old new : List ℕ} → Pieced (ran img bytes (viewOf img d) (length old)) p bytes old new →
-    viewOf img (p .day) ≡ ran img bytes (viewOf img d) (length old) .state
-handed-on img d k bytes p {old} w =
-    let s = viewOf img d in
-    let r = ran img bytes s (length old) in
-    let e : r .state ≡ run img s (callsTaken img bytes s (length old)) = ran-runs img bytes s (length old) in
-    state-is img (r .state) (ap (rules img) e ∙ run-keeps img s (callsTaken img bytes s (length old)) (k .keeps)) _ _ _ _ _ _ _ (w .unpacked)
+    (img : Image) (d : Rows) (bytes : List ℕ) (p : Pieces) {old new : List ℕ} → Pieced img (ran img bytes (stateIn img d) (length old)) p bytes old new →
+    stateIn img (rowsOf (p .day)) ≡ ran img bytes (stateIn img d) (length old) .state
+handed-on img d bytes p w = state-is img _ (rowsOf (p .day)) (w .holds)
 
 -- all that came in: the file
 unfoldable pub bytesOf : List Piece → List ℕ

@@ -29,26 +29,15 @@ use Rattle.key_set.proofs.Laws.{has-empty, has-insert-same, has-insert-other, l
 use Rattle.schedule.specs.Schedule.{isActive}
 use Rattle.scopes.specs.Scopes.{Scope, mostScopes, blank}
 use Rattle.lens.specs.Padded.{padded, padded-none, padded-more, padded-take, padded-length}
-use Rattle.lens.specs.declared.Counts as lens
-use Rattle.store_calls.specs.declared.Counts as store
 use Rattle.machine.specs.Table.{scopes, reactors}
 use Rattle.machine.specs.State.{State}
 use Rattle.machine.specs.Transition as T
 use Rattle.machine.specs.Transition.{resetModes, step1, prepared, planOf, insideOf}
 use Rattle.plan.specs.Plans.{planIn, Inner, Marks, modeAfter, newModes, Planned}
 use Rattle.lens.specs.Lens.{mostReactors}
+use Rattle.lens.specs.Holds.{most-reactors}
 use Rattle.plan.specs.declared.Plan.{Plan}
 use Rattle.plan.specs.declared.Request.{Request}
-
--- ---- what a table allows
-
-pub few-scopes : (img : Image) → isTable img ≡ true → scopes img ≤ mostScopes
-unfolding kindOf kinds
-few-scopes img t = count-most img (table-is img t) K.scope (omega arith)
-
-pub few-reactors : (img : Image) → isTable img ≡ true → reactors img ≤ mostReactors
-unfolding kindOf kinds
-few-reactors img t = count-most img (table-is img t) K.reactor (omega arith)
 
 -- ---- lists by their numbers
 
@@ -219,7 +208,7 @@ module _ (img : Image) (modes : List ℕ) (q : Request) where
   -- the plan's parts by the modes that the code filled in
   module _ (table : isTable img ≡ true) (long : length modes ≡ mostReactors) (asked : q .reactor < reactors img) (n : ℕ) (out : List ℕ) (e : n ≡ reactors img) (f : out ≡ filled n) where
     room : n ≤ mostReactors
-    room = rw e (few-reactors img table)
+    room = rw e (most-reactors img table)
 
     filled-are : map (modeAfter img modes q) (from 0 n) ≡ newModes img (take (reactors img) modes) q
     filled-are = rw (← e) (modes-are n (rw long room) (rw e asked) e)
@@ -248,7 +237,15 @@ module _ (img : Image) (modes : List ℕ) (q : Request) where
       go true = refl
       go false = refl
 
-  module _ (waits : lens.Counts) (holds : store.Counts) (p : Plan) (h : Planned img modes q waits holds p) where
+  pub prepared-long : (s : State) → length (s .modes) ≡ reactors img → length (prepared img (q .reactor) (q .mode) (q .reset) s .modes) ≡ reactors img
+  unfolding newModes resetModes
+  prepared-long s e = rw (prepared-modes s, length-set) (go (q .reset))
+    where
+      go : (b : Bool) → length (cond b (resetModes img (modeScope img (q .mode)) (s .modes)) (s .modes)) ≡ reactors img
+      go true = map-long _ (reactors img)
+      go false = e
+
+  module _ (p : Plan) (h : Planned img modes q p) where
     pub planned-inside : (i : ℕ) → has (p .inside .words) i ≡ getD (insideOf img (q .reset) (modeScope img (q .mode))) i false
     planned-inside i = marks-get _ (scopes img) (p .inside .words) (h .inside) i
 

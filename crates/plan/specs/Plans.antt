@@ -13,8 +13,6 @@ use Rattle.tags.specs.Views.{ofGlobal}
 use Rattle.key_set.specs.Sets.{has, wordCount}
 use Rattle.schedule.specs.Schedule.{isActive}
 use Rattle.lens.specs.Padded.{padded}
-use Rattle.lens.specs.declared.Counts as lens
-use Rattle.store_calls.specs.declared.Counts as store
 use Rattle.machine.specs.Table.{scopes, reactors}
 use Rattle.machine.specs.Transition as T
 use Rattle.plan.specs.declared.Plan.{Plan}
@@ -48,11 +46,9 @@ unfoldable pub newModes : Image → List ℕ → Request → List ℕ
 newModes img modes q = set (cond (q .reset) (T.resetModes img (modeScope img (q .mode)) modes) modes) (q .reactor) (q .mode)
 
 -- the plan of a request, where the modes were as in this array
-pub record Planned (img : Image) (old : List ℕ) (q : Request) (waits : lens.Counts) (holds : store.Counts) (p : Plan) : Type 0 where
+pub record Planned (img : Image) (old : List ℕ) (q : Request) (p : Plan) : Type 0 where
   pub c : p .c ≡ q .c
   pub target : p .target ≡ modeScope img (q .mode)
   pub inside : Marks (λ i. q .reset && inSubtree img (modeScope img (q .mode)) i) (scopes img) (p .inside .words)
   pub now : Marks (isActive img (newModes img (take (reactors img) old) q)) (scopes img) (p .now .words)
   pub modes : p .modes ≡ padded 0 mostReactors (newModes img (take (reactors img) old) q)
-  pub counts : p .counts ≡ waits
-  pub held : p .held ≡ holds

@@ -1,10 +1,12 @@
-// What a transition goes by, worked out before anything changes: document 01, "A transition", its subtree and its modes.
+// What a transition goes by, worked out before anything changes: document 01, "the target scope's subtree, itself included", "Set the reactor's mode".
+// What the steps must know of the table and the modes comes in here, in `Plan` and `Planned`; they take it by value and work nothing out twice.
 ghost use mathlib.Core.Path.{_≡_};
 ghost use mathlib.Core.Bool.{true, cond, _&&_};
 ghost use mathlib.Core.List.{map};
 ghost use Prim.Native.Nat.{_≤_, _<_};
 ghost use lib.ListN.{length};
 ghost use Rattle.lists.specs.Lists.{from};
+ghost use Rattle.lists.specs.Lent.{was};
 ghost use Rattle.rows.specs.Lineage.{inSubtree};
 ghost use Rattle.key_set.specs.Sets.{insertKey};
 ghost use Rattle.schedule.specs.Schedule.{isActive};
@@ -14,21 +16,17 @@ ghost use Rattle.machine.specs.Table.{scopes as scopesIn, reactors as reactorsI
 ghost use Rattle.plan.specs.Plans.{Marks, modeAfter, Planned};
 ghost use Rattle.lens.specs.Lens.{mostReactors};
 use key_set::KeySet;
+use lens::MOST_REACTORS;
 use tags::GlobalTag;
 
-// How many reactors there may be; `mostReactors` of specs/ says the same.
-pub const MOST_REACTORS: usize = 16;
-
 // The tag c, the target scope, the scopes of the reset subtree (none for a history transition), those that are active from now on,
-// the modes from now on, and how much waits and is held before the transition.
+// and the modes from now on.
 pub struct Plan {
     pub c: GlobalTag,
     pub target: u16,
     pub inside: KeySet,
     pub now: KeySet,
     pub modes: [u16; MOST_REACTORS],
-    pub counts: lens::Counts,
-    pub held: store_calls::Counts,
 }
 
 // What is asked for: a reactor, the mode it goes to, whether by reset, and the current tag c.
@@ -54,7 +52,7 @@ pub fn mark(set: KeySet, test: bool, key: u16) -> KeySet
 // The target scope's subtree, itself included.
 fn subtree(image: &[u8], target: u16) -> KeySet
     requires { ⌜ isTable (now image) ≡ true ⌝ }
-    ensures { λ r. ⌜ Marks (inSubtree (now (image .entry)) target) (scopesIn (now (image .entry))) (r .words) ⌝ }
+    ensures { λ r. ⌜ Marks (inSubtree (was image) target) (scopesIn (was image)) (r .words) ⌝ }
 {
     let n = rows::count(image, rows::SCOPE);
     let mut set = KeySet::empty();
@@ -70,7 +68,7 @@ fn subtree(image: &[u8], target: u16) -> KeySet
 // None for a history transition.
 fn subtree_if(image: &[u8], reset: bool, target: u16) -> KeySet
     requires { ⌜ isTable (now image) ≡ true ⌝ }
-    ensures { λ r. ⌜ Marks (λ i. reset && inSubtree (now (image .entry)) target i) (scopesIn (now (image .entry))) (r .words) ⌝ }
+    ensures { λ r. ⌜ Marks (λ i. reset && inSubtree (was image) target i) (scopesIn (was image)) (r .words) ⌝ }
 {
     if reset {
         return subtree(image, target);
@@ -81,7 +79,7 @@ fn subtree_if(image: &[u8], reset: bool, target: u16) -> KeySet
 // The scopes that are active by the modes.
 fn active_scopes(image: &[u8], modes: &[u16]) -> KeySet
     requires { ⌜ isTable (now image) ≡ true ⌝ }
-    ensures { λ r. ⌜ Marks (isActive (now (image .entry)) (now (modes .entry))) (scopesIn (now (image .entry))) (r .words) ⌝ }
+    ensures { λ r. ⌜ Marks (isActive (was image) (was modes)) (scopesIn (was image)) (r .words) ⌝ }
 {
     let n = rows::count(image, rows::SCOPE);
     let mut set = KeySet::empty();
@@ -99,7 +97,7 @@ fn active_scopes(image: &[u8], modes: &[u16]) -> KeySet
 // A reactor's mode from now on: the one asked for, its initial one in the reset subtree, or as it was.
 fn mode_after(image: &[u8], modes: &[u16; MOST_REACTORS], request: Request, reactor: u16) -> u16
     requires { ⌜ (length (now modes) ≡ mostReactors) × (reactor < mostReactors) ⌝ }
-    ensures { λ r. ⌜ r ≡ modeAfter (now (image .entry)) (now (modes .entry)) request reactor ⌝ }
+    ensures { λ r. ⌜ r ≡ modeAfter (was image) (was modes) request reactor ⌝ }
 {
     if reactor == request.reactor {
         return request.mode;
@@ -125,7 +123,7 @@ fn new_modes(
     n: u16,
 ) -> [u16; MOST_REACTORS]
     requires { ⌜ (length (now modes) ≡ mostReactors) × (n ≤ mostReactors) ⌝ }
-    ensures { λ r. ⌜ r ≡ padded 0 mostReactors (map (modeAfter (now (image .entry)) (now (modes .entry)) request) (from 0 n)) ⌝ }
+    ensures { λ r. ⌜ r ≡ padded 0 mostReactors (map (modeAfter (was image) (was modes) request) (from 0 n)) ⌝ }
 {
     let mut out = [0u16; MOST_REACTORS];
     let mut i: u16 = 0;
@@ -140,17 +138,11 @@ fn new_modes(
 
 // ---- the plan
 
-pub fn plan_of(
-    image: &[u8],
-    modes: &[u16; MOST_REACTORS],
-    request: Request,
-    counts: lens::Counts,
-    held: store_calls::Counts,
-) -> Plan
+pub fn plan_of(image: &[u8], modes: &[u16; MOST_REACTORS], request: Request) -> Plan
     requires { ⌜ isTable (now image) ≡ true ⌝ }
     requires { ⌜ length (now modes) ≡ mostReactors ⌝ }
     requires { ⌜ request .reactor < reactorsIn (now image) ⌝ }
-    ensures { λ r. ⌜ Planned (now (image .entry)) (now (modes .entry)) request counts held r ⌝ }
+    ensures { λ r. ⌜ Planned (was image) (was modes) request r ⌝ }
 {
     let target = rows::mode_scope(image, request.mode);
     let inside = subtree_if(image, request.reset, target);
@@ -165,7 +157,5 @@ pub fn plan_of(
         inside,
         now,
         modes: after,
-        counts,
-        held,
     }
 }

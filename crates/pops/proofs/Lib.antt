@@ -1,2 +1,1 @@
 pub mod PopLaws
-pub mod AsMachine

@@ -1,19 +1,20 @@
-// Pop and peek over the events and scopes in lent rows: document 01, "Pop at peek tag t". What they mean is in specs/.
+// Pop and peek over the events and scopes in lent rows: document 01, "Pop at peek tag t", "Peek", "Control only"; the contracts cite the machine.
+// Callers lend every queue's least tag to `pop_next_event`, which keeps it.
 ghost use mathlib.Core.Path.{_≡_};
 ghost use Prim.Native.Nat.{_+_, _≤_};
 ghost use lib.ListN.{length, take};
+ghost use Rattle.lists.specs.Lent.{was, is};
 ghost use Rattle.lists.specs.Lists.{every};
-ghost use Rattle.rows.specs.Kinds.{scope, count};
 ghost use Rattle.tags.specs.Views.{ofGlobal, ofQueue};
-ghost use Rattle.machine.specs.State.{mostWaiting};
-ghost use Rattle.machine.specs.Heads.{sooner, isAt};
-ghost use Rattle.machine.specs.Machine.{peekAt};
+ghost use Rattle.machine.specs.State.{State, mostWaiting};
+ghost use Rattle.machine.specs.Heads.{sooner, isAt, scopeHead, controlled, taken, takeAt, takeScopes};
+ghost use Rattle.machine.specs.Machine.{peekAt, perform, pop, peekTag, onlyControl, flag};
 ghost use Rattle.slots.specs.Slots.{eventsOf, eventOf};
-ghost use Rattle.scopes.specs.Scopes.{mostScopes, scopesOf};
+ghost use Rattle.scopes.specs.Scopes.{scopesOf};
 ghost use Rattle.queue.specs.Queue.{headsOf, Held};
-ghost use Rattle.heads.specs.Found.{headOf, leastHead};
-ghost use Rattle.lens.specs.Lens.{Waits};
-ghost use Rattle.pops.specs.Pops.{untaken, taken, tookAt, tookScopes, peekHead, popOf, controlled, controlIn, replyOf, Takes, Pops};
+ghost use Rattle.heads.specs.Found.{headOf};
+ghost use Rattle.lens.specs.Lens.{Queued, Waits, Shows};
+ghost use Rattle.pops.specs.Pops.{replyOf, lent, Takes, Pops};
 use heads::Head;
 use heads::HeadAt;
 use key_set::KeySet;
@@ -42,10 +43,9 @@ struct Taking {
     counts: Counts,
 }
 
-// What the scopes are taken by: the tag, their number, the least of their heads, and how many turns there are at most.
+// What the scopes are taken by: the tag, the least of their heads, and how many turns there are at most.
 struct Turn {
     tag: GlobalTag,
-    scopes: u16,
     local: Head,
     turns: usize,
 }
@@ -106,8 +106,8 @@ fn take_at(
     requires { ⌜ Waits (now events) (given .counts) ⌝ }
     requires { ⌜ (length (now keys) ≡ mostWaiting) × (given .gathered .actions + given .counts .waiting ≤ mostWaiting) ⌝ }
     requires { ⌜ Held (now heads) (headsOf (take (given .counts .waiting) (eventsOf (now events)))) ⌝ }
-    ensures { λ r. ⌜ Takes (taken (h .queue) (ofQueue (h .stamp)) (untaken (take (given .counts .waiting) (eventsOf (now (events .entry)))) (given .counts .work))) (given .gathered) (now (keys .entry)) (now (events .exit)) (now (keys .exit)) (r .gathered) (r .counts) ⌝ }
-    ensures { λ r. ⌜ Held (now (heads .exit)) (headsOf (take (r .counts .waiting) (eventsOf (now (events .exit))))) ⌝ }
+    ensures { λ r. ⌜ Takes (taken (h .queue) (ofQueue (h .stamp)) (lent (was events) (given .counts))) given r (was keys) (is events) (is keys) ⌝ }
+    ensures { λ r. ⌜ Held (is heads) (headsOf (take (r .counts .waiting) (eventsOf (is events)))) ⌝ }
 {
     let none = KeySet::empty();
     let stamp = h.stamp;
@@ -145,8 +145,8 @@ fn take_head(
     requires { ⌜ Waits (now events) (given .counts) ⌝ }
     requires { ⌜ (length (now keys) ≡ mostWaiting) × (given .gathered .actions + given .counts .waiting ≤ mostWaiting) ⌝ }
     requires { ⌜ Held (now heads) (headsOf (take (given .counts .waiting) (eventsOf (now events)))) ⌝ }
-    ensures { λ r. ⌜ Takes (tookAt (ofGlobal t) (untaken (take (given .counts .waiting) (eventsOf (now (events .entry)))) (given .counts .work)) (headOf h)) (given .gathered) (now (keys .entry)) (now (events .exit)) (now (keys .exit)) (r .gathered) (r .counts) ⌝ }
-    ensures { λ r. ⌜ Held (now (heads .exit)) (headsOf (take (r .counts .waiting) (eventsOf (now (events .exit))))) ⌝ }
+    ensures { λ r. ⌜ Takes (takeAt (ofGlobal t) (lent (was events) (given .counts)) (headOf h)) given r (was keys) (is events) (is keys) ⌝ }
+    ensures { λ r. ⌜ Held (is heads) (headsOf (take (r .counts .waiting) (eventsOf (is events)))) ⌝ }
 {
     match h {
         Head::Empty => given,
@@ -163,6 +163,7 @@ fn take_head(
 
 // While the least scope head is the tag, all events at that head.
 fn take_scopes(
+    image: &[u8],
     scopes: &[u64; scopes::ROOM],
     events: &mut [u64; slots::ROOM],
     keys: &mut [u16; slots::MOST_WAITING],
@@ -173,12 +174,12 @@ fn take_scopes(
     requires { ⌜ Waits (now events) (given .counts) ⌝ }
     requires { ⌜ (length (now keys) ≡ mostWaiting) × (given .gathered .actions + given .counts .waiting ≤ mostWaiting) ⌝ }
     requires { ⌜ Held (now heads) (headsOf (take (given .counts .waiting) (eventsOf (now events)))) ⌝ }
-    requires { ⌜ headOf (turn .local) ≡ leastHead (scopesOf (now scopes)) (headsOf (take (given .counts .waiting) (eventsOf (now events)))) (turn .scopes) ⌝ }
-    ensures { λ r. ⌜ Takes (tookScopes (turn .turns) (scopesOf (now (scopes .entry))) (turn .scopes) (ofGlobal (turn .tag)) (untaken (take (given .counts .waiting) (eventsOf (now (events .entry)))) (given .counts .work))) (given .gathered) (now (keys .entry)) (now (events .exit)) (now (keys .exit)) (r .gathered) (r .counts) ⌝ }
-    ensures { λ r. ⌜ Held (now (heads .exit)) (headsOf (take (r .counts .waiting) (eventsOf (now (events .exit))))) ⌝ }
+    requires { ⌜ headOf (turn .local) ≡ scopeHead (now image) (scopesOf (now scopes)) (take (given .counts .waiting) (eventsOf (now events))) ⌝ }
+    ensures { λ r. ⌜ Takes (takeScopes (turn .turns) (was image) (scopesOf (was scopes)) (ofGlobal (turn .tag)) (lent (was events) (given .counts))) given r (was keys) (is events) (is keys) ⌝ }
+    ensures { λ r. ⌜ Held (is heads) (headsOf (take (r .counts .waiting) (eventsOf (is events)))) ⌝ }
 {
     let t = turn.tag;
-    let n = turn.scopes;
+    let n = rows::count(image, rows::SCOPE);
     let mut local = turn.local;
     let mut out = given;
     let mut turns = turn.turns;
@@ -203,12 +204,11 @@ pub fn pop_next_event(
     keys: &mut [u16; slots::MOST_WAITING],
     heads: &mut [u64; queue::HEADS],
 ) -> Popped
-    requires { ⌜ count (now image) scope ≤ mostScopes ⌝ }
     requires { ⌜ Waits (now events) counts ⌝ }
     requires { ⌜ length (now keys) ≡ mostWaiting ⌝ }
     requires { ⌜ Held (now heads) (headsOf (take (counts .waiting) (eventsOf (now events)))) ⌝ }
-    ensures { λ r. ⌜ Pops (popOf (scopesOf (now (scopes .entry))) (count (now (image .entry)) scope) (take (counts .waiting) (eventsOf (now (events .entry)))) (counts .work)) r (now (keys .entry)) (now (events .exit)) (now (keys .exit)) ⌝ }
-    ensures { λ r. ⌜ Held (now (heads .exit)) (headsOf (take (r .counts .waiting) (eventsOf (now (events .exit))))) ⌝ }
+    ensures { λ r. ⌜ ((s : State) → Queued (s .waiting) (s .work) (was events) counts → Shows s (was scopes) → Pops (perform (was image) s pop) r (was keys) (is events) (is keys)) ⌝ }
+    ensures { λ r. ⌜ Held (is heads) (headsOf (take (r .counts .waiting) (eventsOf (is events)))) ⌝ }
 {
     let n = rows::count(image, rows::SCOPE);
     let waiting = counts.waiting;
@@ -230,11 +230,10 @@ pub fn pop_next_event(
             let first = take_head(events, keys, heads, start, root, t);
             let turn = Turn {
                 tag: t,
-                scopes: n,
                 local,
                 turns: waiting,
             };
-            let all = take_scopes(scopes, events, keys, heads, first, turn);
+            let all = take_scopes(image, scopes, events, keys, heads, first, turn);
             let gathered = all.gathered;
             let left = all.counts;
             Popped {
@@ -256,7 +255,7 @@ pub fn peek_tag(
     counts: Counts,
 ) -> Peeked
     requires { ⌜ counts .waiting ≤ mostWaiting ⌝ }
-    ensures { λ r. ⌜ replyOf r ≡ peekAt (peekHead (scopesOf (now (scopes .entry))) (count (now (image .entry)) scope) (take (counts .waiting) (eventsOf (now (events .entry))))) ⌝ }
+    ensures { λ r. ⌜ ((s : State) → Queued (s .waiting) (s .work) (was events) counts → Shows s (was scopes) → replyOf r ≡ perform (was image) s peekTag .reply) ⌝ }
 {
     let n = rows::count(image, rows::SCOPE);
     let heads = queue::heads(events, counts.waiting);
@@ -280,7 +279,7 @@ fn is_controlled(s: Slot, t: GlobalTag) -> bool
 
 fn all_controlled(events: &[u64; slots::ROOM], waiting: usize, t: GlobalTag) -> bool
     requires { ⌜ waiting ≤ mostWaiting ⌝ }
-    ensures { λ r. ⌜ r ≡ every (controlled (ofGlobal t)) (take waiting (eventsOf (now (events .entry)))) ⌝ }
+    ensures { λ r. ⌜ r ≡ every (controlled (ofGlobal t)) (take waiting (eventsOf (was events))) ⌝ }
 {
     let mut i: usize = 0;
     while i < waiting {
@@ -301,7 +300,7 @@ pub fn peek_is_control_only(
     counts: Counts,
 ) -> bool
     requires { ⌜ counts .waiting ≤ mostWaiting ⌝ }
-    ensures { λ r. ⌜ r ≡ controlIn (scopesOf (now (scopes .entry))) (count (now (image .entry)) scope) (take (counts .waiting) (eventsOf (now (events .entry)))) ⌝ }
+    ensures { λ r. ⌜ ((s : State) → Queued (s .waiting) (s .work) (was events) counts → Shows s (was scopes) → flag r ≡ perform (was image) s onlyControl .reply) ⌝ }
 {
     let n = rows::count(image, rows::SCOPE);
     let waiting = counts.waiting;

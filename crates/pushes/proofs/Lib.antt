@@ -1,2 +1,1 @@
 pub mod PushLaws
-pub mod AsMachine

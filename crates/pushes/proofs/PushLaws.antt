@@ -8,7 +8,7 @@ use native.Mathlib.Omega.{arith}
 use native.Mathlib.Numerals.{add-one}
 use lib.ListN.{length, take, drop, getD, set, length-append, drop-of-length-le}
 use lib.Seq.{drop-cons}
-use lib.Dec.{ltb}
+use lib.Dec.{ltb, leb}
 use borrow.Author.Tests.{eq-eqb, ne-eqb, le-leb, lt-leb}
 use Rattle.lists.specs.Tests.{below?, and-yes, or-no, or-yes}
 use Rattle.lists.specs.Lists.{every, count, foldl, count-append, count-shorter}
@@ -29,9 +29,9 @@ use Rattle.tags.specs.declared.MappedLocal.the-variants as ML
 use Rattle.key_set.specs.Sets.{insertKey, noKeys, wordCount}
 use Rattle.schedule.specs.Schedule.{isModal}
 use Rattle.machine.specs.Table.{actions, hasParent, setOf}
-use Rattle.machine.specs.State.{Event, root, mostWaiting, ordinary, rootEvent, tally}
+use Rattle.machine.specs.State.{Event, State, root, mostWaiting, ordinary, rootEvent, tally, withQueue, accepted}
 use Rattle.machine.specs.Transition.{isTag}
-use Rattle.machine.specs.Machine.{toRoot, refusal}
+use Rattle.machine.specs.Machine.{refusal, settle, rootMade, toRoot, localTag, actionEvent, actionPlaced, actionMade}
 use Rattle.slots.specs.Slots as slot
 use Rattle.slots.specs.Slots.{eventsOf}
 use Rattle.scopes.specs.Scopes.{Scope, blank}
@@ -39,10 +39,10 @@ use Rattle.queue.specs.Queue.{acceptedAt}
 use Rattle.queue.specs.declared.Accepted.{Accepted}
 use Rattle.queue.specs.declared.Accepted.the-variants as A
 use Rattle.lens.specs.declared.Counts.{Counts}
-use Rattle.lens.specs.Lens.{Queued, Waits, queued-waits, queued-more, waits-queued}
-use Rattle.pushes.specs.Pushes.{madeBy, rootMade, actionOf, localTagIn, placedIn, actionMade, pushOf, Pushes}
-use Rattle.pushes.specs.declared.Outcome.{Outcome}
-use Rattle.pushes.specs.declared.Outcome.the-variants as O
+use Rattle.lens.specs.Lens.{Queued, Waits, queued-is, queued-waits, queued-more, waits-queued}
+use Rattle.pushes.specs.Pushes.{madeBy, pushed, Pushes}
+use Rattle.refusals.specs.declared.Outcome.{Outcome}
+use Rattle.refusals.specs.declared.Outcome.the-variants as O
 
 -- ---- the keys: what was seen of the first i, and what is left
 
@@ -108,24 +108,24 @@ module _ (a : Answer) (m : MappedGlobal) (h : mappedGlobal m ≡ a) where
 pub ruleset mapped = (maps-tag, maps-over)
 
 module _ (ss : List Scope) (i : ℕ) (t : Tag) (s : Scope) (g : s ≡ getD ss i blank) (m : MappedLocal) (h : mappedLocal m ≡ toLocal (s .clock) t) where
-  pub local-over : {n : Refusal} → m ≡ ML.Refused n → refused n ≡ localTagIn ss i t
-  unfolding localTagIn
+  pub local-over : {n : Refusal} → m ≡ ML.Refused n → refused n ≡ localTag (getD ss i blank) t
+  unfolding localTag
   local-over {n} e = let d : toLocal (s .clock) t ≡ refused n = sym h ∙ ap mappedLocal e in rw (← g, d)
 
   module _ (x : LocalTag) (e : m ≡ ML.Tag x) where
     there : toLocal (s .clock) t ≡ done (ofLocal x)
     there = sym h ∙ ap mappedLocal e
 
-    pub local-idle : s .active ≡ false → done (ofLocal x) ≡ localTagIn ss i t
-    unfolding localTagIn
+    pub local-idle : s .active ≡ false → done (ofLocal x) ≡ localTag (getD ss i blank) t
+    unfolding localTag
     local-idle a = rw (← g, there, a)
 
-    pub local-maps : s .active ≡ true → isTag (toGlobal (s .clock) (ofLocal x)) ≡ true → done (ofLocal x) ≡ localTagIn ss i t
-    unfolding localTagIn
+    pub local-maps : s .active ≡ true → isTag (toGlobal (s .clock) (ofLocal x)) ≡ true → done (ofLocal x) ≡ localTag (getD ss i blank) t
+    unfolding localTag
     local-maps a b = rw (← g, there, a, b)
 
-    pub local-image : s .active ≡ true → isTag (toGlobal (s .clock) (ofLocal x)) ≡ false → refused R.MappedTag ≡ localTagIn ss i t
-    unfolding localTagIn
+    pub local-image : s .active ≡ true → isTag (toGlobal (s .clock) (ofLocal x)) ≡ false → refused R.MappedTag ≡ localTag (getD ss i blank) t
+    unfolding localTag
     local-image a b = rw (← g, there, a, b)
 
 module _ (img : Image) (a : ℕ) where
@@ -142,28 +142,31 @@ module _ (img : Image) (a : ℕ) where
   root-plain l p = rw (l, ne-eqb _ _ p, or-no (not (isModal img)))
 
 module _ (img : Image) (ss : List Scope) (a : ℕ) (t : Tag) (terminal : Bool) (ws : List ℕ) {r : Result Refusal Event} where
-  pub placed-root : toRoot img a ≡ true → r ≡ done (actionOf root a t t terminal ws) → r ≡ placedIn img ss a t terminal ws
-  unfolding placedIn
+  pub placed-root : toRoot img a ≡ true → r ≡ done (actionEvent root a t t terminal ws) → r ≡ actionPlaced img (getD ss (actionScope img a) blank) a t terminal ws
+  unfolding actionPlaced
   placed-root o e = e ∙ rw o
 
-  pub placed-there : {x : Tag} → toRoot img a ≡ false → done x ≡ localTagIn ss (actionScope img a) t → r ≡ done (actionOf (actionScope img a) a x t terminal ws) → r ≡ placedIn img ss a t terminal ws
-  unfolding placedIn
+  pub placed-there : {x : Tag} → toRoot img a ≡ false → done x ≡ localTag (getD ss (actionScope img a) blank) t → r ≡ done (actionEvent (actionScope img a) a x t terminal ws) →
+      r ≡ actionPlaced img (getD ss (actionScope img a) blank) a t terminal ws
+  unfolding actionPlaced
   placed-there o l e = e ∙ rw (o, ← l)
 
-  pub placed-refused : {n : Refusal} → toRoot img a ≡ false → refused n ≡ localTagIn ss (actionScope img a) t → r ≡ refused n → r ≡ placedIn img ss a t terminal ws
-  unfolding placedIn
+  pub placed-refused : {n : Refusal} → toRoot img a ≡ false → refused n ≡ localTag (getD ss (actionScope img a) blank) t → r ≡ refused n →
+      r ≡ actionPlaced img (getD ss (actionScope img a) blank) a t terminal ws
+  unfolding actionPlaced
   placed-refused o l e = e ∙ rw (o, ← l)
 
   module _ (known : Bool) where
-    pub action-key : (ltb a (actions img) && known) ≡ false → r ≡ refused R.Key → r ≡ actionMade img ss a t terminal known ws
+    pub action-key : (ltb a (actions img) && known) ≡ false → r ≡ refused R.Key → r ≡ actionMade img (getD ss (actionScope img a) blank) a t terminal known ws
     unfolding actionMade
     action-key k e = e ∙ rw k
 
-    pub action-tag : (ltb a (actions img) && known) ≡ true → within t ≡ false → r ≡ refused R.ArgumentTag → r ≡ actionMade img ss a t terminal known ws
+    pub action-tag : (ltb a (actions img) && known) ≡ true → within t ≡ false → r ≡ refused R.ArgumentTag → r ≡ actionMade img (getD ss (actionScope img a) blank) a t terminal known ws
     unfolding actionMade
     action-tag k w e = e ∙ rw (k, w)
 
-    pub action-placed : (ltb a (actions img) && known) ≡ true → within t ≡ true → r ≡ placedIn img ss a t terminal ws → r ≡ actionMade img ss a t terminal known ws
+    pub action-placed : (ltb a (actions img) && known) ≡ true → within t ≡ true → r ≡ actionPlaced img (getD ss (actionScope img a) blank) a t terminal ws →
+        r ≡ actionMade img (getD ss (actionScope img a) blank) a t terminal known ws
     unfolding actionMade
     action-placed k w e = e ∙ rw (k, w)
 
@@ -198,29 +201,41 @@ module _ (ws : List ℕ) (c : Counts) (w : Waits ws c) where
       let q = waits-queued ws c w .waiting in
       omega (arith, w .counted, w .few, count-shorter ordinary (take (c .waiting) (eventsOf ws)))
 
-  pub give-refused : (o : Outcome) (e : Event) {n : Refusal} → o ≡ O.Refused n → Pushes (pushOf (take (c .waiting) (eventsOf ws)) (c .work) (madeBy o e)) (record { outcome = O.Refused n; counts = c }) ws
-  give-refused o e d = rw d (record { reply = refl; queued = waits-queued ws c w; waits = w })
+  pub give-refused : (o : Outcome) (e : Event) {n : Refusal} → o ≡ O.Refused n → (s : State) → Queued (s .waiting) (s .work) ws c →
+      Pushes (pushed s (madeBy o e)) (record { outcome = O.Refused n; counts = c }) ws
+  give-refused o e d s q = rw d (record { reply = refl; queued = q; waits = w })
 
   module _ (o : Outcome) (e : Event) (d : o ≡ O.Done) (a : Accepted) (f : a ≡ acceptedAt (c .waiting)) (out : List ℕ) (k : slot.Held out (set (eventsOf ws) (c .waiting) e)) where
-    pub give-full : {n : Refusal} → a ≡ A.Refused n → Pushes (pushOf (take (c .waiting) (eventsOf ws)) (c .work) (madeBy o e)) (record { outcome = O.Refused n; counts = c }) out
-    give-full {n} r =
+    pub give-full : {n : Refusal} → a ≡ A.Refused n → (s : State) → Queued (s .waiting) (s .work) ws c → Pushes (pushed s (madeBy o e)) (record { outcome = O.Refused n; counts = c }) out
+    unfolding accepted
+    give-full {n} r s q =
         let x = accept-full (c .waiting) a f r in
-        let long = waits-queued ws c w .waiting in
-        let full : mostWaiting ≤ length (take (c .waiting) (eventsOf ws)) = rw (← long) (x .0) in
+        let full : mostWaiting ≤ length (s .waiting) = rw (← (q .waiting)) (x .0) in
         let same : out ≡ ws =
         H.rows-back slot.decode slot.encode slot.slotWords mostWaiting slot.encode-long ws out (w .held .whole)
         (record { whole = k .whole; things = k .things ∙ H.set-past slot.decode slot.encode slot.slotWords mostWaiting slot.encode-long ws (c .waiting) (x .0) e }) in
-        rw (d, same, le-leb mostWaiting _ full) (record { reply = ap refusal (x .1); queued = waits-queued ws c w; waits = w })
+        rw (d, same, le-leb mostWaiting _ full) (record { reply = ap refusal (x .1); queued = q; waits = w })
 
     pub give-done : {m : ℕ} (n : ℕ) → a ≡ A.Count m → n ≡ cond (ordinary e) (c .work + 1) (c .work) →
-        Pushes (pushOf (take (c .waiting) (eventsOf ws)) (c .work) (madeBy o e)) (record { outcome = O.Done; counts = record { waiting = m; work = n } }) out
-    give-done {m} n r t =
+        (s : State) → Queued (s .waiting) (s .work) ws c → Pushes (pushed s (madeBy o e)) (record { outcome = O.Done; counts = record { waiting = m; work = n } }) out
+    unfolding accepted
+    give-done {m} n r t s q =
         let x = accept-room (c .waiting) a f r in
-        let old = waits-queued ws c w in
-        let l = take (c .waiting) (eventsOf ws) in
-        let few : length l < mostWaiting = rw (← old .waiting) (x .0) in
+        let l = s .waiting in
+        let few : length l < mostWaiting = rw (← (q .waiting)) (x .0) in
         let longer : length (l ++ (e ∷ [])) ≡ length l + 1 = length-append l (e ∷ []) in
-        let new : Queued (l ++ (e ∷ [])) (tally e (c .work)) out (record { waiting = m; work = n }) =
-        record { held = queued-more l (c .work) ws c e out old k; waiting = omega (arith, x .1, old .waiting); work = t } in
+        let new : Queued (l ++ (e ∷ [])) (tally e (s .work)) out (record { waiting = m; work = n }) =
+        record { held = queued-more l (s .work) ws c e out q k; waiting = omega (arith, x .1, q .waiting); work = t ∙ ap (tally e) (q .work) } in
+        let counted : s .work ≡ count ordinary l = sym (q .work) ∙ (w .counted ∙ ap (count ordinary) (queued-is l (s .work) ws c q (omega arith))) in
         rw (d, lt-leb mostWaiting _ few)
-        (record { reply = refl; queued = new; waits = queued-waits _ _ out _ new (omega arith) (tally-more l (c .work) e (w .counted)) })
+        (record { reply = refl; queued = new; waits = queued-waits _ _ out _ new (omega arith) (tally-more l (s .work) e counted) })
+
+-- a push changes the queue and nothing else
+pub push-frame : (s : State) (m : Result Refusal Event) → let t = pushed s m .state in t ≡ withQueue s (t .waiting) (t .work)
+unfolding accepted
+push-frame s (refused n) = refl
+push-frame s (done e) = go (leb mostWaiting (length (s .waiting)))
+  where
+    go : (b : Bool) → let t = settle s (cond b (refused R.Waiting) (done (withQueue s (s .waiting ++ (e ∷ [])) (tally e (s .work))))) .state in t ≡ withQueue s (t .waiting) (t .work)
+    go true = refl
+    go false = refl

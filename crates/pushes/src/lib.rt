@@ -1,23 +1,25 @@
-// Pushes over the events and scopes in lent rows: document 01, "Push (plain, network, control)" and "Push of an action".
-// What they mean is in specs/. Refusals in their order: 5, 6, 7, 8.
+// Pushes over the events and scopes in lent rows: document 01, "Push (plain, network, control)", "Push of an action"; the contracts cite the machine.
+// Refusals in their order: 5, 6, 7, 8. A new one comes in at its place in `root_made` and `action_made`; the event joins in `give`.
 ghost use mathlib.Core.Path.{_≡_};
-ghost use mathlib.Core.Bool.{false, true, cond, _&&_};
+ghost use mathlib.Core.Bool.{cond, _&&_};
 ghost use Prim.Native.Nat.{_+_, _<_};
-ghost use lib.ListN.{take};
+ghost use lib.ListN.{getD};
+ghost use Rattle.lists.specs.Lent.{was, is};
 ghost use Rattle.lists.specs.Walk as lists;
+ghost use Rattle.rows.specs.Bytes.{Image};
 ghost use Rattle.tags.specs.Views.{ofGlobal, ofLocal, ofQueue, ofClock, mappedLocal};
 ghost use Rattle.tags.specs.Tags.{toGlobal};
-ghost use Rattle.key_set.specs.Sets.{noKeys, wordCount};
 ghost use Rattle.machine.specs.Table.{setOf};
 ghost use Rattle.machine.specs.Transition.{isTag};
-ghost use Rattle.machine.specs.Machine.{keysOk, toRoot};
-ghost use Rattle.slots.specs.Slots.{eventsOf};
-ghost use Rattle.scopes.specs.Scopes.{scopesOf};
-ghost use Rattle.lens.specs.Lens.{Waits};
-ghost use Rattle.pushes.specs.Pushes.{madeOf, actionOf, rootMade, localTagIn, placedIn, actionMade, pushOf, Pushes};
+ghost use Rattle.machine.specs.State.{State};
+ghost use Rattle.machine.specs.Machine.{keysOk, rootMade, toRoot, localTag, actionEvent, actionPlaced, actionMade, perform, plain, network, control};
+ghost use Rattle.scopes.specs.Scopes.{scopesOf, blank};
+ghost use Rattle.lens.specs.Lens.{Queued, Waits, Shows};
+ghost use Rattle.pushes.specs.Pushes.{madeOf, scopeFor, callOf, pushed, Pushes};
 use key_set::KeySet;
 use lens::Counts;
 use queue::Accepted;
+use refusals::Outcome;
 use refusals::Refusal;
 use slots::Slot;
 use tags::GlobalTag;
@@ -26,11 +28,6 @@ use tags::MappedGlobal;
 use tags::MappedLocal;
 use tags::QueueTag;
 use tags::ScopeClock;
-
-pub enum Outcome {
-    Done,
-    Refused(Refusal),
-}
 
 // What a push answers, and what waits then.
 pub struct Pushed {
@@ -77,7 +74,7 @@ fn both(a: bool, b: bool) -> bool
 }
 
 fn keys_of(image: &[u8], keys: &[u16]) -> Keyed
-    ensures { λ r. ⌜ (r .known ≡ keysOk (now (image .entry)) (now (keys .entry))) × (r .set .words ≡ setOf (now (keys .entry))) ⌝ }
+    ensures { λ r. ⌜ (r .known ≡ keysOk (was image) (was keys)) × (r .set .words ≡ setOf (was keys)) ⌝ }
 {
     let n = rows::count(image, rows::REACTION);
     let mut known = true;
@@ -146,7 +143,7 @@ fn maps(clock: ScopeClock, x: LocalTag) -> bool
 
 // The scope's local tag; 7 if it overruns, or in an active scope its global image.
 fn local_tag(scopes: &[u64; scopes::ROOM], i: u16, t: GlobalTag) -> MappedLocal
-    ensures { λ r. ⌜ mappedLocal r ≡ localTagIn (scopesOf (now (scopes .entry))) i (ofGlobal t) ⌝ }
+    ensures { λ r. ⌜ mappedLocal r ≡ localTag (getD (scopesOf (was scopes)) i blank) (ofGlobal t) ⌝ }
 {
     let s = scopes::scope_at(scopes, i as usize);
     let clock = s.clock;
@@ -166,7 +163,7 @@ fn local_tag(scopes: &[u64; scopes::ROOM], i: u16, t: GlobalTag) -> MappedLocal
 
 // The action's events lie in the root's queue.
 fn to_root(image: &[u8], action: u16) -> bool
-    ensures { λ r. ⌜ r ≡ toRoot (now (image .entry)) action ⌝ }
+    ensures { λ r. ⌜ r ≡ toRoot (was image) action ⌝ }
 {
     if !rows::is_logical(image, action) {
         return true;
@@ -180,7 +177,7 @@ fn to_root(image: &[u8], action: u16) -> bool
 }
 
 fn action_slot(p: ActionPush, set: KeySet, queue: u16, x: QueueTag) -> Made
-    ensures { λ r. ⌜ madeOf r ≡ lists.done (actionOf queue (p .action) (ofQueue x) (ofGlobal (p .tag)) (p .terminal) (set .words)) ⌝ }
+    ensures { λ r. ⌜ madeOf r ≡ lists.done (actionEvent queue (p .action) (ofQueue x) (ofGlobal (p .tag)) (p .terminal) (set .words)) ⌝ }
 {
     let stored = p.tag;
     let slot = Slot {
@@ -201,7 +198,7 @@ fn action_slot(p: ActionPush, set: KeySet, queue: u16, x: QueueTag) -> Made
 
 // To the root, or to its scope at the local tag.
 fn placed(image: &[u8], scopes: &[u64; scopes::ROOM], p: ActionPush, set: KeySet) -> Made
-    ensures { λ r. ⌜ madeOf r ≡ placedIn (now (image .entry)) (scopesOf (now (scopes .entry))) (p .action) (ofGlobal (p .tag)) (p .terminal) (set .words) ⌝ }
+    ensures { λ r. ⌜ madeOf r ≡ actionPlaced (was image) (scopeFor (was image) (was scopes) (p .action)) (p .action) (ofGlobal (p .tag)) (p .terminal) (set .words) ⌝ }
 {
     let t = p.tag;
     if to_root(image, p.action) {
@@ -219,7 +216,7 @@ fn placed(image: &[u8], scopes: &[u64; scopes::ROOM], p: ActionPush, set: KeySet
 }
 
 fn action_made(image: &[u8], scopes: &[u64; scopes::ROOM], p: ActionPush, keyed: Keyed) -> Made
-    ensures { λ r. ⌜ madeOf r ≡ actionMade (now (image .entry)) (scopesOf (now (scopes .entry))) (p .action) (ofGlobal (p .tag)) (p .terminal) (keyed .known) (keyed .set .words) ⌝ }
+    ensures { λ r. ⌜ madeOf r ≡ actionMade (was image) (scopeFor (was image) (was scopes) (p .action)) (p .action) (ofGlobal (p .tag)) (p .terminal) (keyed .known) (keyed .set .words) ⌝ }
 {
     let t = p.tag;
     let set = keyed.set;
@@ -248,7 +245,7 @@ fn tallied(ordinary: bool, work: usize) -> usize
 // The event comes last, or 8; or it was refused before.
 fn give(events: &mut [u64; slots::ROOM], counts: Counts, made: Made) -> Pushed
     requires { ⌜ Waits (now events) counts ⌝ }
-    ensures { λ r. ⌜ Pushes (pushOf (take (counts .waiting) (eventsOf (now (events .entry)))) (counts .work) (madeOf made)) r (now (events .exit)) ⌝ }
+    ensures { λ r. ⌜ ((s : State) → Queued (s .waiting) (s .work) (was events) counts → Pushes (pushed s (madeOf made)) r (is events)) ⌝ }
 {
     let before = made.outcome;
     match before {
@@ -290,7 +287,7 @@ pub fn push_event(
     keys: &[u16],
 ) -> Pushed
     requires { ⌜ Waits (now events) counts ⌝ }
-    ensures { λ r. ⌜ Pushes (pushOf (take (counts .waiting) (eventsOf (now (events .entry)))) (counts .work) (rootMade (keysOk (now (image .entry)) (now (keys .entry))) (ofGlobal tag) (setOf (now (keys .entry))) terminal false false)) r (now (events .exit)) ⌝ }
+    ensures { λ r. ⌜ ((s : State) → Queued (s .waiting) (s .work) (was events) counts → Pushes (perform (was image) s (plain (ofGlobal tag) terminal (was keys))) r (is events)) ⌝ }
 {
     let keyed = keys_of(image, keys);
     let p = RootPush {
@@ -311,7 +308,7 @@ pub fn push_network_event(
     keys: &[u16],
 ) -> Pushed
     requires { ⌜ Waits (now events) counts ⌝ }
-    ensures { λ r. ⌜ Pushes (pushOf (take (counts .waiting) (eventsOf (now (events .entry)))) (counts .work) (rootMade (keysOk (now (image .entry)) (now (keys .entry))) (ofGlobal tag) (setOf (now (keys .entry))) false false true)) r (now (events .exit)) ⌝ }
+    ensures { λ r. ⌜ ((s : State) → Queued (s .waiting) (s .work) (was events) counts → Pushes (perform (was image) s (network (ofGlobal tag) (was keys))) r (is events)) ⌝ }
 {
     let keyed = keys_of(image, keys);
     let p = RootPush {
@@ -327,7 +324,7 @@ pub fn push_network_event(
 // A control event has no reactions.
 pub fn push_control_event(events: &mut [u64; slots::ROOM], counts: Counts, tag: GlobalTag) -> Pushed
     requires { ⌜ Waits (now events) counts ⌝ }
-    ensures { λ r. ⌜ Pushes (pushOf (take (counts .waiting) (eventsOf (now (events .entry)))) (counts .work) (rootMade true (ofGlobal tag) (noKeys wordCount) false true false)) r (now (events .exit)) ⌝ }
+    ensures { λ r. ⌜ ((img : Image) (s : State) → Queued (s .waiting) (s .work) (was events) counts → Pushes (perform img s (control (ofGlobal tag))) r (is events)) ⌝ }
 {
     let none = KeySet::empty();
     let keyed = Keyed {
@@ -353,7 +350,7 @@ pub fn push_action_event(
     keys: &[u16],
 ) -> Pushed
     requires { ⌜ Waits (now events) counts ⌝ }
-    ensures { λ r. ⌜ Pushes (pushOf (take (counts .waiting) (eventsOf (now (events .entry)))) (counts .work) (actionMade (now (image .entry)) (scopesOf (now (scopes .entry))) (push .action) (ofGlobal (push .tag)) (push .terminal) (keysOk (now (image .entry)) (now (keys .entry))) (setOf (now (keys .entry))))) r (now (events .exit)) ⌝ }
+    ensures { λ r. ⌜ ((s : State) → Queued (s .waiting) (s .work) (was events) counts → Shows s (was scopes) → Pushes (perform (was image) s (callOf push (was keys))) r (is events)) ⌝ }
 {
     let keyed = keys_of(image, keys);
     let made = action_made(image, scopes, push, keyed);

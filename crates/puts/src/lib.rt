@@ -1,4 +1,5 @@
-// Bytes and numbers put into a lent buffer one behind the other. Total: past the buffer's end nothing is written.
+// Bytes and numbers put into a lent buffer one behind the other: document 01, "Big-endian". Total: past the buffer's end nothing is written.
+// The order of a written number's bytes is in `put_number`; lines, images and exports are written by these functions.
 ghost use mathlib.Core.List.{_∷_, []};
 ghost use Prim.Native.Nat.{_+_, _-_, _≤_};
 ghost use lib.ListN.{length, take, drop};

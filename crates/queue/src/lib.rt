@@ -1,10 +1,12 @@
-// Waiting events in lent rows: accepting, the least tag of each queue, gathering and taking out.
-// Document 01, "The plain machine"; the Rust's sched/queue.rs.
+// Waiting events in lent rows: document 01, "Events lie in a root queue and one local queue per scope". The Rust's sched/queue.rs.
+// An event joins the rows by `accept` (8) alone, and leaves them by `remove`, or by `take_out` of ready. Each queue's least tag is worked out by `heads`
+// and kept by `grow` and `renew`.
 ghost use mathlib.Core.Path.{_≡_};
 ghost use Prim.Native.Nat.{_+_, _≤_, _<_};
 ghost use lib.ListN.{length, getD, set, take};
 ghost use Rattle.lists.specs.Lists.{lose, keep, count};
 ghost use Rattle.lists.specs.Lists as lists;
+ghost use Rattle.lists.specs.Lent.{was, is};
 ghost use Rattle.lists.specs.Lay.{lay};
 ghost use Rattle.machine.specs.State.{Event, mostWaiting, ordinary, atHead};
 ghost use Rattle.machine.specs.Heads.{noTag, least, lesser};
@@ -113,7 +115,7 @@ fn put_none(heads: &mut [u64; HEADS], k: usize)
 // One event more; where its queue has an earlier one nothing is written.
 fn note(heads: &mut [u64; HEADS], d: Due)
     requires { ⌜ Whole (now heads) ⌝ }
-    ensures { λ _. ⌜ Held (now (heads .exit)) (set (leastsOf (now (heads .entry))) (entryOf (d .queue)) (lesser (ofQueue (d .tag)) (getD (leastsOf (now (heads .entry))) (entryOf (d .queue)) noTag))) ⌝ }
+    ensures { λ _. ⌜ Held (is heads) (set (leastsOf (was heads)) (entryOf (d .queue)) (lesser (ofQueue (d .tag)) (getD (leastsOf (was heads)) (entryOf (d .queue)) noTag))) ⌝ }
 {
     let k = entry_of(d.queue);
     let t = d.tag;

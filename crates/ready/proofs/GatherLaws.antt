@@ -126,15 +126,10 @@ module _ (keys out : List ℕ) (g : Gathering) (n m : ℕ) (e : Event) (h : n < 
   pub added :
       {t w k : Bool} {ws : List ℕ} → g .actions ≡ take n keys → t ≡ (g .terminal || e .terminal) → w ≡ (g .work || ordinary e) → k ≡ (g .network || e .network) →
       ws ≡ unionOf (g .reactions) (e .reactions) →
-      record { terminal = t; work = w; network = k; reactions = ws; actions = take m out } ≡ addedTo g e
+      (record { terminal = t; work = w; network = k; reactions = ws; actions = take m out } ≡ addedTo g e) × ((m ≤ n + 1) × Grown n m keys out)
   unfolding addedTo
-  added l p q r s = rw (p, q, r, s, a, b, l, keys-added keys n e h)
-
-  pub added-near : m ≤ n + 1
-  added-near = rw a (count-near keys n (e .action))
-
-  pub added-grown : Grown n m keys out
-  added-grown = rw (a, b) (keys-grown keys n (e .action))
+  added l p q r s =
+      (rw (p, q, r, s, a, b, l, keys-added keys n e h), (rw a (count-near keys n (e .action)), rw (a, b) (keys-grown keys n (e .action))))
 
 -- ---- the loop's state: what was gathered of the first i events, and how many keys at most
 

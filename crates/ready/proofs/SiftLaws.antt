@@ -39,15 +39,15 @@ unfolding lose leastOf
 sifting-none q p ws n g keys h =
     record { before = omega arith; grown = grown-none (g .actions) keys; taken = T.taken-none p ws h; going = going-none p (eventsOf ws) (gatheringOf g keys) (g .actions); least = refl }
 
-module _ (q : ℕ) (p : Event → Bool) (ws : List ℕ) (n : ℕ) (f : Gathered) (was : List ℕ) (i w k : ℕ) (low : Earliest) (out : List ℕ) (g : Gathered)
-    (keys : List ℕ) (s : Sifting q p ws n f was i w k low out g keys) where
+module _ {q : ℕ} {p : Event → Bool} {ws : List ℕ} {n : ℕ} {f : Gathered} {was : List ℕ} {i w k : ℕ} {low : Earliest} {out : List ℕ} {g : Gathered} {keys : List ℕ}
+    (s : Sifting q p ws n f was i w k low out g keys) where
   pub sifting-room : w ≤ i
   sifting-room = T.taken-room p ws i w k out (s .taken)
 
   pub sifting-keys : i < n → f .actions + n ≤ mostWaiting → g .actions < mostWaiting
   sifting-keys b r = omega (arith, going-room p (eventsOf ws) (gatheringOf f was) (f .actions) i (gatheringOf g keys) (g .actions) (s .going))
 
-  module _ (b : i < n) (o : n ≤ mostWaiting) (e : Event) (r : e ≡ getD (eventsOf out) i blank) (x : Bool) (t : x ≡ p e) where
+  module _ (b : i < n) (o : n ≤ mostWaiting) {e : Event} (r : e ≡ getD (eventsOf out) i blank) {x : Bool} (t : x ≡ p e) where
     original : e ≡ getD (eventsOf ws) i blank
     original = T.original p ws n i w k out b o (s .taken) e r x t
 
@@ -55,9 +55,9 @@ module _ (q : ℕ) (p : Event → Bool) (ws : List ℕ) (n : ℕ) (f : Gathered)
     inside = let l = events-long ws in omega arith
 
     pub sifting-goes :
-        (y : ℕ) (a : Gathered) (more : List ℕ) → x ≡ true → y ≡ oneIf (ordinary e) → y < 2 → gatheringOf a more ≡ addedTo (gatheringOf g keys) e →
+        {y : ℕ} (a : Gathered) (more : List ℕ) → x ≡ true → y ≡ oneIf (ordinary e) → y < 2 → gatheringOf a more ≡ addedTo (gatheringOf g keys) e →
         a .actions ≤ g .actions + 1 → Grown (g .actions) (a .actions) keys more → Sifting q p ws n f was (i + 1) w (k + y) low out a more
-    sifting-goes y a more c d z v u m =
+    sifting-goes {y} a more c d z v u m =
         record {
           before = omega arith;
           grown = grown-then (s .grown) m;
@@ -66,7 +66,7 @@ module _ (q : ℕ) (p : Event → Bool) (ws : List ℕ) (n : ℕ) (f : Gathered)
           least = s .least ∙ ap (leastOf q) (sym (goes-more (eventsOf ws) i inside p (rw original at (sym t ∙ c))));
         }
 
-    module _ (next : List ℕ) (c : x ≡ false) (v : Held next (set (eventsOf out) w (getD (eventsOf out) i blank))) (y : Bool) (l : y ≡ isLower q (ofEarliest low) e) where
+    module _ {next : List ℕ} (c : x ≡ false) (v : Held next (set (eventsOf out) w (getD (eventsOf out) i blank))) {y : Bool} (l : y ≡ isLower q (ofEarliest low) e) where
       one-more : leastOf q (lose p (take i (eventsOf ws)) ++ (e ∷ [])) ≡ leastOf q (lose p (take (i + 1) (eventsOf ws)))
       one-more = ap (leastOf q) (rw original (sym (stays-more (eventsOf ws) i inside p (rw original at (sym t ∙ c)))))
 

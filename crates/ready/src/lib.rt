@@ -1,4 +1,5 @@
-// What a pop gathers from the events that it takes: document 01, "Pop at peek tag t".
+// What a pop gathers from the events that it takes: document 01, "union of reactions, terminal, some ordinary work, network by "or", and each action key
+// once, in order of taking". A new part of a ready event comes in here: in `Gathered`, in `add`, and in `Gathering` of specs/.
 ghost use mathlib.Core.Path.{_≡_};
 ghost use mathlib.Core.Bool.{_||_};
 ghost use Prim.Native.Nat.{_+_, _≤_, _<_};

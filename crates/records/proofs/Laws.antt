@@ -19,7 +19,8 @@ use Rattle.tags.specs.Tags.{Tag, at}
 use Rattle.tags.specs.Views.{ofGlobal}
 use Rattle.tags.specs.declared.GlobalTag.{GlobalTag}
 use Rattle.machine.specs.Machine as M
-use Rattle.records.specs.Records.{Record, call, malformed, version, mostKeys, mostBytes, tagAt, isBit, isOne, isZero, keyAt, keysAt, keysFill, plainOf, networkOf, controlOf, actionOf, transitionOf, popOf, opOf, bodyOf, formed, isFormed, counts, broken, missing, lengthOf}
+use Rattle.records.specs.Records.{Record, call, malformed, version, mostKeys, mostBytes, tagAt, isBit, isOne, isZero, keyAt, keysAt, keysFill, plainOf}
+use Rattle.records.specs.Records.{networkOf, controlOf, actionOf, transitionOf, popOf, opOf, bodyOf, formed, isFormed, counts, broken, missing, lengthOf}
 use Rattle.records.specs.Views.{ofParsed, form, formOf, keyCount, Parses, Filled}
 use Rattle.records.specs.declared.Form.{Form}
 use Rattle.records.specs.declared.Parsed.{Parsed}
@@ -388,7 +389,9 @@ module _ (b : List ℕ) where
 
 pub ruleset lengths = (length-missing, length-short, length-counts, length-over)
 
+pub ruleset well = (plain-yes, network-yes, control-yes, action-yes, transition-yes, pop-yes)
+
 -- by the op's tests: well formed, or not
-pub ruleset ops = (plain-yes, network-yes, control-yes, action-yes, transition-yes, pop-yes, plain-not, network-not, control-not, action-not, transition-not, pop-not, plain-fill, network-fill, action-fill, flag)
+pub ruleset ops = (well, plain-not, network-not, control-not, action-not, transition-not, pop-not, plain-fill, network-fill, action-fill, flag)
 
 pub ruleset bodies = (op-1, op-2, op-3, op-4, op-5, op-6, no-op, version-yes, version-no)

@@ -7,7 +7,8 @@ use Rattle.lists.specs.Rows.{tab}
 use Rattle.rows.specs.Bytes.{be}
 use Rattle.tags.specs.Tags.{at}
 use Rattle.machine.specs.Machine.{plain, pop}
-use Rattle.records.specs.Records.{Record, call, malformed, cut, tagAt, isBit, isOne, isZero, keysAt, keysFill, plainOf, networkOf, controlOf, actionOf, transitionOf, popOf, opOf, bodyOf, lengthOf, lengthAt, recordAt, recordsIn, recordsFrom}
+use Rattle.records.specs.Records.{Record, call, malformed, cut, tagAt, isBit, isOne, isZero, keysAt, keysFill, plainOf, networkOf, controlOf}
+use Rattle.records.specs.Records.{actionOf, transitionOf, popOf, opOf, bodyOf, lengthOf, lengthAt, recordAt, recordsIn, recordsFrom}
 
 abbrev pub plain50 : List ℕ
 plain50 = 0 ∷ 0 ∷ 0 ∷ 19 ∷ 1 ∷ 1 ∷ 0 ∷ 0 ∷ 0 ∷ 0 ∷ 0 ∷ 0 ∷ 0 ∷ 5 ∷ 0 ∷ 0 ∷ 0 ∷ 0 ∷ 0 ∷ 0 ∷ 1 ∷ 0 ∷ 0 ∷ []

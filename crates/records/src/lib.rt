@@ -1,5 +1,6 @@
-// The records of a gate day: document 01, "The bench program". A record is parsed from exactly the bytes that its length counts.
+// The records of a gate day: document 01, "length 4, version 1 (holding 1), op 1, operands". One is parsed from exactly the bytes that its length counts.
 // Total on bytes: a call, or malformed. Any tag and any key is well formed; whether the table has them is for the call.
+// A new op comes in here: `Parsed`, `form_of`, `parse_op`, and `opOf` of specs/. The rescue goes by the same test, `is_formed`.
 ghost use mathlib.Core.Path.{_≡_};
 ghost use mathlib.Core.Bool.{true};
 ghost use Prim.Native.Nat.{ℕ};

@@ -1,4 +1,5 @@
-// What a call answers instead of its result: document 01, "Numbers of refusal".
+// What a call answers instead of its result: document 01, "Numbers of refusal"; and `Outcome`, done or a refusal, the only one there is.
+// A new number comes in here: a case of `Refusal`, in `number_of` and in `numberOf`. Images and records have types of their own.
 ghost use mathlib.Core.Path.{_≡_};
 ghost use Rattle.refusals.specs.Refusals.{numberOf};
 
@@ -18,6 +19,12 @@ pub enum Refusal {
     TargetMode,
     // the state handed in breaks a state rule
     StateRule,
+}
+
+// Done, or the refusal.
+pub enum Outcome {
+    Done,
+    Refused(Refusal),
 }
 
 // The refusal's number in document 01.

@@ -15,7 +15,8 @@ use Rattle.lists.specs.Lists.{every}
 use Rattle.lists.specs.Tests.{same?, which, yes-no}
 use Rattle.rows.specs.Bytes.{be}
 use Rattle.machine.specs.Machine.{Call}
-use Rattle.records.specs.Records.{Record, version, mostBytes, isBit, keysFill, call, malformed, cut, over, Length, counts, broken, missing, formed, isFormed, plainOf, networkOf, controlOf, actionOf, transitionOf, popOf, opOf, bodyOf, lengthOf, lengthAt, recordOf, recordAt, behind, goesOn, recordsFrom}
+use Rattle.records.specs.Records.{Record, version, mostBytes, isBit, keysFill, call, malformed, cut, over, Length, counts, broken, missing, formed, isFormed, plainOf}
+use Rattle.records.specs.Records.{networkOf, controlOf, actionOf, transitionOf, popOf, opOf, bodyOf, lengthOf, lengthAt, recordOf, recordAt, behind, goesOn, recordsFrom}
 use Rattle.records.proofs.DayLaws.{record-there, records-step, records-behind}
 use Rattle.records.proofs.FormedLaws.{Formed, formed-at, at-end, next-due}
 use Rattle.gate_day.proofs.WholeLaws.{over-rests}

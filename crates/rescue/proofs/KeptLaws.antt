@@ -46,7 +46,10 @@ module _ (r : Run) (rs : List Run) where
   unfolding without
   first-without s i h =
       ⊎-elim
-      (λ e. let p : r .place ≡ past r = omega (arith, e) in let g : i - r .length ≡ i = omega (arith, e) in rw (eq-eqb (r .length) 0 e) (ap (λ n. without (r .place) rs (drop n s)) g ∙ ap (λ n. without n rs (drop i s)) p))
+      (λ e.
+      let p : r .place ≡ past r = omega (arith, e) in
+      let g : i - r .length ≡ i = omega (arith, e) in
+      rw (eq-eqb (r .length) 0 e) (ap (λ n. without (r .place) rs (drop n s)) g ∙ ap (λ n. without n rs (drop i s)) p))
       (λ e.
       let z : r .place - r .place ≡ 0 = omega arith in
       let d : past r - r .place ≡ r .length = omega arith in

@@ -15,7 +15,8 @@ use Rattle.puts.specs.Written.{Written}
 use Rattle.puts.proofs.WrittenLaws.{written-none, written-then, written-as, written-long}
 use Rattle.rescue.specs.declared.Run.{Run}
 use Rattle.rescue.specs.declared.Piece.{Piece}
-use Rattle.rescue.specs.Rescue.{run, past, listed, Walk, stopped, before, between, walk, closed, runBytes, listRoom, mostPlace, roomy, Answered, answered, told as tell, lastPlace, piecing}
+use Rattle.rescue.specs.Rescue.{run, past, listed, Walk, stopped, before, between, walk, closed, runBytes, listRoom}
+use Rattle.rescue.specs.Rescue.{mostPlace, roomy, Answered, answered, told as tell, untouched, lastPlace, piecing}
 use Rattle.rescue.specs.Places.{Stands, Passed, Skipped, Stretched}
 use Rattle.rescue.proofs.WalkLaws.{walk-stops, walk-passes, before-before}
 use Rattle.rescue.proofs.ListLaws.{run-append, run-long}
@@ -163,9 +164,9 @@ module _ (s : List ℕ) (end : ℕ) (e : end ≤ length s) (r : Run) (out₀ lis
 -- ---- by the room
 
 module _ (s : List ℕ) (last : Bool) (r : Run) (out list : List ℕ) {b : Bool} (e : b ≡ roomy (length s) r (length out) (length list)) where
-  pub piece-none : b ≡ false → answered (record { used = 0; written = 0; listed = 0; records = 0; pending = r }) out list ≡ piecing s last r out list
+  pub piece-none : {p : Piece} → b ≡ false → p ≡ untouched r → answered p out list ≡ piecing s last r out list
   unfolding piecing runBytes
-  piece-none h = rw (sym e ∙ h)
+  piece-none h q = rw (q, sym e ∙ h)
 
   module _ (h : b ≡ true) {end : ℕ} (g : end ≡ lastPlace last (length s)) {p : Answered Piece} where
     pub piece-last : last ≡ true → p ≡ tell (closed true (walk s end 0 r)) out list → p ≡ piecing s last r out list

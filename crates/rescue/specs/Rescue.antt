@@ -119,6 +119,10 @@ told w out list =
     answered (record { used = w .at; written = length (w .kept); listed = length (runBytes (w .dropped)); records = w .records; pending = w .pending })
     (sets out 0 (w .kept)) (sets list 0 (runBytes (w .dropped)))
 
+-- nothing of it is done
+abbrev pub untouched : Run → Piece
+untouched r = record { used = 0; written = 0; listed = 0; records = 0; pending = r }
+
 -- where the longest record may not be there whole, more bytes are waited for, unless these are the last
 abbrev pub lastPlace : Bool → ℕ → ℕ
 lastPlace last n = cond last n (n - (mostBytes + 3))

@@ -1,6 +1,6 @@
-// What is still whole of a damaged gate day: document 02, C-23. The bytes behind the image come in pieces of any size; the kept ones go over the front
-// of a lent slice, and the dropped runs, by place and length, over the front of another. What is well formed is said in crate records alone.
-// A byte is looked at from at most twelve places, each of them tried at most twice; a kept byte is copied once.
+// What is still whole of a damaged gate day: document 02, C-23, "it takes each record that is well formed by 01's rules". The bytes behind the image
+// come in pieces of any size; the kept ones go over the front of a lent slice, the dropped runs, by place and length, over another. What is well formed
+// is said in crate records alone. A byte is looked at from at most twelve places, each tried at most twice; a kept byte is copied once.
 ghost use mathlib.Core.Path.{_≡_};
 ghost use mathlib.Core.Bool.{true};
 ghost use Prim.Native.Nat.{_+_, _≤_, _<_};
@@ -258,6 +258,19 @@ fn last_place(last: bool, n: usize) -> usize
     n - AHEAD
 }
 
+// Nothing of a piece is done.
+fn untouched(pending: Run) -> Piece
+    ensures { λ r. ⌜ r ≡ rules.untouched pending ⌝ }
+{
+    Piece {
+        used: 0,
+        written: 0,
+        listed: 0,
+        records: 0,
+        pending,
+    }
+}
+
 // A piece of the bytes behind the image, from a pending run on, which ends where they begin; `last` says that no more will come. Of a piece that has too
 // little room in the output (as many bytes) or in the list (16 and 3 for each byte) nothing is done.
 pub fn rescue_piece(
@@ -270,13 +283,7 @@ pub fn rescue_piece(
     ensures { λ r. ⌜ answered r (now (out .exit)) (now (list .exit)) ≡ piecing (now (bytes .entry)) last pending (now (out .entry)) (now (list .entry)) ⌝ }
 {
     if !roomy(bytes.len(), pending, out.len(), list.len()) {
-        return Piece {
-            used: 0,
-            written: 0,
-            listed: 0,
-            records: 0,
-            pending,
-        };
+        return untouched(pending);
     }
     let end = last_place(last, bytes.len());
     let mut at: usize = 0;

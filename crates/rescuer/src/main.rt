@@ -1,7 +1,7 @@
-// The program of ./rescue: a damaged gate day from standard input, its image and kept records to standard output, a line for each dropped run to
-// standard error, and to descriptor 4 one line of what it came to: "rescued RECORDS BYTES RUNS" (the records kept, the bytes and the runs dropped),
-// the table's refusal in the bench's words, or "unread", "unwritten" or "untold" where a read, a write or the list's write failed.
-// A file of any size runs in the memory of a small one.
+// The program of ./rescue, document 02, C-23, "A tool copies what still reads": a damaged gate day from standard input, its image and kept records to
+// standard output, a line for each dropped run to standard error, and to descriptor 4 one line of what it came to: "rescued RECORDS BYTES RUNS" (the
+// records kept, the bytes and the runs dropped), the table's refusal in the bench's words, or "unread", "unwritten" or "untold" where a read, a write or
+// the list's write failed. A file of any size runs in the memory of a small one. What is kept is rescue's.
 ghost use mathlib.Core.Path.{_≡_};
 ghost use Prim.Native.Nat.{_≤_};
 ghost use lib.ListN.{length};
@@ -109,6 +109,31 @@ fn added(sum: u64, more: usize) -> u64 {
     std::num::wrapping_add_u64(sum, more as u64)
 }
 
+// One piece more.
+fn summed(sums: Sums, records: usize, dropped: usize, listed: usize) -> Sums {
+    let records = added(sums.records, records);
+    let dropped = added(sums.dropped, dropped);
+    let runs = added(sums.runs, listed / rescue::RUN_BYTES);
+    Sums {
+        records,
+        dropped,
+        runs,
+    }
+}
+
+// What a piece kept goes out, and a line for each run that it dropped; a write that fails is said.
+fn put_out(kept: &[u8], list: &[u8]) -> bool {
+    if !io::write_all(STDOUT_FILENO, kept) {
+        say(b"unwritten\n");
+        return false;
+    }
+    if !say_runs(list) {
+        say(b"untold\n");
+        return false;
+    }
+    true
+}
+
 // The records, piece by piece, from `start` on; `first` of the buffer's bytes are there.
 fn run(input: &mut [u8], first: Filled, start: usize)
     requires { ⌜ (length (now input) ≡ 65536) × (start ≤ first .total) × (first .total ≤ 65536) ⌝ }
@@ -121,9 +146,11 @@ fn run(input: &mut [u8], first: Filled, start: usize)
         place: start as u64,
         length: 0,
     };
-    let mut records: u64 = 0;
-    let mut dropped: u64 = 0;
-    let mut runs: u64 = 0;
+    let mut sums = Sums {
+        records: 0,
+        dropped: 0,
+        runs: 0,
+    };
     let mut turns: u64 = 1000000000000000;
     while 0 < turns {
         turns -= 1;
@@ -143,23 +170,12 @@ fn run(input: &mut [u8], first: Filled, start: usize)
         pending = piece.pending;
         let written = piece.written;
         let listed = piece.listed;
-        if !io::write_all(STDOUT_FILENO, &output[..written]) {
-            say(b"unwritten\n");
+        if !put_out(&output[..written], &list[..listed]) {
             return;
         }
-        if !say_runs(&list[..listed]) {
-            say(b"untold\n");
-            return;
-        }
-        records = added(records, piece.records);
-        dropped = added(dropped, piece.used - written);
-        runs = added(runs, listed / rescue::RUN_BYTES);
+        sums = summed(sums, piece.records, piece.used - written, listed);
         if last {
-            say_sums(Sums {
-                records,
-                dropped,
-                runs,
-            });
+            say_sums(sums);
             return;
         }
         let left = puts::shift(input, from + piece.used, total);

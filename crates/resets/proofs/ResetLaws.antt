@@ -22,21 +22,23 @@ use Rattle.rows.specs.Rows.{actionScope, isLogical}
 use Rattle.tags.specs.Tags.{Clock, freshClock}
 use Rattle.table.specs.Check.{isTable}
 use Rattle.key_set.specs.Sets.{has}
-use Rattle.store.specs.Store.{Store, cleared, ofAction, bucketOf}
+use Rattle.store.specs.Store as S
+use Rattle.store.specs.Store.{Store, ofAction, bucketOf}
 use Rattle.store_calls.specs.declared.Counts as store
 use Rattle.store_calls.specs.Lent.{storeOf, Laid}
 use Rattle.machine.specs.Table.{scopes, actions}
-use Rattle.machine.specs.State.{Event, State, mostWaiting, ordinary, without, withModes, withClocks, withStore}
-use Rattle.machine.specs.Transition.{dropped, zeroed, resetClocks, resetStore, resetModes, step1}
+use Rattle.machine.specs.State.{Event, State, mostWaiting, ordinary, without, withModes, withScopes, withStore}
+use Rattle.machine.specs.Transition.{dropped, resetScopes, resetStore, resetModes, step1}
 use Rattle.slots.specs.Slots as slot
 use Rattle.slots.specs.Slots.{eventsOf}
 use Rattle.scopes.specs.Scopes as scope
 use Rattle.scopes.specs.Scopes.{Scope, mostScopes, scopesOf, blank}
 use Rattle.lens.specs.declared.Counts.{Counts}
-use Rattle.lens.specs.Lens.{Queued, Waits, waits-queued, queued-is, queued-waits, queued-laid, Fits, Scoped, scoped-get, scoped-put, joined, joined-back, Even, joined-length, joined-get}
-use Rattle.plan.proofs.PlanLaws.{few-scopes, map-get}
-use Rattle.plan.specs.Lent.{Holds, Good, queueIn, rowsIn, laid-is, laid-holds}
-use Rattle.resets.specs.Resetting.{droppedIn, zeroedScope, scopeAfter, zeroedScopes, clearStep, scopesReset, rowsReset}
+use Rattle.lens.specs.Lens.{Queued, Waits, waits-queued, queued-is, queued-waits, queued-laid, Fits, Scoped, scoped-get, scoped-put}
+use Rattle.kept.specs.Prepared.{reset-length}
+use Rattle.lens.specs.Holds.{Rows, Holds, most-scopes, scopes-are}
+use Rattle.lens.specs.Parts.{Keeps, queueIn, storeIn, rowsIn, laid-is, laid-holds, holds-are, good-holds}
+use Rattle.resets.specs.Resetting.{droppedIn, zeroedScope, scopeAfter, zeroedScopes, clearStep, rowsReset, cleared}
 
 -- ---- events
 
@@ -126,21 +128,26 @@ module _ (marks : List ℕ) where
 pub taken-long : (img : Image) (ws : List ℕ) → isTable img ≡ true → length (take (scopes img) (scopesOf ws)) ≡ scopes img
 taken-long img ws t =
     let n : length (scopesOf ws) ≡ mostScopes = H.things-length scope.decode scope.encode scope.scopeWords mostScopes scope.encode-long ws in
-    length-take (scopes img) (scopesOf ws) ∙ rw n (min-eq-left (few-scopes img t))
+    length-take (scopes img) (scopesOf ws) ∙ rw n (min-eq-left (most-scopes img t))
+
+-- the rows of a room's scopes
+pub holds-front : (img : Image) (s : State) (r : Rows) → Holds img s r → Scoped (take (scopes img) (scopesOf (r .scopes))) (r .scopes)
+holds-front img s r h = rw (scopes-are img s r h) (h .scoped)
 
 -- ---- values
 
-cleared-fits : (st : Store) (a : ℕ) → Fits st → Fits (cleared st a)
-unfolding cleared
+cleared-fits : (st : Store) (a : ℕ) → Fits st → Fits (S.cleared st a)
+unfolding S.cleared
 cleared-fits st a f = record { values = omega (arith, f .values, lose-shorter (ofAction a) (st .values)); buckets = omega (arith, f .buckets, lose-shorter (bucketOf a) (st .buckets)) }
 
-module _ (img : Image) (marks : List ℕ) (vs bs : List ℕ) (h : store.Counts) (k : Holds vs bs h) (a : ℕ) where
-  pub clear-yes : {b : Bool} (vs-end bs-end : List ℕ) (m : store.Counts) → b ≡ (has marks (actionScope img a) && isLogical img a) → b ≡ true → Laid vs bs h (cleared (storeOf vs bs h) a) vs-end bs-end m →
-      Holds vs-end bs-end m × (storeOf vs-end bs-end m ≡ clearStep img marks (storeOf vs bs h) a)
+module _ (img : Image) (marks : List ℕ) (vs bs : List ℕ) (h : store.Counts) (k : Keeps vs bs h) (a : ℕ) where
+  pub clear-yes : {b : Bool} (vs-end bs-end : List ℕ) (m : store.Counts) → b ≡ (has marks (actionScope img a) && isLogical img a) → b ≡ true →
+      Laid vs bs h (S.cleared (storeOf vs bs h) a) vs-end bs-end m →
+      Keeps vs-end bs-end m × (storeOf vs-end bs-end m ≡ clearStep img marks (storeOf vs bs h) a)
   unfolding clearStep
   clear-yes vs-end bs-end m e f l =
       let g = cleared-fits (storeOf vs bs h) a (k .fits) in
-      (laid-holds vs bs h k (cleared (storeOf vs bs h) a) vs-end bs-end m g l, laid-is vs bs h k (cleared (storeOf vs bs h) a) vs-end bs-end m g l ∙ sym (rw (sym e ∙ f)))
+      (laid-holds vs bs h k (S.cleared (storeOf vs bs h) a) vs-end bs-end m g l, laid-is vs bs h k (S.cleared (storeOf vs bs h) a) vs-end bs-end m g l ∙ sym (rw (sym e ∙ f)))
 
   pub clear-no : {b : Bool} → b ≡ (has marks (actionScope img a) && isLogical img a) → b ≡ false → storeOf vs bs h ≡ clearStep img marks (storeOf vs bs h) a
   unfolding clearStep
@@ -190,49 +197,27 @@ unfolding foldl
 fold-nothing f h [] st = refl
 fold-nothing f h (a ∷ l) st = rw (h st a) (fold-nothing f h l st)
 
-pub reset-at : (ins : List Bool) (ks : List Clock) (k : ℕ) (d : Clock) → k < length ks → getD (resetClocks ins ks) k d ≡ cond (getD ins k false) (zeroed (getD ks k d)) (getD ks k d)
-unfolding resetClocks
-reset-at [] ks k d h = refl
+pub reset-at : (ins : List Bool) (ss : List Scope) (k : ℕ) (d : Scope) → k < length ss →
+    getD (resetScopes ins ss) k d ≡ cond (getD ins k false) (zeroedScope (getD ss k d)) (getD ss k d)
+unfolding resetScopes
+reset-at [] ss k d h = refl
 reset-at (true ∷ bs) [] k d h = absurd (omega arith)
 reset-at (false ∷ bs) [] k d h = absurd (omega arith)
-reset-at (true ∷ bs) (x ∷ ks) zero d h = refl
-reset-at (false ∷ bs) (x ∷ ks) zero d h = refl
-reset-at (true ∷ bs) (x ∷ ks) (suc k) d h = reset-at bs ks k d (omega arith)
-reset-at (false ∷ bs) (x ∷ ks) (suc k) d h = reset-at bs ks k d (omega arith)
-
-pub reset-long : (ins : List Bool) (ks : List Clock) → length (resetClocks ins ks) ≡ length ks
-unfolding resetClocks
-reset-long [] ks = refl
-reset-long (true ∷ bs) [] = refl
-reset-long (false ∷ bs) [] = refl
-reset-long (true ∷ bs) (k ∷ ks) = ap suc (reset-long bs ks)
-reset-long (false ∷ bs) (k ∷ ks) = ap suc (reset-long bs ks)
+reset-at (true ∷ bs) (x ∷ ss) zero d h = refl
+reset-at (false ∷ bs) (x ∷ ss) zero d h = refl
+reset-at (true ∷ bs) (x ∷ ss) (suc k) d h = reset-at bs ss k d (omega arith)
+reset-at (false ∷ bs) (x ∷ ss) (suc k) d h = reset-at bs ss k d (omega arith)
 
 module _ (img : Image) (marks : List ℕ) (ins : List Bool) (inner : (i : ℕ) → has marks i ≡ getD ins i false) where
-  reset-even : (ss : List Scope) → Even (length ss) (resetClocks ins (map (λ x. x .clock) ss)) (map (λ x. x .active) ss) (map (λ x. x .ever) ss)
-  reset-even ss = record { clocks = reset-long ins (map (λ x. x .clock) ss) ∙ length-map ss (λ x. x .clock); active = length-map ss (λ x. x .active); ever = length-map ss (λ x. x .ever) }
+  scope-after : (ss : List Scope) (k : ℕ) → k < length ss → scopeAfter marks k (getD ss k blank) ≡ getD (resetScopes ins ss) k blank
+  scope-after ss k h = sym (reset-at ins ss k blank h ∙ rw (← (inner k)))
 
-  scope-after : (ss : List Scope) (k : ℕ) → k < length ss → scopeAfter marks k (getD ss k blank) ≡ getD (scopesReset ins ss) k blank
-  scope-after ss k h =
-      let ks = map (λ x. x .clock) ss in
-      let l : k < length ks = rw (length-map ss (λ x. x .clock)) h in
-      sym
-      (joined-get (length ss) (resetClocks ins ks) (map (λ x. x .active) ss) (map (λ x. x .ever) ss) (reset-even ss) k ∙
-      rw (reset-at ins ks k (freshClock false) l, map-get (λ x. x .clock) ss k, map-get (λ x. x .active) ss k, map-get (λ x. x .ever) ss k, ← (inner k)) (put (has marks k) (getD ss k blank)))
-    where
-      put : (b : Bool) (x : Scope) → record { clock = cond b (zeroed (x .clock)) (x .clock); active = x .active; ever = x .ever } ≡ cond b (zeroedScope x) x
-      put true x = refl
-      put false x = refl
-
-  scopes-after : (ss : List Scope) → zeroedScopes marks ss ≡ scopesReset ins ss
+  scopes-after : (ss : List Scope) → zeroedScopes marks ss ≡ resetScopes ins ss
   scopes-after ss =
       let f : ℕ → Scope = λ i. scopeAfter marks i (getD ss i blank) in
       let n = tab-length f 0 (length ss) in
-      ext-getD blank (zeroedScopes marks ss) (scopesReset ins ss) (n ∙ sym (joined-length (length ss) _ _ _ (reset-even ss)))
+      ext-getD blank (zeroedScopes marks ss) (resetScopes ins ss) (n ∙ sym (reset-length ins ss))
       λ k h. let l : k < length ss = rw n at h in tab-at f (length ss) k blank l ∙ scope-after ss k l
-
-  pub scoped-after : (ss : List Scope) (ws : List ℕ) → Scoped (zeroedScopes marks ss) ws → Scoped (scopesReset ins ss) ws
-  scoped-after ss ws h = subst (λ l. Scoped l ws) (scopes-after ss) h
 
   store-after : (st : Store) → foldl (clearStep img marks) st (from 0 (actions img)) ≡ resetStore img ins st
   unfolding resetStore clearStep
@@ -240,7 +225,12 @@ module _ (img : Image) (marks : List ℕ) (ins : List Bool) (inner : (i : ℕ) �
 
   same-dropped : (s : State) → without (dropped ins) s ≡ droppedIn marks s
   unfolding without dropped
-  same-dropped s = rw (lose-same (dropped ins) (λ e. has marks (e .queue)) (λ e. sym (inner (e .queue))) (s .waiting), keep-same (dropped ins) (λ e. has marks (e .queue)) (λ e. sym (inner (e .queue))) (s .waiting))
+  same-dropped s =
+      rw (
+        lose-same (dropped ins) (λ e. has marks (e .queue)) (λ e. sym (inner (e .queue))) (s .waiting),
+        keep-same (dropped ins) (λ e. has marks (e .queue)) (λ e. sym (inner (e .queue)))
+            (s .waiting),
+      )
 
   -- events and store together
   pub rows-after : (s : State) {u : State} {st : Store} → st ≡ foldl (clearStep img marks) (s .store) (from 0 (actions img)) → droppedIn marks s ≡ u → rowsReset img ins s ≡ withStore u st
@@ -253,19 +243,59 @@ module _ (img : Image) (marks : List ℕ) (ins : List Bool) (inner : (i : ℕ) �
     pub rows-same : (s : State) → rowsReset img ins s ≡ s
     unfolding without dropped resetStore count
     rows-same s =
-        rw (lose-nothing (dropped ins) (λ e. not-in (e .queue)) (s .waiting), keep-nothing (dropped ins) (λ e. not-in (e .queue)) (s .waiting), fold-nothing (λ st a. cond (getD ins (actionScope img a) false && isLogical img a) (cleared st a) st) (λ st a. rw (not-in (actionScope img a))) (from 0 (actions img)) (s .store), sub-zero)
+        rw (
+          lose-nothing (dropped ins) (λ e. not-in (e .queue)) (s .waiting),
+          keep-nothing (dropped ins) (λ e. not-in (e .queue))
+              (s .waiting),
+          fold-nothing (λ st a. cond (getD ins (actionScope img a) false && isLogical img a) (S.cleared st a) st) (λ st a. rw (not-in (actionScope img a)))
+              (from 0 (actions img)) (s .store),
+          sub-zero,
+        )
 
-    scopes-same : (ss : List Scope) → ss ≡ scopesReset ins ss
-    scopes-same ss =
-        ext-getD blank ss (scopesReset ins ss) (sym (joined-length (length ss) _ _ _ (reset-even ss)))
-        λ k h. sym (rw (none k)) ∙ scope-after ss k h
+    pub scopes-same : (ss : List Scope) → ss ≡ resetScopes ins ss
+    scopes-same ss = ext-getD blank ss (resetScopes ins ss) (sym (reset-length ins ss)) λ k h. sym (rw (none k)) ∙ scope-after ss k h
 
-    pub scoped-same : (ss : List Scope) (ws : List ℕ) → Scoped ss ws → Scoped (scopesReset ins ss) ws
-    scoped-same ss ws h = subst (λ l. Scoped l ws) (scopes-same ss) h
+    pub none-cleared : (s : State) → cleared img ins s ≡ s
+    none-cleared s = ap (λ t. withScopes t (resetScopes ins (s .scopes))) (rows-same s) ∙ ap (withScopes s) (sym (scopes-same (s .scopes)))
+
+  -- ---- on the whole room
+
+  module _ (s : State) (r : Rows) (h : Holds img s r) (xs es vs bs : List ℕ) (c : Counts) (k : store.Counts) where
+    abbrev l : List Scope
+    l = resetScopes ins (s .scopes)
+
+    abbrev room : Rows
+    room = record { scopes = xs; events = es; values = vs; buckets = bs; ledger = record { modes = r .ledger .modes; counts = c; held = k } }
+
+    rescoped : Scoped (zeroedScopes marks (take (scopes img) (scopesOf (r .scopes)))) xs →
+        Holds img (withScopes s l) (record { scopes = xs; events = r .events; values = r .values; buckets = r .buckets; ledger = r .ledger })
+    rescoped z =
+        record {
+          table = h .table;
+          moded = h .moded;
+          modes-long = h .modes-long;
+          scoped = subst (λ x. Scoped x xs) (ap (zeroedScopes marks) (scopes-are img s r h) ∙ scopes-after (s .scopes)) z;
+          scopes-long = reset-length ins (s .scopes) ∙ h .scopes-long;
+          queued = h .queued;
+          few = h .few;
+          counted = h .counted;
+          stored = h .stored;
+          fits = h .fits;
+        }
+
+    pub holds-cleared : Scoped (zeroedScopes marks (take (scopes img) (scopesOf (r .scopes)))) xs → Waits es c → Keeps vs bs k →
+        storeOf vs bs k ≡ foldl (clearStep img marks) (storeOf (r .values) (r .buckets) (r .ledger .held)) (from 0 (actions img)) →
+        ((t : State) → droppedIn marks (queueIn t (r .events) (r .ledger .counts)) ≡ queueIn t es c) →
+        Holds img (cleared img ins s) room
+    holds-cleared z w y e d =
+        let old = rowsIn s (r .events) (r .values) (r .buckets) (r .ledger .counts) (r .ledger .held) in
+        let q : rowsReset img ins s ≡ rowsIn s es vs bs c k =
+        ap (rowsReset img ins) (sym (holds-are img s r h)) ∙ rows-after old e (d (storeIn s (r .values) (r .buckets) (r .ledger .held))) in
+        subst (λ t. Holds img (withScopes t l) room) (sym q) (good-holds img (withScopes s l) _ (rescoped z) es vs bs c k (record { waits = w; keeps = y }))
 
 -- ---- the whole step, where the modes are as the definition has them
 
 pub step1-is : (img : Image) (target : ℕ) (ins : List Bool) (s : State) →
-    step1 img target ins s ≡ withModes (withClocks (rowsReset img ins s) (resetClocks ins (s .clocks))) (resetModes img target (s .modes))
+    step1 img target ins s ≡ withModes (withScopes (rowsReset img ins s) (resetScopes ins (s .scopes))) (resetModes img target (s .modes))
 unfolding step1 without
 step1-is img target ins s = refl

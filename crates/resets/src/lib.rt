@@ -1,8 +1,10 @@
-// What a reset clears, on lent rows: document 01, "A transition", step 1. The modes are the plan's.
+// What a reset clears, on the room's rows: document 01, "drop all local events and set L and S to zero; clear the values and buckets".
+// The modes are the plan's. What else a reset clears comes in here, in `reset`, and in the machine's `step1`.
 ghost use mathlib.Core.Path.{_≡_};
 ghost use mathlib.Core.Bool.{true, _&&_};
 ghost use mathlib.Core.List.{map};
 ghost use lib.ListN.{getD, set, take};
+ghost use Rattle.lists.specs.Lent.{was, is};
 ghost use Rattle.lists.specs.Lists.{foldl, from};
 ghost use Rattle.rows.specs.Rows.{actionScope, isLogical};
 ghost use Rattle.key_set.specs.Sets.{has};
@@ -13,25 +15,21 @@ ghost use Rattle.machine.specs.State.{State};
 ghost use Rattle.scopes.specs.Scopes.{scopeOf, scopesOf, blank};
 ghost use Rattle.scopes.specs.Scopes as scope;
 ghost use Rattle.lens.specs.Lens.{Waits, Scoped};
-ghost use Rattle.plan.specs.Plans.{planIn, Inner};
-ghost use Rattle.plan.specs.Lent.{Holds, Good, queueIn, rowsIn};
-ghost use Rattle.resets.specs.Resetting.{droppedIn, zeroedScope, scopeAfter, clearStep, zeroedScopes, scopesReset, rowsReset};
+ghost use Rattle.plan.specs.Plans.{Inner};
+ghost use Rattle.lens.specs.Holds.{rows, were, are, Held};
+ghost use Rattle.lens.specs.Parts.{Keeps, queueIn};
+ghost use Rattle.resets.specs.Resetting.{droppedIn, zeroedScope, scopeAfter, clearStep, zeroedScopes, Resets};
 use entries::BucketRows;
 use entries::ValueRows;
 use key_set::Found;
 use key_set::KeySet;
+use lens::Ledger;
 use plan::Plan;
 use queue::Which;
 use scopes::Scope;
 use tags::LocalTag;
 use tags::QueueTag;
 use tags::ScopeClock;
-
-// How many events wait and how much is held after it.
-pub struct Cleared {
-    pub counts: lens::Counts,
-    pub held: store_calls::Counts,
-}
 
 // ---- events
 
@@ -42,8 +40,8 @@ fn drop_events(
     inside: KeySet,
 ) -> lens::Counts
     requires { ⌜ Waits (now events) counts ⌝ }
-    ensures { λ r. ⌜ Waits (now (events .exit)) r ⌝ }
-    ensures { λ r. ⌜ ((t : State) → droppedIn (inside .words) (queueIn t (now (events .entry)) counts) ≡ queueIn t (now (events .exit)) r) ⌝ }
+    ensures { λ r. ⌜ Waits (is events) r ⌝ }
+    ensures { λ r. ⌜ ((t : State) → droppedIn (inside .words) (queueIn t (was events) counts) ≡ queueIn t (is events) r) ⌝ }
 {
     let which = Which {
         by_tag: false,
@@ -81,7 +79,7 @@ fn zeroed(s: Scope) -> Scope
 // The same in row i, where i is in the set.
 fn zero_if(scopes: &mut [u64; scopes::ROOM], inside: KeySet, i: u16)
     requires { ⌜ scope.Whole (now scopes) ⌝ }
-    ensures { λ _. ⌜ scope.Held (now (scopes .exit)) (set (scopesOf (now (scopes .entry))) i (scopeAfter (inside .words) i (getD (scopesOf (now (scopes .entry))) i blank))) ⌝ }
+    ensures { λ _. ⌜ scope.Held (is scopes) (set (scopesOf (was scopes)) i (scopeAfter (inside .words) i (getD (scopesOf (was scopes)) i blank))) ⌝ }
 {
     let k = i as usize;
     if !inside.contains(k) {
@@ -96,7 +94,7 @@ fn zero_if(scopes: &mut [u64; scopes::ROOM], inside: KeySet, i: u16)
 fn zero_clocks(image: &[u8], scopes: &mut [u64; scopes::ROOM], inside: KeySet)
     requires { ⌜ isTable (now image) ≡ true ⌝ }
     requires { ⌜ Scoped (take (scopesIn (now image)) (scopesOf (now scopes))) (now scopes) ⌝ }
-    ensures { λ _. ⌜ Scoped (zeroedScopes (inside .words) (take (scopesIn (now (image .entry))) (scopesOf (now (scopes .entry))))) (now (scopes .exit)) ⌝ }
+    ensures { λ _. ⌜ Scoped (zeroedScopes (inside .words) (take (scopesIn (was image)) (scopesOf (was scopes)))) (is scopes) ⌝ }
 {
     let n = rows::count(image, rows::SCOPE);
     let mut i: u16 = 0;
@@ -110,7 +108,7 @@ fn zero_clocks(image: &[u8], scopes: &mut [u64; scopes::ROOM], inside: KeySet)
 
 // A logical action whose scope is in the set.
 fn is_cleared(image: &[u8], inside: KeySet, a: u16) -> bool
-    ensures { λ r. ⌜ r ≡ (has (inside .words) (actionScope (now (image .entry)) a) && isLogical (now (image .entry)) a) ⌝ }
+    ensures { λ r. ⌜ r ≡ (has (inside .words) (actionScope (was image) a) && isLogical (was image) a) ⌝ }
 {
     let scope = rows::action_scope(image, a);
     if inside.contains(scope as usize) {
@@ -127,9 +125,9 @@ fn clear_if(
     held: store_calls::Counts,
     a: u16,
 ) -> store_calls::Counts
-    requires { ⌜ Holds (now values) (now buckets) held ⌝ }
-    ensures { λ r. ⌜ Holds (now (values .exit)) (now (buckets .exit)) r ⌝ }
-    ensures { λ r. ⌜ storeOf (now (values .exit)) (now (buckets .exit)) r ≡ clearStep (now (image .entry)) (inside .words) (storeOf (now (values .entry)) (now (buckets .entry)) held) a ⌝ }
+    requires { ⌜ Keeps (now values) (now buckets) held ⌝ }
+    ensures { λ r. ⌜ Keeps (is values) (is buckets) r ⌝ }
+    ensures { λ r. ⌜ storeOf (is values) (is buckets) r ≡ clearStep (was image) (inside .words) (storeOf (was values) (was buckets) held) a ⌝ }
 {
     if is_cleared(image, inside, a) {
         return store_calls::clear(values, buckets, held, a);
@@ -144,9 +142,9 @@ fn clear_actions(
     inside: KeySet,
     held: store_calls::Counts,
 ) -> store_calls::Counts
-    requires { ⌜ Holds (now values) (now buckets) held ⌝ }
-    ensures { λ r. ⌜ Holds (now (values .exit)) (now (buckets .exit)) r ⌝ }
-    ensures { λ r. ⌜ storeOf (now (values .exit)) (now (buckets .exit)) r ≡ foldl (clearStep (now (image .entry)) (inside .words)) (storeOf (now (values .entry)) (now (buckets .entry)) held) (from 0 (actions (now (image .entry)))) ⌝ }
+    requires { ⌜ Keeps (now values) (now buckets) held ⌝ }
+    ensures { λ r. ⌜ Keeps (is values) (is buckets) r ⌝ }
+    ensures { λ r. ⌜ storeOf (is values) (is buckets) r ≡ foldl (clearStep (was image) (inside .words)) (storeOf (was values) (was buckets) held) (from 0 (actions (was image))) ⌝ }
 {
     let n = rows::count(image, rows::ACTION);
     let mut left = held;
@@ -166,30 +164,27 @@ pub fn reset(
     events: &mut [u64; slots::ROOM],
     values: &mut ValueRows,
     buckets: &mut BucketRows,
+    ledger: Ledger,
     plan: Plan,
-) -> Cleared
-    requires { ⌜ isTable (now image) ≡ true ⌝ }
+) -> Ledger
     requires { ⌜ Inner (now image) plan ⌝ }
-    requires { ⌜ Scoped (take (scopesIn (now image)) (scopesOf (now scopes))) (now scopes) ⌝ }
-    requires { ⌜ Good (now events) (now values) (now buckets) (plan .counts) (plan .held) ⌝ }
-    ensures { λ r. ⌜ Good (now (events .exit)) (now (values .exit)) (now (buckets .exit)) (r .counts) (r .held) ⌝ }
-    ensures { λ _. ⌜ Scoped (scopesReset (planIn (now (image .entry)) plan .inside) (take (scopesIn (now (image .entry))) (scopesOf (now (scopes .entry))))) (now (scopes .exit)) ⌝ }
-    ensures { λ r. ⌜ ((t : State) → rowsReset (now (image .entry)) (planIn (now (image .entry)) plan .inside) (rowsIn t (now (events .entry)) (now (values .entry)) (now (buckets .entry)) (plan .counts) (plan .held)) ≡ rowsIn t (now (events .exit)) (now (values .exit)) (now (buckets .exit)) (r .counts) (r .held)) ⌝ }
+    requires { ⌜ Held (now image) (rows scopes events values buckets ledger) ⌝ }
+    ensures { λ r. ⌜ Resets (was image) plan (were scopes events values buckets ledger) (are scopes events values buckets r) ⌝ }
 {
     let inside = plan.inside;
-    let before = plan.counts;
-    let given = plan.held;
     let f = inside.lowest_from(0);
     match f {
-        Found::Nothing => Cleared {
-            counts: before,
-            held: given,
-        },
+        Found::Nothing => ledger,
         Found::Key(_) => {
+            let before = ledger.counts;
+            let given = ledger.held;
             let counts = drop_events(events, before, inside);
             zero_clocks(image, scopes, inside);
             let held = clear_actions(image, values, buckets, inside, given);
-            Cleared { counts, held }
+            let mut next = ledger;
+            next.counts = counts;
+            next.held = held;
+            next
         }
     }
 }

@@ -1,5 +1,6 @@
-// The table image: its bytes, counts and rows, and the way up from a scope. Document 01, "The table image".
+// The table image's bytes, counts and rows, and the way up from a scope: document 01, "nine 2-byte counts, then rows in this order".
 // Every reader is total: past the end stand zeros.
+// A kind's most and width are in `TABLE`, its fields in `FIELDS`; a new field gets its name here, and callers use the names.
 ghost use mathlib.Core.Path.{_≡_};
 ghost use Prim.Native.Nat.{_+_, _*_, _^_, _≤_, _<_};
 ghost use lib.ListN.{getD};

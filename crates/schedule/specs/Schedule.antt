@@ -40,6 +40,10 @@ unfoldable pub reactionsOf : Image → ℕ → (ℕ → Bool) → ℕ → List �
 reactionsOf s k test gap =
     foldl insertKey (replicate wordCount 0) (map (λ j. field 2 s k j gap) (keep (λ j. test (field 2 s k j 0)) (from 0 (count s k))))
 
+-- of the rows with the key, or of those in its subtree
+abbrev pub reactionsBy : Image → ℕ → ℕ → Bool → ℕ → List ℕ
+reactionsBy s k key subtree gap = reactionsOf s k (belongs s key subtree) gap
+
 -- the reactions that the action a triggers
 unfoldable pub triggersOf : Image → ℕ → List ℕ
 triggersOf s a = reactionsOf s trigger (λ x. eqb x a) 2

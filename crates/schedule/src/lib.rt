@@ -1,15 +1,17 @@
-// What the manager asks of an accepted image, as the Rust asks its `Schedule`: activity, modality and sets of reactions.
-// Single fields and subtrees are crate rows. Every question is total.
+// What the manager asks of an accepted image, as the Rust asks its `Schedule`: document 01, "traits become the table".
+// Activity, modality and sets of reactions; single fields and subtrees are crate rows. Every question is total.
+// A new question over the table's rows comes in here.
 ghost use mathlib.Core.Path.{_≡_};
 ghost use mathlib.Core.Bool.{cond};
 ghost use Prim.Native.Nat.{ℕ, _+_, _^_, _<_, _≤_};
 ghost use lib.ListN.{getD};
+ghost use Rattle.lists.specs.Lent.{was};
 ghost use Rattle.key_set.specs.Sets.{insertKey};
 ghost use Rattle.rows.specs.Kinds.{kindOf, place as placeOf, count as countOf};
 ghost use Rattle.rows.specs.Rows.{none};
 ghost use Rattle.tags.specs.Views.{ofQueue};
 ghost use Rattle.table.specs.Rules.{timerTag};
-ghost use Rattle.schedule.specs.Schedule.{namesMode, isModal, isCurrent, isActive, belongs as belongsTo, reactionsOf, triggersOf, startupsOf, resetsOf};
+ghost use Rattle.schedule.specs.Schedule.{namesMode, isModal, isCurrent, isActive, belongs as belongsTo, reactionsBy, triggersOf, startupsOf, resetsOf};
 use key_set::KeySet;
 use tags::QueueTag;
 
@@ -115,7 +117,7 @@ fn with_row(image: &[u8], key: u16, subtree: bool, x: u16, reaction: u16, set: K
 // The reactions of so many rows that begin at the place and have their reaction at the byte `gap`, where they end. One reader goes from row to row.
 fn gather(image: &[u8], at: usize, mut left: u16, key: u16, subtree: bool, gap: usize) -> KeySet
     requires { ⌜ (at < 2 ^ 28) × (gap ≤ 4) ⌝ }
-    ensures { λ r. ⌜ ((k : ℕ) → at ≡ placeOf (now (image .entry)) k → left ≡ countOf (now (image .entry)) k → kindOf k .width ≡ gap + 2 → r .words ≡ reactionsOf (now (image .entry)) k (belongsTo (now (image .entry)) key subtree) gap) ⌝ }
+    ensures { λ r. ⌜ ((k : ℕ) → at ≡ placeOf (was image) k → left ≡ countOf (was image) k → kindOf k .width ≡ gap + 2 → r .words ≡ reactionsBy (was image) k key subtree gap) ⌝ }
 {
     let mut reader = image::new(image, at);
     let mut set = KeySet::empty();
@@ -133,7 +135,7 @@ fn gather(image: &[u8], at: usize, mut left: u16, key: u16, subtree: bool, gap: 
 // The reactions at the byte `gap` of the rows of the kind k whose first field is the key, or a scope in its subtree.
 fn reactions_of(image: &[u8], k: u8, key: u16, subtree: bool, gap: usize) -> KeySet
     requires { ⌜ (kindOf k .width ≡ gap + 2) × (gap ≤ 4) ⌝ }
-    ensures { λ r. ⌜ r .words ≡ reactionsOf (now (image .entry)) k (belongsTo (now (image .entry)) key subtree) gap ⌝ }
+    ensures { λ r. ⌜ r .words ≡ reactionsBy (now (image .entry)) k key subtree gap ⌝ }
 {
     let at = rows::place(image, k);
     let total = rows::count(image, k);

@@ -6,26 +6,22 @@ use Prim.Native.Nat.{ℕ, _+_, _*_, _/_, _%_}
 use lib.ListN.{length, getD}
 use lib.Dec.{eqb}
 use Rattle.lists.specs.Held as H
-use Rattle.tags.specs.Tags.{Clock, at, freshClock}
+use Rattle.tags.specs.Tags.{at}
 use Rattle.tags.specs.Views.{ofClock}
+pub use Rattle.machine.specs.State.{Scope}
+use Rattle.machine.specs.State.{freshScope}
 use Rattle.scopes.specs.declared.Scope as code
 
 -- how many scopes there may be: as many as a table's count allows
 abbrev pub mostScopes : ℕ
 mostScopes = 32
 
--- a scope's clock, whether it is active, and whether it ever was
-pub record Scope : Type 0 where
-  pub clock : Clock
-  pub active : Bool
-  pub ever : Bool
-
 abbrev pub scopeOf : code.Scope → Scope
 scopeOf s = record { clock = ofClock (s .clock); active = s .active; ever = s .ever }
 
 -- what stands past the table's scopes
 abbrev pub blank : Scope
-blank = record { clock = freshClock false; active = false; ever = false }
+blank = freshScope false
 
 -- ---- the words of a scope
 

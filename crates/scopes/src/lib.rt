@@ -1,5 +1,5 @@
-// The scopes of a manager as rows of words in one array that can be lent: each scope's clock, whether it is active, and whether it ever was.
-// Only `scope_at` and `put_scope` know the words.
+// The scopes of a manager as rows of words in one array that can be lent: document 01, "A scope clock has ..", "active now, ever active".
+// Only `scope_at` and `put_scope` know the words: a new field of a scope comes in here, in both, in SCOPE_WORDS, and in `encode` and `decode`.
 ghost use mathlib.Core.Path.{_≡_};
 ghost use Prim.Native.Nat.{_<_};
 ghost use lib.ListN.{getD, set, replicate};

@@ -1,5 +1,6 @@
-// A waiting event as a slot, and slots as rows of words in one array that can be lent: document 01, "one slot each".
-// Only `slot_at` and `put_slot` know the words; every other function speaks of slots.
+// A waiting event as a slot, and slots as rows of words in one array that can be lent: document 01, "in order of acceptance, one slot each".
+// Only `slot_at`, `due_at`, `put_slot` and `copy_slot` know the words; every other function speaks of slots.
+// Another width or a new field of an event comes in here: these four, SLOT_WORDS, and `encode` and `decode` of specs/.
 ghost use mathlib.Core.Path.{_≡_};
 ghost use Prim.Native.Nat.{_<_};
 ghost use lib.ListN.{getD, set, replicate};

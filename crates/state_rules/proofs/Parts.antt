@@ -29,16 +29,16 @@ use Rattle.key_set.specs.declared.Found.{Found}
 use Rattle.key_set.specs.declared.Found.the-variants.{Key, Nothing}
 use Rattle.key_set.proofs.Laws.{bit-zero, told-key, told-nothing, lowest-key, lowest-range, none-from}
 use Rattle.machine.specs.Table.{scopes, reactions, actions, hasParent}
-use Rattle.machine.specs.State.{Event, root, mostWaiting, ordinary}
+use Rattle.machine.specs.State.{Event, root, mostWaiting, ordinary, scopeIn}
 use Rattle.machine.specs.Transition.{isTag}
-use Rattle.machine.specs.Machine.{eventRules, queueRules}
+use Rattle.machine.specs.Machine.{eventRules, queueRules, scopeRules, imageRules}
 use Rattle.slots.specs.Slots as slot
 use Rattle.slots.specs.Slots.{eventsOf}
 use Rattle.scopes.specs.Scopes as scope
 use Rattle.scopes.specs.Scopes.{Scope, mostScopes, scopesOf}
 use Rattle.schedule.specs.Schedule.{isActive}
 use Rattle.state_rules.specs.declared.Sizes.{Sizes}
-use Rattle.state_rules.specs.Sound.{sizesOf, keysBelow, scopeAt, scopeKeeps, imageKeeps, eventKeeps}
+use Rattle.state_rules.specs.Sound.{sizesOf, keysBelow, eventKeeps}
 
 -- ---- keys of a set
 
@@ -148,13 +148,13 @@ module _ (img : Image) (z : Sizes) (ez : z ≡ sizesOf img) (e : Event) where
 pub ruleset proper-cases = (proper-tag, proper-keys, proper-none, proper-action, proper-stored, queue-root, queue-past, queue-parent)
 
 module _ (ss : List Scope) (e : Event) where
-  pub image-root : e .queue ≡ root → true ≡ imageKeeps ss e
-  unfolding imageKeeps
+  pub image-root : e .queue ≡ root → true ≡ imageRules ss e
+  unfolding imageRules
   image-root y = simp (eq-eqb (e .queue) root y)
 
-  module _ (n : e .queue ≡ root → ⊥) (x : Scope) (ex : x ≡ scopeAt ss (e .queue)) where
-    pub image-off : x .active ≡ false → true ≡ imageKeeps ss e
-    unfolding imageKeeps
+  module _ (n : e .queue ≡ root → ⊥) (x : Scope) (ex : x ≡ scopeIn ss (e .queue)) where
+    pub image-off : x .active ≡ false → true ≡ imageRules ss e
+    unfolding imageRules
     image-off y = simp (ne-eqb (e .queue) root n, ← ex, y)
 
     -- its tag as a local one, z, and what that maps to
@@ -162,29 +162,29 @@ module _ (ss : List Scope) (e : Event) where
       own : mappedGlobal m ≡ toGlobal (x .clock) (e .tag)
       own = em ∙ ap (toGlobal (x .clock)) d
 
-      pub image-tag : {t : _} → m ≡ M.Tag t → true ≡ imageKeeps ss e
-      unfolding imageKeeps
+      pub image-tag : {t : _} → m ≡ M.Tag t → true ≡ imageRules ss e
+      unfolding imageRules
       image-tag q = simp (ne-eqb (e .queue) root n, ← ex, y, ← own, q)
 
-      pub image-not : {t : _} → m ≡ M.Refused t → false ≡ imageKeeps ss e
-      unfolding imageKeeps
+      pub image-not : {t : _} → m ≡ M.Refused t → false ≡ imageRules ss e
+      unfolding imageRules
       image-not q = simp (ne-eqb (e .queue) root n, ← ex, y, ← own, q)
 
 pub ruleset image-cases = (image-root, image-off, image-tag, image-not)
 
 -- ---- a scope
 
-module _ (img : Image) (modes : List ℕ) (ss : List Scope) (i : ℕ) (x : Scope) (ex : x ≡ scopeAt ss i) (b : Bool) (eb : b ≡ isActive img modes i) where
-  pub scope-stays : x .active ≡ true → b ≡ true → x .ever ≡ scopeKeeps img modes ss i
-  unfolding scopeKeeps
+module _ (img : Image) (modes : List ℕ) (ss : List Scope) (i : ℕ) (x : Scope) (ex : x ≡ scopeIn ss i) (b : Bool) (eb : b ≡ isActive img modes i) where
+  pub scope-stays : x .active ≡ true → b ≡ true → x .ever ≡ scopeRules img modes ss i
+  unfolding scopeRules
   scope-stays y t = simp (← ex, ← eb, y, t)
 
-  pub scope-left : x .active ≡ true → b ≡ false → false ≡ scopeKeeps img modes ss i
-  unfolding scopeKeeps
+  pub scope-left : x .active ≡ true → b ≡ false → false ≡ scopeRules img modes ss i
+  unfolding scopeRules
   scope-left y t = simp (← ex, ← eb, y, t)
 
-  pub scope-off : {r : Bool} → x .active ≡ false → r ≡ not b → r ≡ scopeKeeps img modes ss i
-  unfolding scopeKeeps
+  pub scope-off : {r : Bool} → x .active ≡ false → r ≡ not b → r ≡ scopeRules img modes ss i
+  unfolding scopeRules
   scope-off y q = q ∙ (rw (← ex, ← eb, y) (go b))
     where
       go : (b : Bool) → not b ≡ (Bool·beq false b && true)
@@ -214,19 +214,23 @@ module _ (p : Event → Bool) (ws : List ℕ) (n i : ℕ) where
   pub event-all : {s : Bool} → i ≤ n → n ≤ i → s ≡ every p (drop i (take n (eventsOf ws))) → true ≡ s
   event-all h k q = test-all slot.decode slot.encode slot.slotWords mostWaiting slot.encode-long (every p) (λ a l. p a) (every-cons p) (every-nil p) ws n i h k q
 
+abbrev fits : Scope → Bool
+fits x = withinClock (x .clock)
+
 abbrev pub clocksWithin : List Scope → Bool
-clocksWithin l = every withinClock (map (λ x. x .clock) l)
+clocksWithin l = every fits l
 
 module _ (ws : List ℕ) (n i : ℕ) where
   module _ (x : Scope) (b : Bool) (h : i < n) (m : n ≤ mostScopes) (r : x ≡ getD (scopesOf ws) i scope.blank) (q : b ≡ withinClock (x .clock)) where
     pub clock-on : {s : Bool} → b ≡ true → s ≡ clocksWithin (drop i (take n (scopesOf ws))) → s ≡ clocksWithin (drop (i + 1) (take n (scopesOf ws)))
-    clock-on y k = test-on scope.decode scope.encode scope.scopeWords mostScopes scope.encode-long clocksWithin (λ a l. withinClock (a .clock)) (λ a l. every-cons withinClock (a .clock) _) (every-nil withinClock) ws n i scope.blank x b h m r q y k
+    clock-on y k = test-on scope.decode scope.encode scope.scopeWords mostScopes scope.encode-long clocksWithin (λ a l. fits a) (every-cons fits) (every-nil fits) ws n i scope.blank x b h m r q y k
 
     pub clock-fails : {s : Bool} → b ≡ false → s ≡ clocksWithin (drop i (take n (scopesOf ws))) → false ≡ s
-    clock-fails y k = test-fails scope.decode scope.encode scope.scopeWords mostScopes scope.encode-long clocksWithin (λ a l. withinClock (a .clock)) (λ a l. every-cons withinClock (a .clock) _) (every-nil withinClock) ws n i scope.blank x b h m r q y k
+    clock-fails y k =
+        test-fails scope.decode scope.encode scope.scopeWords mostScopes scope.encode-long clocksWithin (λ a l. fits a) (every-cons fits) (every-nil fits) ws n i scope.blank x b h m r q y k
 
   pub clock-all : {s : Bool} → i ≤ n → n ≤ i → s ≡ clocksWithin (drop i (take n (scopesOf ws))) → true ≡ s
-  clock-all h k q = test-all scope.decode scope.encode scope.scopeWords mostScopes scope.encode-long clocksWithin (λ a l. withinClock (a .clock)) (λ a l. every-cons withinClock (a .clock) _) (every-nil withinClock) ws n i h k q
+  clock-all h k q = test-all scope.decode scope.encode scope.scopeWords mostScopes scope.encode-long clocksWithin (λ a l. fits a) (every-cons fits) (every-nil fits) ws n i h k q
 
 -- the modes that are left
 module _ (p : ℕ → Bool) (l : List ℕ) (i : ℕ) {s : Bool} (k : s ≡ every p (drop i l)) where
@@ -255,7 +259,8 @@ module _ (p : ℕ → Bool) (n i : ℕ) {s : Bool} (k : s ≡ every p (from i (n
 
 -- ---- ordinary work
 
-module _ (ws : List ℕ) (n i : ℕ) (h : 0 < i) (g : i ≤ n) (m : n ≤ mostWaiting) (e : Event) (r : e ≡ getD (eventsOf ws) (i - 1) slot.blank) (b : Bool) (q : b ≡ ordinary e) {w : ℕ} (k : w ≡ count ordinary (drop i (take n (eventsOf ws)))) where
+module _ (ws : List ℕ) (n i : ℕ) (h : 0 < i) (g : i ≤ n) (m : n ≤ mostWaiting) (e : Event) (r : e ≡ getD (eventsOf ws) (i - 1) slot.blank) (b : Bool)
+    (q : b ≡ ordinary e) {w : ℕ} (k : w ≡ count ordinary (drop i (take n (eventsOf ws)))) where
   one-more : drop (i - 1) (take n (eventsOf ws)) ≡ e ∷ drop i (take n (eventsOf ws))
   one-more = rw r (drop-pred (eventsOf ws) n i slot.blank h g (rw (H.things-length slot.decode slot.encode slot.slotWords mostWaiting slot.encode-long ws) m))
 

@@ -26,33 +26,25 @@ use Rattle.entries.specs.Entries.{mostHeld}
 use Rattle.store.specs.Store.{Store, storeRules, emptyStore}
 use Rattle.store_rules.specs.Rules.{countedRules}
 use Rattle.machine.specs.Table.{scopes, reactors, actions, hasParent}
-use Rattle.machine.specs.State.{Event, State, root, mostWaiting, ordinary, clockAt, activeAt, everAt, withStore}
+use Rattle.machine.specs.State.{Event, State, root, mostWaiting, ordinary, scopeIn, scopeAt, withStore}
 use Rattle.machine.specs.Transition.{isTag}
 use Rattle.machine.specs.Machine.{modeRules, eventRules, queueRules, imageRules, scopeRules, sized, rules}
 use Rattle.slots.specs.Slots as slot
 use Rattle.slots.specs.Slots.{eventsOf}
 use Rattle.scopes.specs.Scopes as scope
 use Rattle.scopes.specs.Scopes.{Scope, mostScopes, scopesOf}
-use Rattle.lens.specs.Lens.{stateIn, mostReactors}
-use Rattle.state_rules.specs.Sound.{scopeAt, scopeKeeps, imageKeeps, eventKeeps, scopesSound, queueSound, sound}
+use Rattle.lens.specs.Lens.{mostReactors}
+use Rattle.lens.specs.Holds.{most-scopes, most-reactors}
+use Rattle.state_rules.specs.Sound.{stateOf, eventKeeps, scopesSound, queueSound, sound}
 
 -- ---- what a table's counts allow
 
-module _ (img : Image) (t : isTable img ≡ true) where
-  pub scopes-few : scopes img ≤ mostScopes
-  unfolding K.kindOf K.kinds
-  scopes-few = count-most img (table-is img t) K.scope (omega arith)
-
-  pub reactors-few : reactors img ≤ mostReactors
-  unfolding K.kindOf K.kinds
-  reactors-few = count-most img (table-is img t) K.reactor (omega arith)
-
 module _ (img : Image) {t : Bool} (et : t ≡ isTable img) (y : not t ≡ false) {k : ℕ} where
   pub few-scopes : k ≡ scopes img → k ≤ mostScopes
-  few-scopes e = rw e (scopes-few img (flag-yes et y))
+  few-scopes e = rw e (most-scopes img (flag-yes et y))
 
   pub few-reactors : (modes : List ℕ) → length modes ≡ mostReactors → k ≡ reactors img → k ≤ length modes
-  few-reactors modes m e = rw (e, m) (reactors-few img (flag-yes et y))
+  few-reactors modes m e = rw (e, m) (most-reactors img (flag-yes et y))
 
   pub own-long : (modes : List ℕ) → length modes ≡ mostReactors → k ≡ reactors img → k ≡ length (take k modes)
   own-long modes m e = let f = few-reactors modes m e in sym (length-take k modes ∙ min-eq-left f)
@@ -92,32 +84,25 @@ and-four false b c d = refl
 
 module _ (img : Image) (modes : List ℕ) (ss : List Scope) (es : List Event) (work : ℕ) (few : scopes img ≤ length ss) where
   abbrev here : State
-  here = stateIn img modes ss es work emptyStore
+  here = stateOf img modes ss es work emptyStore
 
   module _ (i : ℕ) (h : i < scopes img) where
-    pub active-is : activeAt here i ≡ scopeAt ss i .active
-    active-is = List·getD-map (λ x. x .active) (take (scopes img) ss) i scope.blank ∙ ap (λ x. x .active) (getD-take (scopes img) ss i scope.blank h)
+    scope-is : scopeAt here i ≡ scopeIn ss i
+    scope-is = getD-take (scopes img) ss i scope.blank h
 
-    pub ever-is : everAt here i ≡ scopeAt ss i .ever
-    ever-is = List·getD-map (λ x. x .ever) (take (scopes img) ss) i scope.blank ∙ ap (λ x. x .ever) (getD-take (scopes img) ss i scope.blank h)
+    scope-same : scopeRules img (here .modes) (here .scopes) i ≡ scopeRules img (take (reactors img) modes) ss i
+    unfolding scopeRules
+    scope-same = rw scope-is
 
-    clock-is : clockAt here i ≡ scopeAt ss i .clock
-    clock-is = List·getD-map (λ x. x .clock) (take (scopes img) ss) i scope.blank ∙ ap (λ x. x .clock) (getD-take (scopes img) ss i scope.blank h)
-
-    scope-same : scopeRules img here i ≡ scopeKeeps img (take (reactors img) modes) ss i
-    unfolding scopeRules scopeKeeps
-    scope-same = rw (active-is, ever-is)
-
-  image-same : (e : Event) → queueRules img e ≡ true → imageRules here e ≡ imageKeeps ss e
-  unfolding queueRules imageRules imageKeeps
+  image-same : (e : Event) → queueRules img e ≡ true → imageRules (here .scopes) e ≡ imageRules ss e
+  unfolding queueRules imageRules
   image-same e y =
       by-test (eqb (e .queue) root) (λ r. simp r)
       (λ r.
       let w : (ltb (e .queue) (scopes img) && hasParent img (e .queue)) ≡ true = simp r at y in
-      let l : e .queue < scopes img = ltb-true _ _ (and-left _ _ w) in
-      rw (active-is (e .queue) l, clock-is (e .queue) l))
+      rw (scope-is (e .queue) (ltb-true _ _ (and-left _ _ w))))
 
-  event-same : (e : Event) → (eventRules img e && (queueRules img e && imageRules here e)) ≡ eventKeeps img ss e
+  event-same : (e : Event) → (eventRules img e && (queueRules img e && imageRules (here .scopes) e)) ≡ eventKeeps img ss e
   unfolding eventKeeps
   event-same e = by-test (queueRules img e) (λ y. rw (image-same e y)) (λ n. simp n)
 
@@ -125,25 +110,32 @@ module _ (img : Image) (modes : List ℕ) (ss : List Scope) (es : List Event) (w
     sized-is : sized img here ≡ true
     unfolding sized
     sized-is =
-        let a : length (take (reactors img) modes) ≡ reactors img = length-take (reactors img) modes ∙ min-eq-left (let f = reactors-few img t in omega arith) in
+        let a : length (take (reactors img) modes) ≡ reactors img = length-take (reactors img) modes ∙ min-eq-left (let f = most-reactors img t in omega arith) in
         let b : length (take (scopes img) ss) ≡ scopes img = length-take (scopes img) ss ∙ min-eq-left few in
-        simp (a, length-map, b, eq-eqb)
+        simp (a, b, eq-eqb)
 
     pub rules-are : rules img here ≡ (scopesSound img (take (reactors img) modes) ss (scopes img) && queueSound img ss es work)
     unfolding rules scopesSound queueSound
     rules-are =
-        let ev : (every (eventRules img) es && (every (queueRules img) es && (every (imageRules here) es && (eqb work (count ordinary es) && storeRules (actions img) emptyStore))))
+        let ev : (every (eventRules img) es && (every (queueRules img) es && (every (imageRules (here .scopes)) es && (eqb work (count ordinary es) && storeRules (actions img) emptyStore))))
         ≡ (every (eventKeeps img ss) es && eqb work (count ordinary es))
-        = every-three (eventRules img) (queueRules img) (imageRules here) es _ ∙
-        rw (every-same (λ e. eventRules img e && (queueRules img e && imageRules here e)) (eventKeeps img ss) event-same es, empty-rules (actions img), and-yes (eqb work (count ordinary es))) in
-        let sc = every-numbers (scopeRules img here) (scopeKeeps img (take (reactors img) modes) ss) (scopes img) 0 (λ i l. scope-same i (omega arith)) in
-        rw (t, sized-is, le-leb (length es) mostWaiting w, ev, sc) (and-four (every (modeRules img) (take (reactors img) modes)) (every withinClock (map (λ x. x .clock) (take (scopes img) ss))) (every (scopeKeeps img (take (reactors img) modes) ss) (from 0 (scopes img))) (queueSound img ss es work))
+        = every-three (eventRules img) (queueRules img) (imageRules (here .scopes)) es _ ∙
+        rw (
+          every-same (λ e. eventRules img e && (queueRules img e && imageRules (here .scopes) e)) (eventKeeps img ss) event-same es,
+          empty-rules (actions img),
+          and-yes (eqb work (count ordinary es)),
+        )
+        in
+        let sc = every-numbers (scopeRules img (here .modes) (here .scopes)) (scopeRules img (take (reactors img) modes) ss) (scopes img) 0 (λ i l. scope-same i (omega arith)) in
+        rw (t, sized-is, le-leb (length es) mostWaiting w, ev, sc)
+        (and-four (every (modeRules img) (take (reactors img) modes)) (every (λ x. withinClock (x .clock)) (take (scopes img) ss))
+        (every (scopeRules img (take (reactors img) modes) ss) (from 0 (scopes img))) (queueSound img ss es work))
 
 -- ---- queue_rules
 
 module _ (img : Image) (modes sws ews : List ℕ) (n work : ℕ) (m : length modes ≡ mostReactors) where
   abbrev queue : Bool
-  queue = leb n mostWaiting && rules img (stateIn img modes (scopesOf sws) (take n (eventsOf ews)) work emptyStore)
+  queue = leb n mostWaiting && rules img (stateOf img modes (scopesOf sws) (take n (eventsOf ews)) work emptyStore)
 
   pub rules-many : mostWaiting < n → false ≡ queue
   rules-many h = simp (lt-leb n mostWaiting h)
@@ -156,7 +148,7 @@ module _ (img : Image) (modes sws ews : List ℕ) (n work : ℕ) (m : length mod
     module _ (yt : not t ≡ false) (k : ℕ) (ek : k ≡ scopes img) (own : List ℕ) (eo : own ≡ take (reactors img) modes) (a : Bool) (ea : a ≡ scopesSound img own (scopesOf sws) k) where
       queue-is : queue ≡ (a && queueSound img (scopesOf sws) (take n (eventsOf ews)) work)
       queue-is =
-          let few : scopes img ≤ length (scopesOf sws) = rw (H.things-length scope.decode scope.encode scope.scopeWords mostScopes scope.encode-long sws) (scopes-few img (flag-yes et yt)) in
+          let few : scopes img ≤ length (scopesOf sws) = rw (H.things-length scope.decode scope.encode scope.scopeWords mostScopes scope.encode-long sws) (most-scopes img (flag-yes et yt)) in
           let w : length (take n (eventsOf ews)) ≤ mostWaiting = rw (front-long slot.decode slot.encode slot.slotWords mostWaiting slot.encode-long ews n h) h in
           rw (le-leb n mostWaiting h, rules-are img modes (scopesOf sws) (take n (eventsOf ews)) work few (flag-yes et yt) m w, ea, eo, ek)
 
@@ -175,7 +167,7 @@ pub ruleset queue-cases = (rules-many, rules-table, rules-scopes, rules-queue)
 -- ---- all the rules
 
 module _ (img : Image) (modes : List ℕ) (ss : List Scope) (es : List Event) (work : ℕ) (st : Store) where
-  rules-store : rules img (stateIn img modes ss es work st) ≡ (rules img (stateIn img modes ss es work emptyStore) && storeRules (actions img) st)
+  rules-store : rules img (stateOf img modes ss es work st) ≡ (rules img (stateOf img modes ss es work emptyStore) && storeRules (actions img) st)
   unfolding rules sized scopeRules imageRules
   rules-store =
       by-test (storeRules (actions img) st) (λ y. simp (y, empty-rules (actions img), and-yes)) (λ n. simp (n, and-no))
@@ -188,13 +180,13 @@ apart false h o r s = refl
 
 module _ (img : Image) (n held opened : ℕ) (modes : List ℕ) (ss : List Scope) (es : List Event) (work : ℕ) (st : Store) where
   abbrev whole : Bool
-  whole = sound img n held opened (stateIn img modes ss es work st)
+  whole = sound img n held opened (stateOf img modes ss es work st)
 
-  whole-is : whole ≡ ((leb n mostWaiting && rules img (stateIn img modes ss es work emptyStore)) && countedRules (actions img) held opened st)
+  whole-is : whole ≡ ((leb n mostWaiting && rules img (stateOf img modes ss es work emptyStore)) && countedRules (actions img) held opened st)
   unfolding sound countedRules
   whole-is = rw (rules-store img modes ss es work st) (apart (leb n mostWaiting) (leb held mostHeld) (leb opened mostHeld) _ _)
 
-  module _ (a : Bool) (ea : a ≡ (leb n mostWaiting && rules img (stateIn img modes ss es work emptyStore))) where
+  module _ (a : Bool) (ea : a ≡ (leb n mostWaiting && rules img (stateOf img modes ss es work emptyStore))) where
     pub sound-queue : not a ≡ true → false ≡ whole
     sound-queue y = rw (whole-is, ← ea, not-true a y)
 

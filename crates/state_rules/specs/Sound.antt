@@ -1,27 +1,37 @@
 -- The state rules of a state handed in with its counts, and the parts that are tested on rows. Assumes nothing.
 use Prim.Native.Nat.{ℕ, _*_}
-use mathlib.Core.Bool.{Bool, not, _&&_, _||_, Bool·beq}
-use mathlib.Core.List.{List, map}
+use mathlib.Core.Bool.{Bool, not, _&&_, _||_}
+use mathlib.Core.List.{List}
 use lib.Dec.{ltb, leb, eqb}
-use lib.ListN.{getD, take}
+use lib.ListN.{take}
 use Rattle.lists.specs.Lists.{every, count, from}
 use Rattle.rows.specs.Bytes.{Image}
-use Rattle.tags.specs.Tags.{withinClock, toGlobal}
+use Rattle.tags.specs.Tags.{withinClock}
 use Rattle.key_set.specs.Sets.{has, wordCount}
-use Rattle.schedule.specs.Schedule.{isActive}
 use Rattle.entries.specs.Entries.{mostHeld}
-use Rattle.machine.specs.Table.{scopes, reactions, actions}
-use Rattle.machine.specs.State.{Event, State, root, mostWaiting, ordinary}
-use Rattle.machine.specs.Transition.{isTag}
-use Rattle.machine.specs.Machine.{modeRules, eventRules, queueRules, rules}
-use Rattle.scopes.specs.Scopes.{Scope, blank}
+use Rattle.machine.specs.Table.{scopes, reactors, reactions, actions}
+use Rattle.machine.specs.State.{Event, Scope, State, mostWaiting, ordinary}
+use Rattle.machine.specs.Machine.{modeRules, scopeRules, eventRules, queueRules, imageRules, rules}
+use Rattle.store.specs.Store.{Store, emptyStore}
+use Rattle.slots.specs.Slots.{eventsOf}
+use Rattle.scopes.specs.Scopes.{scopesOf}
+use Rattle.lens.specs.declared.Counts.{Counts}
+use Rattle.lens.specs.Holds.{Rows, stateIn}
 use Rattle.state_rules.specs.declared.Sizes.{Sizes}
 
 -- no more are counted than may be, and the state that is counted keeps the rules
 unfoldable pub sound : Image → ℕ → ℕ → ℕ → State → Bool
 sound img waiting held open-buckets s = leb waiting mostWaiting && (leb held mostHeld && (leb open-buckets mostHeld && rules img s))
 
+-- of lent rows
+abbrev pub soundIn : Image → Rows → Bool
+soundIn img r = sound img (r .ledger .counts .waiting) (r .ledger .held .values) (r .ledger .held .buckets) (stateIn img r)
+
 -- ---- parts, on the rows' own scopes
+
+-- the state of these parts: of modes and scopes as many as the table has
+abbrev pub stateOf : Image → List ℕ → List Scope → List Event → ℕ → Store → State
+stateOf img modes ss es work st = record { modes = take (reactors img) modes; scopes = take (scopes img) ss; waiting = es; work = work; store = st }
 
 abbrev pub sizesOf : Image → Sizes
 sizesOf img = record { scopes = scopes img; reactions = reactions img; actions = actions img }
@@ -30,22 +40,17 @@ sizesOf img = record { scopes = scopes img; reactions = reactions img; actions =
 abbrev pub keysBelow : List ℕ → ℕ → Bool
 keysBelow ws n = every (λ k. not (has ws k) || ltb k n) (from 0 (wordCount * 64))
 
-abbrev pub scopeAt : List Scope → ℕ → Scope
-scopeAt ss i = getD ss i blank
-
-unfoldable pub scopeKeeps : Image → List ℕ → List Scope → ℕ → Bool
-scopeKeeps img modes ss i = Bool·beq (scopeAt ss i .active) (isActive img modes i) && (not (scopeAt ss i .active) || scopeAt ss i .ever)
-
-unfoldable pub imageKeeps : List Scope → Event → Bool
-imageKeeps ss e = eqb (e .queue) root || (not (scopeAt ss (e .queue) .active) || isTag (toGlobal (scopeAt ss (e .queue) .clock) (e .tag)))
-
 unfoldable pub eventKeeps : Image → List Scope → Event → Bool
-eventKeeps img ss e = eventRules img e && (queueRules img e && imageKeeps ss e)
+eventKeeps img ss e = eventRules img e && (queueRules img e && imageRules ss e)
 
 -- ---- what is tested together
 
 unfoldable pub scopesSound : Image → List ℕ → List Scope → ℕ → Bool
-scopesSound img modes ss n = every (modeRules img) modes && (every withinClock (map (λ x. x .clock) (take n ss)) && every (scopeKeeps img modes ss) (from 0 n))
+scopesSound img modes ss n = every (modeRules img) modes && (every (λ x. withinClock (x .clock)) (take n ss) && every (scopeRules img modes ss) (from 0 n))
 
 unfoldable pub queueSound : Image → List Scope → List Event → ℕ → Bool
 queueSound img ss es work = every (eventKeeps img ss) es && eqb work (count ordinary es)
+
+-- all rules but the store's
+abbrev pub queueRulesIn : Image → List ℕ → List ℕ → List ℕ → Counts → Bool
+queueRulesIn img modes ss es c = rules img (stateOf img modes (scopesOf ss) (take (c .waiting) (eventsOf es)) (c .work) emptyStore)

@@ -1,4 +1,5 @@
-// The state rules on lent rows: document 01, "State rules", refusal 11.
+// The state rules on lent rows: document 01, "State rules", and 11, "the state handed in breaks a state rule".
+// A new rule comes in here beside the machine's `rules`; callers ask `keeps_rules` alone.
 ghost use mathlib.Core.Path.{_≡_};
 ghost use mathlib.Core.Bool.{true, _&&_};
 ghost use mathlib.Core.List.{map};
@@ -7,19 +8,21 @@ ghost use lib.Dec.{leb};
 ghost use lib.ListN.{length, getD, take};
 ghost use Rattle.lists.specs.Lists.{every, count, from};
 ghost use Rattle.tags.specs.Tags.{withinClock};
-ghost use Rattle.store.specs.Store.{emptyStore};
-ghost use Rattle.store_calls.specs.Lent.{storeOf};
 ghost use Rattle.machine.specs.State.{mostWaiting, ordinary};
-ghost use Rattle.machine.specs.Machine.{modeRules, eventRules, queueRules, rules};
+ghost use Rattle.machine.specs.Machine.{modeRules, scopeRules, eventRules, queueRules, imageRules};
 ghost use Rattle.slots.specs.Slots.{eventsOf, eventOf};
 ghost use Rattle.scopes.specs.Scopes.{mostScopes, scopesOf, blank};
-ghost use Rattle.lens.specs.Lens.{stateIn, mostReactors};
-ghost use Rattle.state_rules.specs.Sound.{keysBelow, scopeKeeps, imageKeeps, eventKeeps, sizesOf, scopesSound, queueSound, sound};
+ghost use Rattle.lens.specs.Lens.{mostReactors};
+ghost use Rattle.lens.specs.Holds.{were};
+ghost use Rattle.lists.specs.Lent.{was};
+ghost use Rattle.state_rules.specs.Sound.{keysBelow, eventKeeps, sizesOf, scopesSound, queueSound, queueRulesIn, soundIn};
 use entries::BucketRows;
 use entries::ValueRows;
 use key_set::Found;
 use key_set::KeySet;
 use lens::Counts;
+use lens::Ledger;
+use lens::MOST_REACTORS;
 use slots::Slot;
 use tags::MappedGlobal;
 
@@ -31,7 +34,7 @@ struct Sizes {
 }
 
 fn sizes_in(image: &[u8]) -> Sizes
-    ensures { λ r. ⌜ r ≡ sizesOf (now (image .entry)) ⌝ }
+    ensures { λ r. ⌜ r ≡ sizesOf (was image) ⌝ }
 {
     let scopes = rows::count(image, rows::SCOPE);
     let reactions = rows::count(image, rows::REACTION);
@@ -46,7 +49,7 @@ fn sizes_in(image: &[u8]) -> Sizes
 // ---- modes
 
 fn mode_exists(image: &[u8], m: u16) -> bool
-    ensures { λ r. ⌜ r ≡ modeRules (now (image .entry)) m ⌝ }
+    ensures { λ r. ⌜ r ≡ modeRules (was image) m ⌝ }
 {
     if m == rows::NONE {
         return true;
@@ -56,7 +59,7 @@ fn mode_exists(image: &[u8], m: u16) -> bool
 }
 
 fn modes_exist(image: &[u8], modes: &[u16]) -> bool
-    ensures { λ r. ⌜ r ≡ every (modeRules (now (image .entry))) (now (modes .entry)) ⌝ }
+    ensures { λ r. ⌜ r ≡ every (modeRules (was image)) (was modes) ⌝ }
 {
     let mut i: usize = 0;
     while i < modes.len() {
@@ -73,7 +76,7 @@ fn modes_exist(image: &[u8], modes: &[u16]) -> bool
 
 fn clocks_within(scopes: &[u64; scopes::ROOM], n: usize) -> bool
     requires { ⌜ n ≤ mostScopes ⌝ }
-    ensures { λ r. ⌜ r ≡ every withinClock (map (λ x. x .clock) (take n (scopesOf (now (scopes .entry))))) ⌝ }
+    ensures { λ r. ⌜ r ≡ every (λ x. withinClock (x .clock)) (take n (scopesOf (was scopes))) ⌝ }
 {
     let mut i: usize = 0;
     while i < n {
@@ -89,7 +92,7 @@ fn clocks_within(scopes: &[u64; scopes::ROOM], n: usize) -> bool
 
 // Scope i is active exactly if the modes say so, and counts as active before where it is.
 fn scope_keeps(image: &[u8], modes: &[u16], scopes: &[u64; scopes::ROOM], i: u16) -> bool
-    ensures { λ r. ⌜ r ≡ scopeKeeps (now (image .entry)) (now (modes .entry)) (scopesOf (now (scopes .entry))) i ⌝ }
+    ensures { λ r. ⌜ r ≡ scopeRules (was image) (was modes) (scopesOf (was scopes)) i ⌝ }
 {
     let s = scopes::scope_at(scopes, i as usize);
     let current = schedule::is_active(image, modes, i);
@@ -101,7 +104,7 @@ fn scope_keeps(image: &[u8], modes: &[u16], scopes: &[u64; scopes::ROOM], i: u16
 }
 
 fn scopes_keep(image: &[u8], modes: &[u16], scopes: &[u64; scopes::ROOM], n: u16) -> bool
-    ensures { λ r. ⌜ r ≡ every (scopeKeeps (now (image .entry)) (now (modes .entry)) (scopesOf (now (scopes .entry)))) (from 0 n) ⌝ }
+    ensures { λ r. ⌜ r ≡ every (scopeRules (was image) (was modes) (scopesOf (was scopes))) (from 0 n) ⌝ }
 {
     let mut i: u16 = 0;
     while i < n {
@@ -151,7 +154,7 @@ fn keys_exist(set: KeySet, n: u16) -> bool
 // All keys exist, and tags are within limits.
 fn is_proper(image: &[u8], z: Sizes, s: Slot) -> bool
     requires { ⌜ z ≡ sizesOf (now image) ⌝ }
-    ensures { λ r. ⌜ r ≡ eventRules (now (image .entry)) (eventOf s) ⌝ }
+    ensures { λ r. ⌜ r ≡ eventRules (was image) (eventOf s) ⌝ }
 {
     let tag = s.tag;
     let set = s.reactions;
@@ -174,7 +177,7 @@ fn is_proper(image: &[u8], z: Sizes, s: Slot) -> bool
 // Only scopes with a parent have local events.
 fn has_queue(image: &[u8], z: Sizes, s: Slot) -> bool
     requires { ⌜ z ≡ sizesOf (now image) ⌝ }
-    ensures { λ r. ⌜ r ≡ queueRules (now (image .entry)) (eventOf s) ⌝ }
+    ensures { λ r. ⌜ r ≡ queueRules (was image) (eventOf s) ⌝ }
 {
     if s.queue == slots::NONE {
         return true;
@@ -188,7 +191,7 @@ fn has_queue(image: &[u8], z: Sizes, s: Slot) -> bool
 
 // An event in an active scope maps within limits.
 fn has_image(scopes: &[u64; scopes::ROOM], s: Slot) -> bool
-    ensures { λ r. ⌜ r ≡ imageKeeps (scopesOf (now (scopes .entry))) (eventOf s) ⌝ }
+    ensures { λ r. ⌜ r ≡ imageRules (scopesOf (was scopes)) (eventOf s) ⌝ }
 {
     if s.queue == slots::NONE {
         return true;
@@ -208,7 +211,7 @@ fn has_image(scopes: &[u64; scopes::ROOM], s: Slot) -> bool
 
 fn event_keeps(image: &[u8], z: Sizes, scopes: &[u64; scopes::ROOM], s: Slot) -> bool
     requires { ⌜ z ≡ sizesOf (now image) ⌝ }
-    ensures { λ r. ⌜ r ≡ eventKeeps (now (image .entry)) (scopesOf (now (scopes .entry))) (eventOf s) ⌝ }
+    ensures { λ r. ⌜ r ≡ eventKeeps (was image) (scopesOf (was scopes)) (eventOf s) ⌝ }
 {
     if is_proper(image, z, s) {
         if has_queue(image, z, s) {
@@ -225,7 +228,7 @@ fn events_keep(
     n: usize,
 ) -> bool
     requires { ⌜ n ≤ mostWaiting ⌝ }
-    ensures { λ r. ⌜ r ≡ every (eventKeeps (now (image .entry)) (scopesOf (now (scopes .entry)))) (take n (eventsOf (now (events .entry)))) ⌝ }
+    ensures { λ r. ⌜ r ≡ every (eventKeeps (was image) (scopesOf (was scopes))) (take n (eventsOf (was events))) ⌝ }
 {
     let z = sizes_in(image);
     let mut i: usize = 0;
@@ -242,7 +245,7 @@ fn events_keep(
 // How many of the events are ordinary.
 fn ordinary_work(events: &[u64; slots::ROOM], n: usize) -> usize
     requires { ⌜ n ≤ mostWaiting ⌝ }
-    ensures { λ r. ⌜ r ≡ count ordinary (take n (eventsOf (now (events .entry)))) ⌝ }
+    ensures { λ r. ⌜ r ≡ count ordinary (take n (eventsOf (was events))) ⌝ }
 {
     let mut work: usize = 0;
     let mut i = n;
@@ -260,7 +263,7 @@ fn ordinary_work(events: &[u64; slots::ROOM], n: usize) -> usize
 
 fn scopes_sound(image: &[u8], modes: &[u16], scopes: &[u64; scopes::ROOM], n: u16) -> bool
     requires { ⌜ n ≤ mostScopes ⌝ }
-    ensures { λ r. ⌜ r ≡ scopesSound (now (image .entry)) (now (modes .entry)) (scopesOf (now (scopes .entry))) n ⌝ }
+    ensures { λ r. ⌜ r ≡ scopesSound (was image) (was modes) (scopesOf (was scopes)) n ⌝ }
 {
     if !modes_exist(image, modes) {
         return false;
@@ -278,7 +281,7 @@ fn queue_sound(
     counts: Counts,
 ) -> bool
     requires { ⌜ counts .waiting ≤ mostWaiting ⌝ }
-    ensures { λ r. ⌜ r ≡ queueSound (now (image .entry)) (scopesOf (now (scopes .entry))) (take (counts .waiting) (eventsOf (now (events .entry)))) (counts .work) ⌝ }
+    ensures { λ r. ⌜ r ≡ queueSound (was image) (scopesOf (was scopes)) (take (counts .waiting) (eventsOf (was events))) (counts .work) ⌝ }
 {
     let n = counts.waiting;
     if !events_keep(image, scopes, events, n) {
@@ -289,15 +292,15 @@ fn queue_sound(
 }
 
 // The table's rules first, then those on modes, scopes and events; of the scopes and modes those that the table has are looked at.
-pub fn queue_rules(
+fn queue_rules(
     image: &[u8],
-    modes: &[u16; plan::MOST_REACTORS],
+    modes: &[u16; MOST_REACTORS],
     scopes: &[u64; scopes::ROOM],
     events: &[u64; slots::ROOM],
     counts: Counts,
 ) -> bool
     requires { ⌜ length (now modes) ≡ mostReactors ⌝ }
-    ensures { λ r. ⌜ r ≡ (leb (counts .waiting) mostWaiting && rules (now (image .entry)) (stateIn (now (image .entry)) (now (modes .entry)) (scopesOf (now (scopes .entry))) (take (counts .waiting) (eventsOf (now (events .entry)))) (counts .work) emptyStore)) ⌝ }
+    ensures { λ r. ⌜ r ≡ (leb (counts .waiting) mostWaiting && queueRulesIn (was image) (was modes) (was scopes) (was events) counts) ⌝ }
 {
     let waiting = counts.waiting;
     if slots::MOST_WAITING < waiting {
@@ -317,27 +320,20 @@ pub fn queue_rules(
 
 // ---- all
 
-// The modes, and how many events wait and values and buckets are held.
-pub struct Given {
-    pub modes: [u16; plan::MOST_REACTORS],
-    pub counts: Counts,
-    pub held: store_calls::Counts,
-}
-
 // The state handed in keeps the state rules.
 pub fn keeps_rules(
     image: &[u8],
-    given: Given,
     scopes: &[u64; scopes::ROOM],
     events: &[u64; slots::ROOM],
     values: &ValueRows,
     buckets: &BucketRows,
+    ledger: Ledger,
 ) -> bool
-    ensures { λ r. ⌜ r ≡ sound (now (image .entry)) (given .counts .waiting) (given .held .values) (given .held .buckets) (stateIn (now (image .entry)) (given .modes) (scopesOf (now (scopes .entry))) (take (given .counts .waiting) (eventsOf (now (events .entry)))) (given .counts .work) (storeOf (now (values .entry)) (now (buckets .entry)) (given .held))) ⌝ }
+    ensures { λ r. ⌜ r ≡ soundIn (was image) (were scopes events values buckets ledger) ⌝ }
 {
-    let modes = given.modes;
-    let counts = given.counts;
-    let held = given.held;
+    let modes = ledger.modes;
+    let counts = ledger.counts;
+    let held = ledger.held;
     if !queue_rules(image, &modes, scopes, events, counts) {
         return false;
     }

@@ -1,4 +1,5 @@
 // Values and buckets found, set and lost in lent rows: what the calls of the value store are made of. Document 01, "Values and level walks", first part.
+// How a row is found is in `ValueTest` and `BucketTest`, once for finding, losing and the rules; the manager's crates use store_calls.
 ghost use mathlib.Core.Path.{_≡_};
 ghost use Prim.Native.Nat.{_+_, _≤_, _<_};
 ghost use lib.ListN.{length, take, drop};

@@ -20,12 +20,13 @@ use Rattle.tags.specs.declared.GlobalTag.{GlobalTag}
 use Rattle.entries.specs.Entries.{Value, Bucket, mostHeld, blankValue, blankBucket}
 use Rattle.entries.specs.Words.{valuesOf, bucketsOf, HeldValues, HeldBuckets, decodeValue, encodeValue, valueWords, long-value, decodeBucket, encodeBucket, bucketWords, long-bucket}
 use Rattle.lists.specs.Loops.{place, place-any, place-full, place-here, place-next, place-short, lose-none, lose-fewer, front-long}
-use Rattle.store.specs.Store.{Store, isValue, isBucket, isThere, isSpent, isBefore, following, larger, raised, lacks, pushed, Found, nothing, found, nextIn, valueIn, atLeast, unlessLast, taken, clearedBefore, cleared, moved}
+use Rattle.store.specs.Store.{Store, isValue, isBucket, isThere, isSpent, isBefore, following, larger, raised, lacks, pushed, Found}
+use Rattle.store.specs.Store.{nothing, found, nextIn, valueIn, atLeast, unlessLast, taken, clearedBefore, cleared, moved}
 use Rattle.store.specs.Views.{valuePut, bucketPut}
-use Rattle.store_calls.specs.Lent.{storeOf, Lent, Laid, Did}
+use Rattle.store_calls.specs.Lent.{storeOf, Lent, Laid, Did, overfull}
 use Rattle.store_calls.specs.declared.Counts.{Counts}
 use Rattle.store_calls.specs.declared.Changed.{Changed}
-use Rattle.store_calls.specs.declared.Outcome.the-variants as O
+use Rattle.refusals.specs.declared.Outcome.the-variants as O
 
 values-long : (vs : List ℕ) (n : ℕ) → n ≤ mostHeld → length (take n (valuesOf vs)) ≡ n
 values-long vs n h = front-long decodeValue encodeValue valueWords mostHeld long-value vs n h
@@ -115,15 +116,15 @@ module _ (vs bs : List ℕ) (n : Counts) (lent : Lent vs bs n) where
     unfolding lacks
     bucket-full = rw ej (place-full (isBucket a (t .offset)) mostHeld (take (n .buckets) (bucketsOf bs)) (rw (buckets-long bs (n .buckets) (lent .few-buckets)) (lent .few-buckets)))
 
-    refusing : pushed (storeOf vs bs n) a t v ≡ refused R.Held → Did vs bs n (pushed (storeOf vs bs n) a t v) vs bs (record { outcome = O.Refused R.Held; held = n })
-    refusing e = rw e (record { outcome = refl; laid = laid-same })
+    refusing : {c : Changed} → c ≡ overfull n → pushed (storeOf vs bs n) a t v ≡ refused R.Held → Did vs bs n (pushed (storeOf vs bs n) a t v) vs bs c
+    refusing q e = rw (q, e) (record { outcome = refl; laid = laid-same })
 
-    pub push-no-value : mostHeld ≤ i → Did vs bs n (pushed (storeOf vs bs n) a t v) vs bs (record { outcome = O.Refused R.Held; held = n })
+    pub push-no-value : {c : Changed} → mostHeld ≤ i → c ≡ overfull n → Did vs bs n (pushed (storeOf vs bs n) a t v) vs bs c
     unfolding pushed
-    push-no-value h = refusing (simp (value-full, le-leb mostHeld i h))
+    push-no-value h q = refusing q (simp (value-full, le-leb mostHeld i h))
 
-    pub push-no-bucket : mostHeld ≤ j → Did vs bs n (pushed (storeOf vs bs n) a t v) vs bs (record { outcome = O.Refused R.Held; held = n })
-    push-no-bucket h = refusing (push-over (storeOf vs bs n) a t v (bucket-full ∙ le-leb mostHeld j h))
+    pub push-no-bucket : {c : Changed} → mostHeld ≤ j → c ≡ overfull n → Did vs bs n (pushed (storeOf vs bs n) a t v) vs bs c
+    push-no-bucket h q = refusing q (push-over (storeOf vs bs n) a t v (bucket-full ∙ le-leb mostHeld j h))
 
     abbrev put : ℕ → Store
     put k =
@@ -236,11 +237,13 @@ module _ (vs bs : List ℕ) (n : Counts) (lent : Lent vs bs n) where
               rw x (record { outcome = y .outcome; laid = over-both u (omega (arith, fewer)) (y .laid) })
 
           -- the push is not refused: a value went, and the bucket is there or has room
-          pub move-done : {vs-end bs-end : List ℕ} {c : Changed} → j < mostHeld → Did mid bs less (pushed (storeOf mid bs less) a new (v .value)) vs-end bs-end c → Did vs bs n (moved here a old new) vs-end bs-end c
+          pub move-done : {vs-end bs-end : List ℕ} {c : Changed} → j < mostHeld → Did mid bs less (pushed (storeOf mid bs less) a new (v .value)) vs-end bs-end c
+              → Did vs bs n (moved here a old new) vs-end bs-end c
           move-done l d = move-to _ (push-is mid bs less less-lent a new (v .value) _ j refl ej room l) d
 
-      pub move-full : i < n .values → mostHeld ≤ j → Did vs bs n (moved here a old new) vs bs (record { outcome = O.Refused R.Held; held = n })
+      pub move-full : {c : Changed} → i < n .values → mostHeld ≤ j → c ≡ overfull n → Did vs bs n (moved here a old new) vs bs c
       unfolding taken
-      move-full h l =
-          rw (move-is h (getD (valuesOf vs) i blankValue) refl ∙
-          push-over (taken here a old) a new (getD (valuesOf vs) i blankValue .value) (bucket-full vs bs n lent a new 0 _ j refl ej ∙ le-leb mostHeld j l)) (record { outcome = refl; laid = laid-same vs bs n lent })
+      move-full h l q =
+          let v = getD (valuesOf vs) i blankValue in
+          let over = push-over (taken here a old) a new (v .value) (bucket-full vs bs n lent a new 0 _ j refl ej ∙ le-leb mostHeld j l) in
+          rw (q, move-is h v refl ∙ over) (record { outcome = refl; laid = laid-same vs bs n lent })

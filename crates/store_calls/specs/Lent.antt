@@ -6,13 +6,14 @@ use lib.ListN.{length, take}
 use Rattle.lists.specs.Lay.{lay}
 use Rattle.lists.specs.Walk.{Result, done, refused}
 use Rattle.refusals.specs.declared.Refusal.{Refusal}
+use Rattle.refusals.specs.declared.Refusal.the-variants as R
 use Rattle.entries.specs.Entries.{mostHeld, blankValue, blankBucket}
 use Rattle.entries.specs.Words.{valuesOf, bucketsOf, WholeValues, WholeBuckets, HeldValues, HeldBuckets}
 use Rattle.store.specs.Store as S
 use Rattle.store.specs.Store.{Store}
 use Rattle.store_calls.specs.declared.Counts.{Counts}
-use Rattle.store_calls.specs.declared.Outcome.{Outcome}
-use Rattle.store_calls.specs.declared.Outcome.the-variants as O
+use Rattle.refusals.specs.declared.Outcome.{Outcome}
+use Rattle.refusals.specs.declared.Outcome.the-variants as O
 use Rattle.store_calls.specs.declared.Changed.{Changed}
 use Rattle.store_calls.specs.declared.Found.{Found}
 use Rattle.store_calls.specs.declared.Found.the-variants as F
@@ -54,6 +55,10 @@ told (refused r) = O.Refused r
 abbrev pub after : Store → Result Refusal Store → Store
 after s (done t) = t
 after s (refused r) = s
+
+-- refused, since as many are held as may be
+abbrev pub overfull : Counts → Changed
+overfull n = record { outcome = O.Refused R.Held; held = n }
 
 pub record Did (vs bs : List ℕ) (n : Counts) (r : Result Refusal Store) (vs-end bs-end : List ℕ) (c : Changed) : Type 0 where
   pub outcome : c .outcome ≡ told r

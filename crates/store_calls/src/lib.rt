@@ -1,18 +1,21 @@
-// The calls of the value store on lent rows: document 01, "Values and level walks", first part. Carried over from boomerang_runtime's
-// action/store.rs (`ActionStore`). Two arrays of rows are lent, with how many of each are held; a row that is freed is blank.
+// The calls of the value store on lent rows: document 01, "pushing again overwrites" to "a move of a value not held". Carried over from
+// boomerang_runtime's action/store.rs (`ActionStore`). Two arrays of rows are lent, with how many of each are held; a row that is freed is blank.
+// Refusal 9 is decided here. A new call comes in here and in `Call` of value_store.
 ghost use mathlib.Core.Path.{_≡_};
 ghost use Prim.Native.Nat.{_≤_};
 ghost use lib.ListN.{take};
+ghost use Rattle.lists.specs.Lent.{was, is};
 ghost use Rattle.tags.specs.Views.{ofGlobal};
 ghost use Rattle.entries.specs.Entries.{mostHeld};
 ghost use Rattle.entries.specs.Words.{valuesOf, bucketsOf};
 ghost use Rattle.store.specs.Store.{pushed, nextIn, atLeast, unlessLast, valueIn, taken, clearedBefore, cleared, moved};
-ghost use Rattle.store_calls.specs.Lent.{storeOf, Lent, Laid, Did, foundOf, nextOf};
+ghost use Rattle.store_calls.specs.Lent.{storeOf, Lent, Laid, Did, foundOf, nextOf, overfull};
 use entries::Bucket;
 use entries::BucketRows;
 use entries::MOST_HELD;
 use entries::Value;
 use entries::ValueRows;
+use refusals::Outcome;
 use refusals::Refusal;
 use store::BucketTest;
 use store::ValueTest;
@@ -22,12 +25,6 @@ use tags::GlobalTag;
 pub struct Counts {
     pub values: usize,
     pub buckets: usize,
-}
-
-// Done, or the refusal.
-pub enum Outcome {
-    Done,
-    Refused(Refusal),
 }
 
 // What a call that may refuse comes to.
@@ -54,6 +51,16 @@ pub enum Next {
     Microstep(u32),
 }
 
+// As many are held as may be.
+fn full(held: Counts) -> Changed
+    ensures { λ r. ⌜ r ≡ overfull held ⌝ }
+{
+    Changed {
+        outcome: Outcome::Refused(Refusal::Held),
+        held: held,
+    }
+}
+
 // Pushing again overwrites; the bucket rises to the largest pushed plus one, held at the limit.
 pub fn push(
     values: &mut ValueRows,
@@ -64,23 +71,17 @@ pub fn push(
     value: u64,
 ) -> Changed
     requires { ⌜ Lent (now values) (now buckets) held ⌝ }
-    ensures { λ r. ⌜ Did (now (values .entry)) (now (buckets .entry)) held (pushed (storeOf (now (values .entry)) (now (buckets .entry)) held) action (ofGlobal tag) value) (now (values .exit)) (now (buckets .exit)) r ⌝ }
+    ensures { λ r. ⌜ Did (was values) (was buckets) held (pushed (storeOf (was values) (was buckets) held) action (ofGlobal tag) value) (is values) (is buckets) r ⌝ }
 {
     let n = held.values;
     let m = held.buckets;
     let i = store::find_value(values, n, ValueTest::At(action, tag));
     let j = store::find_bucket(buckets, m, BucketTest::At(action, tag.0));
     if MOST_HELD <= i {
-        return Changed {
-            outcome: Outcome::Refused(Refusal::Held),
-            held: held,
-        };
+        return full(held);
     }
     if MOST_HELD <= j {
-        return Changed {
-            outcome: Outcome::Refused(Refusal::Held),
-            held: held,
-        };
+        return full(held);
     }
     let next = store::next_after(tag.1);
     let a = store::set_value(
@@ -125,7 +126,7 @@ fn unless_last(microstep: u32) -> Next
 // The larger of the bucket's and the least, or the least if no bucket.
 pub fn next_microstep(buckets: &BucketRows, n: usize, action: u16, offset: u64, least: u32) -> Next
     requires { ⌜ n ≤ mostHeld ⌝ }
-    ensures { λ r. ⌜ nextOf r ≡ atLeast (nextIn action offset (take n (bucketsOf (now (buckets .entry))))) least ⌝ }
+    ensures { λ r. ⌜ nextOf r ≡ atLeast (nextIn action offset (take n (bucketsOf (was buckets)))) least ⌝ }
 {
     let j = store::find_bucket(buckets, n, BucketTest::At(action, offset));
     if n <= j {
@@ -144,8 +145,8 @@ pub fn take(
     tag: GlobalTag,
 ) -> Taken
     requires { ⌜ Lent (now values) (now buckets) held ⌝ }
-    ensures { λ r. ⌜ foundOf (r .found) ≡ valueIn action (ofGlobal tag) (take (held .values) (valuesOf (now (values .entry)))) ⌝ }
-    ensures { λ r. ⌜ Laid (now (values .entry)) (now (buckets .entry)) held (taken (storeOf (now (values .entry)) (now (buckets .entry)) held) action (ofGlobal tag)) (now (values .exit)) (now (buckets .exit)) (r .held) ⌝ }
+    ensures { λ r. ⌜ foundOf (r .found) ≡ valueIn action (ofGlobal tag) (take (held .values) (valuesOf (was values))) ⌝ }
+    ensures { λ r. ⌜ Laid (was values) (was buckets) held (taken (storeOf (was values) (was buckets) held) action (ofGlobal tag)) (is values) (is buckets) (r .held) ⌝ }
 {
     let n = held.values;
     let i = store::find_value(values, n, ValueTest::At(action, tag));
@@ -175,7 +176,7 @@ pub fn clear_older_than(
     tag: GlobalTag,
 ) -> Counts
     requires { ⌜ Lent (now values) (now buckets) held ⌝ }
-    ensures { λ r. ⌜ Laid (now (values .entry)) (now (buckets .entry)) held (clearedBefore (storeOf (now (values .entry)) (now (buckets .entry)) held) action (ofGlobal tag)) (now (values .exit)) (now (buckets .exit)) r ⌝ }
+    ensures { λ r. ⌜ Laid (was values) (was buckets) held (clearedBefore (storeOf (was values) (was buckets) held) action (ofGlobal tag)) (is values) (is buckets) r ⌝ }
 {
     let n = held.values;
     let m = held.buckets;
@@ -191,7 +192,7 @@ pub fn clear_older_than(
 // All that the action has.
 pub fn clear(values: &mut ValueRows, buckets: &mut BucketRows, held: Counts, action: u16) -> Counts
     requires { ⌜ Lent (now values) (now buckets) held ⌝ }
-    ensures { λ r. ⌜ Laid (now (values .entry)) (now (buckets .entry)) held (cleared (storeOf (now (values .entry)) (now (buckets .entry)) held) action) (now (values .exit)) (now (buckets .exit)) r ⌝ }
+    ensures { λ r. ⌜ Laid (was values) (was buckets) held (cleared (storeOf (was values) (was buckets) held) action) (is values) (is buckets) r ⌝ }
 {
     let n = held.values;
     let m = held.buckets;
@@ -213,7 +214,7 @@ pub fn move_value(
     new: GlobalTag,
 ) -> Changed
     requires { ⌜ Lent (now values) (now buckets) held ⌝ }
-    ensures { λ r. ⌜ Did (now (values .entry)) (now (buckets .entry)) held (moved (storeOf (now (values .entry)) (now (buckets .entry)) held) action (ofGlobal old) (ofGlobal new)) (now (values .exit)) (now (buckets .exit)) r ⌝ }
+    ensures { λ r. ⌜ Did (was values) (was buckets) held (moved (storeOf (was values) (was buckets) held) action (ofGlobal old) (ofGlobal new)) (is values) (is buckets) r ⌝ }
 {
     let n = held.values;
     let m = held.buckets;
@@ -232,10 +233,7 @@ pub fn move_value(
         };
     }
     if MOST_HELD <= j {
-        return Changed {
-            outcome: Outcome::Refused(Refusal::Held),
-            held: held,
-        };
+        return full(held);
     }
     let v = entries::value_at(values, i);
     let left = store::lose_values(values, n, ValueTest::At(action, old));

@@ -13,8 +13,10 @@ use Rattle.lists.specs.Walk.{Result, done, refused}
 use Rattle.refusals.specs.declared.Refusal.{Refusal}
 use Rattle.tags.specs.Tags.{Tag, at, maxMicrostep, maxOffset, within, sameTag, earlier}
 use Rattle.entries.specs.Entries.{Value, Bucket, mostHeld}
-use Rattle.store.specs.Store.{Store, emptyStore, isValue, isBucket, isBefore, isThere, isSpent, ofAction, bucketOf, following, larger, raised, overwritten, lacks, pushed, Found, nothing, found, valueIn, taken, pushFound, moved, cleared, clearedBefore, coveredBy, hasBucket, valueRules, bucketRules, sameValue, sameBucket, storeRules}
-use Rattle.lists.specs.Changes.{no-way, or-no-left, or-no-right, not-no, by-test, either-is, any-upsert-more, any-upsert-new, every-upsert, distinct-upsert, room-upsert, any-lose-not, distinct-lose, every-imp, every-two, every-lose, lost-none, any-each}
+use Rattle.store.specs.Store.{Store, emptyStore, isValue, isBucket, isBefore, isThere, isSpent, ofAction, bucketOf, following, larger, raised, overwritten, lacks, pushed, Found, nothing}
+use Rattle.store.specs.Store.{found, valueIn, taken, pushFound, moved, cleared, clearedBefore, coveredBy, hasBucket, valueRules, bucketRules, sameValue, sameBucket, storeRules}
+use Rattle.lists.specs.Changes.{no-way, or-no-left, or-no-right, not-no, by-test, either-is, any-upsert-more, any-upsert-new, every-upsert}
+use Rattle.lists.specs.Changes.{distinct-upsert, room-upsert, any-lose-not, distinct-lose, every-imp, every-two, every-lose, lost-none, any-each}
 
 not-done : {A : Type 0} {r : Refusal} {a : A} → refused r ≡ done a → ⊥
 not-done e = let z : _≡_ {A = ℕ} 0 1 = cc in omega arith

@@ -105,7 +105,9 @@ module _ (bs : List ℕ) (n : ℕ) (m : n ≤ mostHeld) (v : Value) where
 
 module _ {A : Type 0} (decode : List ℕ → A) (encode : A → List ℕ) (w k : ℕ) (long : (a : A) → length (encode a) ≡ w) (p : A → Bool) (ws : List ℕ) (n : ℕ) where
   pub all-proper : {r : ℕ} {s : Bool} → n ≤ k → r ≡ place (λ a. not (p a)) (take n (thingsOf decode encode w k long ws)) → s ≡ leb n r → s ≡ every p (take n (thingsOf decode encode w k long ws))
-  all-proper m e q = q ∙ rw (every-not p (take n (thingsOf decode encode w k long ws)), place-not (λ a. not (p a)) (take n (thingsOf decode encode w k long ws)), front-long decode encode w k long ws n m, e)
+  all-proper m e q =
+      let l = take n (thingsOf decode encode w k long ws) in
+      q ∙ rw (every-not p l, place-not (λ a. not (p a)) l, front-long decode encode w k long ws n m, e)
 
 -- one more of those that must pass
 

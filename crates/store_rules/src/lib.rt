@@ -1,5 +1,6 @@
-// The state rules of the value store on lent rows: document 01, "State rules", on values and buckets.
+// The state rules of the value store on lent rows: document 01, "values are unique by action and tag; buckets by action and offset".
 // Equal keys have equal slots, so a value whose slot no other has marked is under no other's key: few rows are compared with all others.
+// A new rule on values comes in here and in `storeRules` of store; callers ask `keeps_rules` alone.
 ghost use mathlib.Core.Path.{_≡_};
 ghost use mathlib.Core.Bool.{true, not};
 ghost use Prim.Native.Nat.{_+_, _≤_, _<_};

@@ -1,4 +1,4 @@
-// Runs scripts of store calls through `Store`, for comparison with the Rust. Each script starts with an empty store.
+// Runs scripts of store calls through `Store`: document 01, "All else is run against the Rust". Each script starts with an empty store.
 // Standard input, big-endian. A script: number of actions 2, number of calls 2, then the calls: op 1, action 2, operands
 // (1 push: tag 12, value 8; 2 next microstep: offset 8, least 4; 3 take: tag; 4 clear before: tag; 5 clear: none; 6 move: from, to).
 // Standard output. An answer a call: kind 1 (0 done, 1 a number, 2 nothing, 3 refused), number 8. After a script's calls, what is held,

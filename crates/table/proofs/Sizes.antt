@@ -54,5 +54,6 @@ pub smallest-size : length smallest ≡ 33
 smallest-size = refl
 
 pub smallest-accepted : check smallest ≡ Accepted
-unfolding check wrongLength be countFits badCount badRow kindFits badKind checkRows scan kindOf kinds count countPlace place rowPlace field keyFields keyExists keysExist every parentRule scopeRule initialRule reactorRule ownRule rowRule
+unfolding check wrongLength be countFits badCount badRow kindFits badKind checkRows scan kindOf kinds count countPlace place rowPlace field keyFields keyExists keysExist every
+    parentRule scopeRule initialRule reactorRule ownRule rowRule
 smallest-accepted = refl

@@ -14,9 +14,11 @@ use Rattle.lists.specs.Scan.{scan-all}
 use Rattle.tags.specs.Tags.{within}
 use Rattle.rows.specs.Bytes.{Image, be}
 use Rattle.rows.specs.Kinds.{kinds, kindOf, kindCount, headBytes, count, countPlace, place, scope, reactor, mode, reaction, action, trigger, startup, reset, timer}
-use Rattle.rows.specs.Rows.{none, rowPlace, field, parent, scopeReactor, scopeMode, rootScope, initialMode, modeScope, modeReactor, level, actionScope, logical, triggerAction, triggerReaction, startupScope, startupAction, startupReaction, resetScope, resetReaction, timerAction}
+use Rattle.rows.specs.Rows.{none, rowPlace, field, parent, scopeReactor, scopeMode, rootScope, initialMode, modeScope, modeReactor, level, actionScope, logical}
+use Rattle.rows.specs.Rows.{triggerAction, triggerReaction, startupScope, startupAction, startupReaction, resetScope, resetReaction, timerAction}
 use Rattle.rows.specs.Lineage.{under}
-use Rattle.table.specs.Rules.{key, keyFields, keyExists, keysExist, parentRule, agrees, scopeRule, initialRule, reactorRule, modeRule, maxLevel, reactionRule, actionRule, timerTag, timerRule, ownRule, rowRule}
+use Rattle.table.specs.Rules.{key, keyFields, keyExists, keysExist, parentRule, agrees, scopeRule, initialRule, reactorRule}
+use Rattle.table.specs.Rules.{modeRule, maxLevel, reactionRule, actionRule, timerTag, timerRule, ownRule, rowRule}
 use Rattle.table.specs.Check.{version, wrongLength, countFits, badCount, badRow, kindFits, badKind, checkRows, check}
 use Rattle.table.specs.Table.{Table}
 use Rattle.table.specs.declared.Checked.{Checked}

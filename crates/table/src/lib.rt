@@ -1,8 +1,10 @@
-// The check of a table image: document 01, "The table image". An accepted image is the table itself: nothing is copied.
+// The check of a table image: document 01, "Checks", and the rules of its rows. An accepted image is the table itself: nothing is copied.
+// A new rule of a row comes in here, in `KEY_FIELDS` or `own_rule` and in specs/Rules; reader and writer go by it, and faults tells it.
 ghost use mathlib.Core.Path.{_≡_};
 ghost use Prim.Native.Nat.{_+_};
 ghost use lib.ListN.{getD};
-ghost use Rattle.table.specs.Rules.{key, keyFields, keyCount, keyExists, keysExist, parentRule, agrees, scopeRule, initialRule, reactorRule, modeRule, reactionRule, actionRule, timerRule, ownRule, rowRule};
+ghost use Rattle.table.specs.Rules.{key, keyFields, keyCount, keyExists, keysExist, parentRule, agrees, scopeRule, initialRule};
+ghost use Rattle.table.specs.Rules.{reactorRule, modeRule, reactionRule, actionRule, timerRule, ownRule, rowRule};
 ghost use Rattle.table.specs.Check.{numberOf, placeOf, wrongLength, countFits, badCount, badRow, checkRows, isTable, check as checkOf};
 use tags::LocalTag;
 

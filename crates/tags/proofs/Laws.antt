@@ -13,7 +13,8 @@ use Rattle.lists.specs.Tests.{gt-ltb, gt-eqb, flag, flag-no, flag-yes, and-left
 use Rattle.lists.specs.Walk.{Result, done, refused}
 use Rattle.refusals.specs.declared.Refusal.{Refusal}
 use Rattle.refusals.specs.declared.Refusal.the-variants.{ArgumentTag, MappedTag, StateRule}
-use Rattle.tags.specs.Tags.{Tag, Clock, Answer, Shifted, at, maxOffset, maxMicrostep, within, withinClock, sameTag, earlier, delayed, shifted, settled, settledTag, heldBack, heldBackTag, checked, toLocal, toGlobal, isHeld, globalToLocal, localToGlobal}
+use Rattle.tags.specs.Tags.{Tag, Clock, Answer, Shifted, at, maxOffset, maxMicrostep, within, withinClock, sameTag, earlier, delayed, shifted}
+use Rattle.tags.specs.Tags.{settled, settledTag, heldBack, heldBackTag, checked, toLocal, toGlobal, isHeld, globalToLocal, localToGlobal}
 use Rattle.tags.specs.Views.{ofFields, answered, wide, placeOf, placeAt, settledAt, heldBackAt, heldAt, placedAt}
 use Rattle.tags.specs.declared.Fields.{Fields}
 use Rattle.tags.specs.declared.Settled.{Settled}

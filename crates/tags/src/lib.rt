@@ -1,9 +1,11 @@
-// Tags on the two scales, and the scope clock that maps between them: document 01, "Tags".
+// Tags on the two scales, and the scope clock that maps between them: document 01, "a local tag is never given where a global one is due".
 // Carried over from boomerang_runtime's time.rs (`Tag`) and sched/modal.rs (`ScopeClockState`, both maps).
+// What a map answers is changed here (`MappedGlobal`, `MappedLocal`, specs/Tags); callers use the maps, and name the scale that they mean.
 ghost use mathlib.Core.Path.{_≡_};
 ghost use mathlib.Core.Bool.{true, _&&_};
 ghost use Rattle.tags.specs.Tags.{maxOffset, maxMicrostep, within, sameTag, earlier, delayed, shifted, withinClock, toLocal, toGlobal, isHeld, globalToLocal, localToGlobal, freshClock};
-ghost use Rattle.tags.specs.Views.{ofGlobal, ofLocal, ofQueue, ofFields, ofClock, answered, delayedGlobal, delayedLocal, mappedGlobal, mappedLocal, placeOf, settledAt, heldBackAt, heldAt, placedAt};
+ghost use Rattle.tags.specs.Views.{ofGlobal, ofLocal, ofQueue, ofFields, ofClock, answered, delayedGlobal, delayedLocal};
+ghost use Rattle.tags.specs.Views.{mappedGlobal, mappedLocal, placeOf, settledAt, heldBackAt, heldAt, placedAt};
 use refusals::Refusal;
 
 // A global tag: offset in nanoseconds, microstep.

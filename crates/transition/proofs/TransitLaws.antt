@@ -1,55 +1,42 @@
--- The arrays hold a state through a transition's steps, and the whole from its parts. Assumes nothing.
+-- A transition's whole from its parts: the refusals, the plan, and the steps on the room. Assumes nothing.
 use mathlib.Core.Bool.{Bool, true, false, cond, _&&_}
 use mathlib.Core.Path.{_≡_, refl, ap, _∙_, sym, subst}
-use mathlib.Core.List.{List, [], map}
+use mathlib.Core.List.{List}
 use Prim.Native.Nat.{ℕ, _≤_, _<_}
 use lib.Dec.{ltb, eqb}
-use lib.ListN.{length, getD, take, length-map}
-use lib.Seq.{ext-getD}
+use lib.ListN.{length, getD, take}
 use borrow.Author.Tests.{lt-ltb, le-ltb, ltb-true, ne-eqb, eq-eqb}
 use Rattle.lists.specs.Tests.{and-left, and-no}
 use Rattle.lists.specs.Every.{either-is}
-use Rattle.lists.specs.Lists.{from}
-use Rattle.lists.specs.Walk.{done, refused, _>>=_, walk}
+use Rattle.lists.specs.Walk.{done, refused, _>>=_}
 use Rattle.refusals.specs.declared.Refusal.{Refusal}
 use Rattle.refusals.specs.declared.Refusal.the-variants as R
+use Rattle.refusals.specs.declared.Outcome.{Outcome}
+use Rattle.refusals.specs.declared.Outcome.the-variants as O
 use Rattle.rows.specs.Bytes.{Image}
 use Rattle.rows.specs.Rows.{modeScope, modeReactor}
-use Rattle.table.specs.Check.{isTable}
-use Rattle.kept.specs.Kept.{rules-tell}
-use Rattle.tags.specs.Tags.{Clock, freshClock, within}
+use Rattle.tags.specs.Tags.{within}
 use Rattle.tags.specs.Views.{ofGlobal}
 use Rattle.key_set.specs.Sets.{has}
-use Rattle.store_calls.specs.declared.Counts as store
-use Rattle.store_calls.specs.declared.Outcome as call
-use Rattle.store_calls.specs.declared.Outcome.the-variants as O
-use Rattle.store_calls.specs.Lent.{told}
 use Rattle.machine.specs.Table.{scopes, reactors, modes}
-use Rattle.machine.specs.State.{State, withModes, withClocks, without}
-use Rattle.machine.specs.Transition.{Step, insideOf, resetClocks, prepared, planOf, turned, firsts, turnsOn, transition}
-use Rattle.machine.specs.Machine.{rules, perform, answer, settle, refusal, Outcome}
-use Rattle.scopes.specs.Scopes.{Scope, mostScopes, scopesOf}
-use Rattle.lens.specs.declared.Counts.{Counts}
-use Rattle.lens.specs.Padded.{padded}
-use Rattle.lens.specs.Lens.{waits-queued, Scoped, scoped-take, scopesFrom, Even, joined-length, clocks-of, active-of, ever-of, mostReactors}
+use Rattle.machine.specs.State.{State, withModes, without}
+use Rattle.machine.specs.Transition as T
+use Rattle.machine.specs.Transition.{Step, insideOf, prepared, planOf, transition}
+use Rattle.machine.specs.Machine.{ok, refusal, perform, settle}
+use Rattle.lens.specs.Holds.{Rows, Holds, Held, After, Steps, Answers, Performs, replyOf, modes-are, shows, not-both}
+use Rattle.lens.specs.Lens.{mostReactors}
+use Rattle.lens.specs.Padded.{padded-length}
+use Rattle.lens.specs.Parts.{finished}
 use Rattle.plan.specs.declared.Plan.{Plan}
 use Rattle.plan.specs.declared.Request.{Request}
 use Rattle.plan.specs.Plans.{planIn, Marks, Planned}
-use Rattle.plan.specs.Lent.{Good, rowsIn, finished, rows-are, rows-good}
-use Rattle.plan.proofs.PlanLaws.{few-scopes, marks-map, planned-inside, planned-plan, planned-modes}
-use Rattle.resets.specs.Resetting.{scopesReset, rowsReset}
-use Rattle.resets.proofs.ResetLaws.{taken-long, reset-at, reset-long, rows-same, step1-is}
-use Rattle.starts.specs.declared.Started.{Started}
-use Rattle.starts.specs.Starting.{Clocks, firstTime, keysOf}
-use Rattle.starts.proofs.StartLaws.{rows-clocks, rows-ever, firsts-are}
-use Rattle.turns.specs.Left.{Holds, AfterTurns}
-use Rattle.turns.proofs.MoveLaws.{walk-modes}
-use Rattle.turns.proofs.RowLaws.{other-outcome}
-use Rattle.turns.proofs.TurnLaws.{allTurns, holds-state}
-use Rattle.unpacked.specs.Unpacked as U
-use Rattle.unpacked.specs.Unpacked.{Unpacked}
-use Rattle.transition.specs.Transiting.{callOf, replyOf, refusalOf, cleared, startsOn, AfterSteps, Applied}
-use Rattle.transition.specs.declared.Transited.{Transited}
+use Rattle.plan.proofs.PlanLaws.{marks-map, planned-inside, planned-plan, planned-modes, prepared-long}
+use Rattle.resets.specs.Resetting.{cleared, Resets}
+use Rattle.resets.proofs.ResetLaws.{none-cleared, step1-is}
+use Rattle.starts.specs.Starting.{firstTime, restartsOn}
+use Rattle.starts.proofs.StartLaws.{firsts-are}
+use Rattle.turns.specs.Turns.{allTurns}
+use Rattle.transition.specs.Transiting.{callOf, refusalOf, startsOn, turnsOn, stepsOn}
 
 -- ---- refusals before anything changes
 
@@ -79,144 +66,13 @@ module _ (img : Image) (q : Request) {known : Bool} (k : known ≡ (ltb (q .reac
       unfolding refusalOf
       refused-none n = sym (rw (sym k ∙ e, ← o, eq-eqb owner (q .reactor) m, sym f ∙ n))
 
--- ---- the arrays hold a state
-
-module _ (img : Image) (t : State) (xs ws vs bs : List ℕ) (c : Counts) (h : store.Counts) (r : Holds img t xs ws vs bs c h) where
-  pub holds-good : Good ws vs bs c h
-  holds-good = rows-good t ws vs bs c h (r .queued) (r .short) (r .counted) (r .stored) (r .fits)
-
-  pub holds-are : rowsIn t ws vs bs c h ≡ t
-  holds-are = rows-are t ws vs bs c h (r .queued) (r .short) (r .stored) (r .fits)
-
-  few : isTable img ≡ true → length (scopesFrom t) ≤ mostScopes
-  few tb = rw (joined-length (scopes img) (t .clocks) (t .active) (t .ever) (r .even)) (few-scopes img tb)
-
-  -- the modes play no part
-  pub holds-modes : (ms : List ℕ) → Holds img (withModes t ms) xs ws vs bs c h
-  holds-modes ms = record { even = r .even; scoped = r .scoped; queued = r .queued; short = r .short; counted = r .counted; stored = r .stored; fits = r .fits }
-
-  pub holds-clocks : isTable img ≡ true → Clocks xs t
-  holds-clocks tb = rows-clocks img t (scopesFrom t) xs (r .scoped) (few tb) (sym (clocks-of (scopes img) (t .clocks) (t .active) (t .ever) (r .even)))
-
-  pub holds-firsts : isTable img ≡ true → (p : Plan) (set : List ℕ) → Marks (firstTime (p .now .words) xs) (scopes img) set → firsts img (planIn img p) t ≡ keysOf img set
-  holds-firsts tb p set m =
-      firsts-are img p xs set t m
-      λ i l. rows-ever img t (scopesFrom t) xs (r .scoped) (few tb) (sym (ever-of (scopes img) (t .clocks) (t .active) (t .ever) (r .even))) i
-
-  taken : isTable img ≡ true → take (scopes img) (scopesOf xs) ≡ scopesFrom t
-  taken tb = scoped-take (scopesFrom t) xs (r .scoped) (scopes img) (few tb) (joined-length (scopes img) (t .clocks) (t .active) (t .ever) (r .even))
-
--- the state with other clocks, and the events and the store of rows
-pub good-holds : (img : Image) (t : State) (xs ws vs bs : List ℕ) (c : Counts) (h : store.Counts) →
-    Even (scopes img) (t .clocks) (t .active) (t .ever) → Scoped (scopesFrom t) xs → Good ws vs bs c h → Holds img (rowsIn t ws vs bs c h) xs ws vs bs c h
-good-holds img t xs ws vs bs c h e s g =
-    let q = waits-queued ws c (g .waits) in
-    record {
-      even = e;
-      scoped = s;
-      queued = q;
-      short = rw (← (q .waiting)) (g .waits .few);
-      counted = g .waits .counted;
-      stored = g .holds .stored;
-      fits = g .holds .fits;
-    }
-
--- ---- step 1
-
-module _ (img : Image) (tb : isTable img ≡ true) (ins : List Bool) (xs xs-end : List ℕ) (o : Scoped (scopesReset ins (take (scopes img) (scopesOf xs))) xs-end) where
-  abbrev ss : List Scope
-  ss = take (scopes img) (scopesOf xs)
-
-  reset-even : Even (scopes img) (resetClocks ins (map (λ x. x .clock) ss)) (map (λ x. x .active) ss) (map (λ x. x .ever) ss)
-  reset-even =
-      let n = taken-long img xs tb in
-      record { clocks = reset-long ins _ ∙ length-map ss (λ x. x .clock) ∙ n; active = length-map ss (λ x. x .active) ∙ n; ever = length-map ss (λ x. x .ever) ∙ n }
-
-  pub reset-scoped : Scoped (take (scopes img) (scopesOf xs-end)) xs-end
-  reset-scoped =
-      let l = joined-length (scopes img) _ _ _ reset-even in
-      rw (scoped-take (scopesReset ins ss) xs-end o (scopes img) (rw l (few-scopes img tb)) l) o
-
-  module _ (s : State) (ws vs bs : List ℕ) (c : Counts) (h : store.Counts) (ws-end vs-end bs-end : List ℕ) (c-end : Counts) (h-end : store.Counts)
-      (g : Good ws-end vs-end bs-end c-end h-end)
-      (e : (t : State) → rowsReset img ins (rowsIn t ws vs bs c h) ≡ rowsIn t ws-end vs-end bs-end c-end h-end)
-      (r : Holds img s xs ws vs bs c h) where
-    reset-is : cleared img ins s ≡ withClocks (rowsIn s ws-end vs-end bs-end c-end h-end) (resetClocks ins (s .clocks))
-    reset-is = ap (λ t. withClocks t (resetClocks ins (s .clocks))) (ap (rowsReset img ins) (sym (holds-are img s xs ws vs bs c h r)) ∙ e s)
-
-    reset-holds : Holds img (rowsIn (withClocks s (resetClocks ins (s .clocks))) ws-end vs-end bs-end c-end h-end) xs-end ws-end vs-end bs-end c-end h-end
-    reset-holds =
-        let v = r .even in
-        let x = taken img s xs ws vs bs c h r tb in
-        let a = clocks-of (scopes img) (s .clocks) (s .active) (s .ever) v in
-        let b = active-of (scopes img) (s .clocks) (s .active) (s .ever) v in
-        let d = ever-of (scopes img) (s .clocks) (s .active) (s .ever) v in
-        good-holds img (withClocks s (resetClocks ins (s .clocks))) xs-end ws-end vs-end bs-end c-end h-end
-        (record { clocks = reset-long ins (s .clocks) ∙ v .clocks; active = v .active; ever = v .ever })
-        (rw (x, a, b, d) at o)
-        g
-
-    -- what comes after it, said of the state that it leaves
-    pub reset-then : (f : State → Step) (z : Started) (xs-last ws-last vs-last bs-last : List ℕ) →
-        ((t : State) → Holds img t xs-end ws-end vs-end bs-end c-end h-end → AfterSteps img (t .modes) (f t) z xs-last ws-last vs-last bs-last) →
-        AfterSteps img (s .modes) (f (cleared img ins s)) z xs-last ws-last vs-last bs-last
-    reset-then f z xs-last ws-last vs-last bs-last k =
-        subst (λ t. AfterSteps img (s .modes) (f t) z xs-last ws-last vs-last bs-last) (sym reset-is) (k _ reset-holds)
-
--- ---- step 3, and what it leaves
-
-module _ (img : Image) (xs ws vs bs : List ℕ) (c : Counts) (h : store.Counts) (o : call.Outcome) where
-  pub turns-good : (a : Step) → o ≡ told a → AfterTurns img a xs ws vs bs c h → o ≡ O.Done → Good ws vs bs c h
-  turns-good (done t) e k d = holds-good img t xs ws vs bs c h k
-  turns-good (refused n) e k d = other-outcome (sym e ∙ d)
-
-module _ (img : Image) (tb : isTable img ≡ true) (p : Plan) (s : State) (xs ws vs bs : List ℕ) (c : Counts) (h : store.Counts) (r : Holds img s xs ws vs bs c h)
-    (o : call.Outcome) (xs-end ws-end vs-end bs-end : List ℕ) (h-end : store.Counts) where
-  abbrev all : Step
-  all = allTurns img (planIn img p) c xs ws vs bs h
-
-  -- all turns from the state with its modes
-  with-modes : walk (turned (planIn img p)) s (from 0 (scopes img)) ≡ (all >>= λ t. done (withModes t (s .modes)))
-  with-modes = rw (holds-state img s xs ws vs bs c h r [] tb) (walk-modes (planIn img p) (s .modes) (withModes s (take (reactors img) [])) (from 0 (scopes img)))
-
-  abbrev later : List ℕ → State → Step
-  later set t = startsOn img (ofGlobal (p .c)) (p .target) (planIn img p .inside) (keysOf img set) t
-
-  module _ (set : List ℕ) (m : Marks (firstTime (p .now .words) xs) (scopes img) set) (e : o ≡ told all) (k : AfterTurns img all xs-end ws-end vs-end bs-end c h-end) where
-    turns-are : turnsOn img (p .target) (planIn img p) s ≡ ((all >>= λ t. done (withModes t (s .modes))) >>= later set)
-    unfolding turnsOn
-    turns-are = rw (with-modes, holds-firsts img s xs ws vs bs c h r tb p set m)
-
-    pub turns-refused : {x : Refusal} {y : call.Outcome} (n : Counts) (w : store.Counts) (ys es us cs : List ℕ) → o ≡ O.Refused x → y ≡ O.Refused x →
-        AfterSteps img (s .modes) (turnsOn img (p .target) (planIn img p) s) (record { outcome = y; counts = n; held = w }) ys es us cs
-    turns-refused {x} {y} n w ys es us cs d f = rw turns-are (go all e)
-      where
-        go : (a : Step) → o ≡ told a → AfterSteps img (s .modes) ((a >>= λ t. done (withModes t (s .modes))) >>= later set) (record { outcome = y; counts = n; held = w }) ys es us cs
-        go (done t) e = other-outcome (sym d ∙ e)
-        go (refused n) e = f ∙ (sym d ∙ e)
-
-    pub turns-done : (z : Started) (es us cs : List ℕ) → o ≡ O.Done → Good es us cs (z .counts) (z .held) →
-        ((t : State) → Clocks xs-end t → later set (rowsIn t ws-end vs-end bs-end c h-end) ≡ finished (z .outcome) (rowsIn t es us cs (z .counts) (z .held))) →
-        AfterSteps img (s .modes) (turnsOn img (p .target) (planIn img p) s) z xs-end es us cs
-    turns-done z es us cs d g f = rw turns-are (go all e k)
-      where
-        last : (t : State) (x : call.Outcome) → z .outcome ≡ x → Even (scopes img) (t .clocks) (t .active) (t .ever) → Scoped (scopesFrom t) xs-end → t .modes ≡ s .modes →
-            AfterSteps img (s .modes) (finished x (rowsIn t es us cs (z .counts) (z .held))) z xs-end es us cs
-        last t O.Done q v w m = (q, (m, good-holds img t xs-end es us cs (z .counts) (z .held) v w g))
-        last t (O.Refused n) q v w m = q
-
-        go : (a : Step) → o ≡ told a → AfterTurns img a xs-end ws-end vs-end bs-end c h-end → AfterSteps img (s .modes) ((a >>= λ t. done (withModes t (s .modes))) >>= later set) z xs-end es us cs
-        go (done t) e k =
-            let u = withModes t (s .modes) in
-            let y = holds-modes img t xs-end ws-end vs-end bs-end c h-end k (s .modes) in
-            let q : later set u ≡ finished (z .outcome) (rowsIn u es us cs (z .counts) (z .held)) =
-            ap (later set) (sym (holds-are img u xs-end ws-end vs-end bs-end c h-end y)) ∙ f u (holds-clocks img u xs-end ws-end vs-end bs-end c h-end y tb) in
-            rw q (last u (z .outcome) refl (k .even) (k .scoped) refl)
-        go (refused n) e k = other-outcome (sym e ∙ d)
+-- a room has a place for each reactor that may be
+pub modes-full : (img : Image) (r : Rows) → Held img r → length (r .ledger .modes) ≡ mostReactors
+modes-full img r k = rw (k .holds .moded) (padded-length 0 mostReactors (k .state .modes))
 
 -- ---- steps 1 and 2 as the plan has them
 
-module _ (img : Image) (old : List ℕ) (q : Request) (waits : Counts) (holds : store.Counts) (p : Plan) (h : Planned img old q waits holds p) where
+module _ (img : Image) (old : List ℕ) (q : Request) (p : Plan) (h : Planned img old q p) where
   abbrev ins : List Bool
   ins = planIn img p .inside
 
@@ -224,19 +80,14 @@ module _ (img : Image) (old : List ℕ) (q : Request) (waits : Counts) (holds : 
   ins-are = marks-map _ (scopes img) (p .inside .words) (h .inside)
 
   inner : (i : ℕ) → has (p .inside .words) i ≡ getD ins i false
-  inner i = planned-inside img old q waits holds p h i ∙ ap (λ l. getD l i false) (sym ins-are)
+  inner i = planned-inside img old q p h i ∙ ap (λ l. getD l i false) (sym ins-are)
 
   module _ (n : q .reset ≡ false) where
     none-in : (i : ℕ) → has (p .inside .words) i ≡ false
     none-in i = h .inside .is i ∙ rw n (and-no (ltb i (scopes img)))
 
-    same-clocks : (ks : List Clock) → resetClocks ins ks ≡ ks
-    same-clocks ks =
-        ext-getD (freshClock false) (resetClocks ins ks) ks (reset-long ins ks)
-        λ k l. reset-at ins ks k (freshClock false) (rw (reset-long ins ks) at l) ∙ rw (sym (inner k) ∙ none-in k)
-
     history : (s : State) → cleared img ins s ≡ s
-    history s = ap (λ t. withClocks t (resetClocks ins (s .clocks))) (rows-same img (p .inside .words) ins inner none-in s) ∙ ap (withClocks s) (same-clocks (s .clocks))
+    history s = none-cleared img (p .inside .words) ins inner none-in s
 
   cleared-modes : (s : State) (ms : List ℕ) → cleared img ins (withModes s ms) ≡ withModes (cleared img ins s) ms
   unfolding without
@@ -253,15 +104,49 @@ module _ (img : Image) (old : List ℕ) (q : Request) (waits : Counts) (holds : 
           ap (λ t. withModes t ms) (step1-is img (modeScope img (q .mode)) (insideOf img true (modeScope img (q .mode))) s) ∙ ap (λ l. withModes (cleared img l s) ms) (sym l)
       go false e = ap (λ t. withModes t (prepared img (q .reactor) (q .mode) false s .modes)) (sym (history e s))
 
-  pub transition-is : (s : State) → s .modes ≡ take (reactors img) old →
-      turnsOn img (p .target) (planIn img p) (cleared img ins (withModes s (prepared img (q .reactor) (q .mode) (q .reset) s .modes))) ≡
-      transition img (q .reactor) (q .mode) (q .reset) (ofGlobal (q .c)) s
+  abbrev modesAfter : State → List ℕ
+  modesAfter s = prepared img (q .reactor) (q .mode) (q .reset) s .modes
+
+  abbrev wanted : State → Step
+  wanted s = transition img (q .reactor) (q .mode) (q .reset) (ofGlobal (q .c)) s
+
+  transition-is : (s : State) → s .modes ≡ take (reactors img) old → stepsOn img p (withModes s (modesAfter s)) ≡ wanted s
   unfolding transition
   transition-is s e =
-      let t = cleared img ins (withModes s (prepared img (q .reactor) (q .mode) (q .reset) s .modes)) in
-      ap (λ x. turnsOn img x (planIn img p) t) (h .target) ∙
-      ap (λ x. turnsOn img (modeScope img (q .mode)) x t) (planned-plan img old q waits holds p h s e) ∙
-      ap (λ x. turnsOn img (modeScope img (q .mode)) (planOf img (ofGlobal (q .c)) (insideOf img (q .reset) (modeScope img (q .mode))) (prepared img (q .reactor) (q .mode) (q .reset) s)) x) (prepared-is s)
+      let t = cleared img ins (withModes s (modesAfter s)) in
+      let target = modeScope img (q .mode) in
+      ap (λ x. T.turnsOn img x (planIn img p) t) (h .target) ∙
+      ap (λ x. T.turnsOn img target x t) (planned-plan img old q p h s e) ∙
+      ap (λ x. T.turnsOn img target (planOf img (ofGlobal (q .c)) (insideOf img (q .reset) target) (prepared img (q .reactor) (q .mode) (q .reset) s)) x) (prepared-is s)
+
+  -- on the room, the modes set first
+  module _ (r : Rows) (m : r .ledger .modes ≡ old) where
+    abbrev planned : Rows
+    planned = record { scopes = r .scopes; events = r .events; values = r .values; buckets = r .buckets; ledger = record { modes = p .modes; counts = r .ledger .counts; held = r .ledger .held } }
+
+    as-given : (s : State) → Holds img s r → s .modes ≡ take (reactors img) old
+    as-given s k = rw (← m) (sym (modes-are img s r k))
+
+    pub moded-holds : (s : State) → Holds img s r → Holds img (withModes s (modesAfter s)) planned
+    moded-holds s k =
+        record {
+          table = k .table;
+          moded = planned-modes img old q p h s (as-given s k);
+          modes-long = prepared-long img old q s (k .modes-long);
+          scoped = k .scoped;
+          scopes-long = k .scopes-long;
+          queued = k .queued;
+          few = k .few;
+          counted = k .counted;
+          stored = k .stored;
+          fits = k .fits;
+        }
+
+    pub moded-held : Held img r → Held img planned
+    moded-held k = record { state = withModes (k .state) (modesAfter (k .state)); holds = moded-holds (k .state) (k .holds) }
+
+    pub moded-steps : (o : Outcome) (after : Rows) → Steps img (stepsOn img p) planned o after → Steps img wanted r o after
+    moded-steps o after k s w = subst (λ x. After img x o after) (transition-is s (as-given s w)) (k (withModes s (modesAfter s)) (moded-holds s w))
 
 -- ---- the whole
 
@@ -271,82 +156,61 @@ module _ (img : Image) (q : Request) where
   allowed-known e =
       either-is (ltb (q .reactor) (reactors img) && ltb (q .mode) (modes img)) e
       (λ y z. ltb-true (q .reactor) (reactors img) (and-left (ltb (q .reactor) (reactors img)) _ y))
-      (λ y z. other-outcome z)
+      (λ y z. not-both (sym z))
 
-  module _ (s : State) where
-    abbrev wanted : Step
-    wanted = transition img (q .reactor) (q .mode) (q .reset) (ofGlobal (q .c)) s
+  -- each test of the machine's, and the same of the code's
+  perform-is : (s : State) (o : Outcome) → refusalOf img q ≡ o →
+      perform img s (callOf q) ≡ settle s (finished o s >>= λ t. transition img (q .reactor) (q .mode) (q .reset) (ofGlobal (q .c)) s)
+  unfolding refusalOf perform
+  perform-is s o e = rw (← e) (go (ltb (q .reactor) (reactors img) && ltb (q .mode) (modes img)) (eqb (modeReactor img (q .mode)) (q .reactor)) (within (ofGlobal (q .c))))
+    where
+      wanted : Step
+      wanted = transition img (q .reactor) (q .mode) (q .reset) (ofGlobal (q .c)) s
 
-    -- each test of the machine's, and the same of the code's
-    perform-is : (o : call.Outcome) → refusalOf img q ≡ o → perform img s (callOf q) ≡ settle s (finished o s >>= λ t. wanted)
-    unfolding refusalOf perform
-    perform-is o e = rw (← e) (go (ltb (q .reactor) (reactors img) && ltb (q .mode) (modes img)) (eqb (modeReactor img (q .mode)) (q .reactor)) (within (ofGlobal (q .c))))
+      go : (a b d : Bool) →
+          settle s (cond a (cond b (cond d wanted (refused R.ArgumentTag)) (refused R.TargetMode)) (refused R.Key)) ≡
+          settle s (finished (cond a (cond b (cond d O.Done (O.Refused R.ArgumentTag)) (O.Refused R.TargetMode)) (O.Refused R.Key)) s >>= λ t. wanted)
+      go true true true = refl
+      go true true false = refl
+      go true false d = refl
+      go false b d = refl
+
+  -- refused before anything changed
+  pub early-refused : {o : Outcome} {n : Refusal} (r : Rows) → o ≡ refusalOf img q → o ≡ O.Refused n → Performs img (callOf q) r (replyOf o) r
+  early-refused {o} r e f s k w = let x = perform-is s o (sym e) in rw (x, f) (record { reply-is = refl; holds = w })
+
+  module _ {o : Outcome} (e : o ≡ refusalOf img q) (f : o ≡ O.Done) (x : Outcome) (before after : Rows)
+      (k : Steps img (λ s. transition img (q .reactor) (q .mode) (q .reset) (ofGlobal (q .c)) s) before x after) where
+    -- done: the rows after it
+    pub performs-done : x ≡ O.Done → Performs img (callOf q) before (replyOf x) after
+    performs-done d s l w = rw (perform-is s O.Done (sym e ∙ f), d) (go (transition img (q .reactor) (q .mode) (q .reset) (ofGlobal (q .c)) s) (k s w))
       where
-        go : (a b d : Bool) →
-            settle s (cond a (cond b (cond d wanted (refused R.ArgumentTag)) (refused R.TargetMode)) (refused R.Key)) ≡
-            settle s (finished (cond a (cond b (cond d O.Done (O.Refused R.ArgumentTag)) (O.Refused R.TargetMode)) (O.Refused R.Key)) s >>= λ t. wanted)
-        go true true true = refl
-        go true true false = refl
-        go true false d = refl
-        go false b d = refl
+        go : (a : Step) → After img a x after → Answers img (settle s a) ok after
+        go (done t) y = record { reply-is = refl; holds = y .1 }
+        go (refused n) y = not-both (sym d ∙ y)
 
-module _ (img : Image) (old : List ℕ) (q : Request) (waits : Counts) (holds : store.Counts) (s : State) (xs ws vs bs : List ℕ) (rl : rules img s ≡ true) (u : Unpacked s old xs ws vs bs waits holds) where
-  unpacked-holds : Holds img s xs ws vs bs waits holds
-  unpacked-holds =
-      record {
-        even = U.even img s rl;
-        scoped = u .in-scopes;
-        queued = u .in-events;
-        short = U.room img s rl;
-        counted = rules-tell img s rl .sound .queued .work;
-        stored = u .in-store;
-        fits = U.fits img s rl;
-      }
-
-  -- refused: the arrays as given
-  pub applied-refused : {x : Refusal} (r : Transited) → perform img s (callOf q) ≡ answer (refusal x) s → r .outcome ≡ O.Refused x → r .modes ≡ old → r .counts ≡ waits → r .held ≡ holds →
-      Applied (perform img s (callOf q)) r xs ws vs bs
-  applied-refused r e o m c h = rw e (record { reply = rw o; unpacked = rw (m, c, h) u })
-
-  pub early-refused : {o : call.Outcome} {x : Refusal} (r : Transited) → o ≡ refusalOf img q → o ≡ O.Refused x → r .outcome ≡ O.Refused x → r .modes ≡ old → r .counts ≡ waits → r .held ≡ holds →
-      Applied (perform img s (callOf q)) r xs ws vs bs
-  early-refused r e f = applied-refused r (perform-is img q s (O.Refused _) (sym e ∙ f))
-
-  -- the steps ran
-  module _ (p : Plan) (h : Planned img old q waits holds p) (z : Started) (xs-end ws-end vs-end bs-end : List ℕ) {o : call.Outcome} (e : o ≡ refusalOf img q) (f : o ≡ O.Done)
-      (k : (t : State) → Holds img t xs ws vs bs (p .counts) (p .held) → AfterSteps img (t .modes) (turnsOn img (p .target) (planIn img p) (cleared img (planIn img p .inside) t)) z xs-end ws-end vs-end bs-end) where
-    abbrev ms : List ℕ
-    ms = prepared img (q .reactor) (q .mode) (q .reset) s .modes
-
-    as-given : s .modes ≡ take (reactors img) old
-    as-given = sym (U.modes-are img s rl old xs ws vs bs waits holds u)
-
-    ran : AfterSteps img ms (wanted img q s) z xs-end ws-end vs-end bs-end
-    ran =
-        let y : Holds img (withModes s ms) xs ws vs bs (p .counts) (p .held) = rw (h .counts, h .held) (holds-modes img s xs ws vs bs waits holds unpacked-holds ms) in
-        subst (λ r. AfterSteps img ms r z xs-end ws-end vs-end bs-end) (transition-is img old q waits holds p h s as-given) (k (withModes s ms) y)
-
-    performed : perform img s (callOf q) ≡ settle s (wanted img q s)
-    performed = perform-is img q s O.Done (sym e ∙ f)
-
-    pub applied-done : (r : Transited) → z .outcome ≡ O.Done → r .outcome ≡ O.Done → r .modes ≡ p .modes → r .counts ≡ z .counts → r .held ≡ z .held →
-        Applied (perform img s (callOf q)) r xs-end ws-end vs-end bs-end
-    applied-done r d y m c w = rw performed (go (wanted img q s) ran)
+    -- refused: the rows as they were
+    pub performs-refused : {n : Refusal} → x ≡ O.Refused n → Performs img (callOf q) before (replyOf x) before
+    performs-refused {n} d s l w =
+        rw (perform-is s O.Done (sym e ∙ f), d) (go (transition img (q .reactor) (q .mode) (q .reset) (ofGlobal (q .c)) s) (k s w))
       where
-        go : (a : Step) → AfterSteps img ms a z xs-end ws-end vs-end bs-end → Applied (settle s a) r xs-end ws-end vs-end bs-end
-        go (done t) k =
-            record {
-              reply = rw y;
-              unpacked =
-                  rw (c, w)
-                  (record { in-modes = m ∙ planned-modes img old q waits holds p h s as-given ∙ ap (padded 0 mostReactors) (sym (k .1 .0)); in-scopes = k .1 .1 .scoped; in-events = k .1 .1 .queued; in-store = k .1 .1 .stored });
-            }
-        go (refused n) k = other-outcome (sym k ∙ d)
+        go : (a : Step) → After img a x after → Answers img (settle s a) (refusal n) before
+        go (done t) y = not-both (sym (y .0) ∙ d)
+        go (refused m) y = record { reply-is = ap (λ o. replyOf o) (sym d ∙ y); holds = w }
 
-    pub late-refused : {x : Refusal} (r : Transited) → z .outcome ≡ O.Refused x → r .outcome ≡ O.Refused x → r .modes ≡ old → r .counts ≡ waits → r .held ≡ holds →
-        Applied (perform img s (callOf q)) r xs ws vs bs
-    late-refused {x} r d = applied-refused r (performed ∙ go (wanted img q s) ran)
-      where
-        go : (a : Step) → AfterSteps img ms a z xs-end ws-end vs-end bs-end → settle s a ≡ answer (refusal x) s
-        go (done t) k = other-outcome (sym d ∙ k .0)
-        go (refused n) k = ap (λ o. answer (replyOf o) s) (sym k ∙ d)
+-- ---- steps 3 to 5
+
+pub turns-steps : (img : Image) (p : Plan) (set : List ℕ) (r : Rows) → Marks (firstTime (p .now .words) (r .scopes)) (scopes img) set → (o : Outcome) (after : Rows) →
+    Steps img (λ s. allTurns img p s >>= startsOn img p set) r o after → Steps img (turnsOn img p) r o after
+unfolding T.turnsOn
+turns-steps img p set r m o after k s w =
+    subst (λ l. After img (allTurns img p s >>= λ t. T.step4 img (ofGlobal (p .c)) l t >>= restartsOn img p) o after)
+    (sym (firsts-are img p (r .scopes) set s m (shows img s r w))) (k s w)
+
+-- ---- step 1 and then those
+
+pub reset-steps : (img : Image) (p : Plan) (a b : Rows) → Resets img p a b → (o : Outcome) (after : Rows) → Steps img (turnsOn img p) b o after → Steps img (stepsOn img p) a o after
+reset-steps img p a b h o after k s w = k _ (h s w)
+
+pub reset-held : (img : Image) (p : Plan) (a b : Rows) → Resets img p a b → Held img a → Held img b
+reset-held img p a b h k = record { state = _; holds = h (k .state) (k .holds) }

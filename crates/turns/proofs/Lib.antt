@@ -1,5 +1,4 @@
 pub mod ListLaws
-pub mod MoveLaws
 pub mod ClockLaws
 pub mod EventLaws
 pub mod RowLaws

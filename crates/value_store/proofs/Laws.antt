@@ -26,8 +26,8 @@ use Rattle.store.specs.Store.{pushed, valueIn, nextIn, atLeast, nextMicrostep, 
 use Rattle.store_calls.specs.declared.Counts.{Counts}
 use Rattle.store_calls.specs.declared.Changed.{Changed}
 use Rattle.store_calls.specs.declared.Taken.{Taken}
-use Rattle.store_calls.specs.declared.Outcome.{Outcome}
-use Rattle.store_calls.specs.declared.Outcome.the-variants as O
+use Rattle.refusals.specs.declared.Outcome.{Outcome}
+use Rattle.refusals.specs.declared.Outcome.the-variants as O
 use Rattle.store_calls.specs.declared.Found.{Found}
 use Rattle.store_calls.specs.declared.Found.the-variants as F
 use Rattle.store_calls.specs.declared.Next.{Next}
@@ -136,7 +136,8 @@ module _ (vs bs : List ℕ) (n : Counts) (lent : Lent vs bs n) where
     call-take t k x e f l h = rw e (record { answer = h ∙ ap said f; laid = l })
 
     module _ (m : Counts) where
-      pub call-clear-before : (t : GlobalTag) → c ≡ E.ClearOlderThan a t → Laid vs bs n (clearedBefore here a (ofGlobal t)) ve be m → DidCall vs bs n (perform here (callOf c)) ve be (record { answer = A.Done; held = m })
+      pub call-clear-before : (t : GlobalTag) → c ≡ E.ClearOlderThan a t → Laid vs bs n (clearedBefore here a (ofGlobal t)) ve be m →
+          DidCall vs bs n (perform here (callOf c)) ve be (record { answer = A.Done; held = m })
       unfolding perform
       call-clear-before t e l = rw e (record { answer = refl; laid = l })
 
@@ -179,7 +180,8 @@ module _ (image vs bs : List ℕ) (n : Counts) {t : Bool} (et : t ≡ isTable im
   unfolding isSound
   sound-table y = rw (← et, y)
 
-module _ (image : List ℕ) (s : Store) (vs bs : List ℕ) (hv : HeldValues vs (map ofValue (s .values))) (hb : HeldBuckets bs (map ofBucket (s .buckets))) {q : Bool} (eq : q ≡ isSound image (arraysIn vs bs (counts s))) where
+module _ (image : List ℕ) (s : Store) (vs bs : List ℕ) (hv : HeldValues vs (map ofValue (s .values))) (hb : HeldBuckets bs (map ofBucket (s .buckets)))
+    {q : Bool} (eq : q ≡ isSound image (arraysIn vs bs (counts s))) where
   sound-is : isSound image (arraysOf s) ≡ q
   sound-is = sym (eq ∙ rw (hv .things, hb .things))
 
@@ -221,7 +223,8 @@ module _ (image : List ℕ) (s : Store) (vs bs : List ℕ) (hv : HeldValues vs (
             lay-same blankBucket (map ofBucket (s .buckets)) (s .«open»),
           )
 
-      pub run-called : DidCall vs bs (counts s) (called image (storeOf vs bs (counts s)) c) ve be k → record { answer = answerOf (k .answer); store = x } ≡ answered (arraysOf s) (step image (arraysOf s) c)
+      pub run-called : DidCall vs bs (counts s) (called image (storeOf vs bs (counts s)) c) ve be k →
+          record { answer = answerOf (k .answer); store = x } ≡ answered (arraysOf s) (step image (arraysOf s) c)
       unfolding step
       run-called d = rw (sound, held-is) (go (called image (storeOf vs bs (counts s)) c) d)
         where

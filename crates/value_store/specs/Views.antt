@@ -8,8 +8,8 @@ use Rattle.tags.specs.Views.{ofGlobal}
 use Rattle.entries.specs.Entries.{ofValue, ofBucket}
 use Rattle.entries.specs.Words.{valuesOf, bucketsOf}
 use Rattle.store_calls.specs.declared.Counts.{Counts}
-use Rattle.store_calls.specs.declared.Outcome.{Outcome}
-use Rattle.store_calls.specs.declared.Outcome.the-variants as O
+use Rattle.refusals.specs.declared.Outcome.{Outcome}
+use Rattle.refusals.specs.declared.Outcome.the-variants as O
 use Rattle.store_calls.specs.Lent.{storeOf, Laid}
 use Rattle.value_store.specs.Calls as C
 use Rattle.value_store.specs.Calls.{Arrays, said-by, left-by}

@@ -1,8 +1,10 @@
-// The value store by value: document 01, "Values and level walks", first part; refusals 11, 5, 6, 9 in that order.
+// The value store by value: document 01, "for the value store 11, 5, 6, 9", in that order.
 // Each call goes to rows, tests, works there, and comes back; the run of a day works on the rows themselves.
+// A new call is a case of `Call`; `Store` and the manager both go through `call_rows`.
 ghost use mathlib.Core.Path.{_≡_};
 ghost use mathlib.Core.Bool.{_&&_};
 ghost use mathlib.Core.List.{map};
+ghost use Rattle.lists.specs.Lent.{was, is};
 ghost use Rattle.tags.specs.Tags.{at, within};
 ghost use Rattle.tags.specs.Views.{ofGlobal};
 ghost use Rattle.entries.specs.Entries.{ofValue, ofBucket};
@@ -17,12 +19,12 @@ use entries::MOST_HELD;
 use entries::VALUE_WORDS;
 use entries::Value;
 use entries::ValueRows;
+use refusals::Outcome;
 use refusals::Refusal;
 use store_calls::Changed;
 use store_calls::Counts;
 use store_calls::Found;
 use store_calls::Next;
-use store_calls::Outcome;
 use tags::GlobalTag;
 
 // Values and buckets, and how many of each are held; what stands in the rest is no part of the store.
@@ -214,7 +216,7 @@ impl Call {
 
 fn perform(values: &mut ValueRows, buckets: &mut BucketRows, held: Counts, call: Call) -> Called
     requires { ⌜ Lent (now values) (now buckets) held ⌝ }
-    ensures { λ r. ⌜ DidCall (now (values .entry)) (now (buckets .entry)) held (performed (storeOf (now (values .entry)) (now (buckets .entry)) held) (callOf call)) (now (values .exit)) (now (buckets .exit)) r ⌝ }
+    ensures { λ r. ⌜ DidCall (was values) (was buckets) held (performed (storeOf (was values) (was buckets) held) (callOf call)) (is values) (is buckets) r ⌝ }
 {
     match call {
         Call::Push(action, tag, value) => {
@@ -264,7 +266,7 @@ pub fn call_rows(
     call: Call,
 ) -> Called
     requires { ⌜ Lent (now values) (now buckets) held ⌝ }
-    ensures { λ r. ⌜ DidCall (now (values .entry)) (now (buckets .entry)) held (called (now (image .entry)) (storeOf (now (values .entry)) (now (buckets .entry)) held) (callOf call)) (now (values .exit)) (now (buckets .exit)) r ⌝ }
+    ensures { λ r. ⌜ DidCall (was values) (was buckets) held (called (was image) (storeOf (was values) (was buckets) held) (callOf call)) (is values) (is buckets) r ⌝ }
 {
     let actions = rows::count(image, rows::ACTION);
     let action = call.action();

@@ -1,4 +1,4 @@
-// Goes through the same level walks lap after lap, to be timed beside the Rust.
+// Goes through the same level walks lap after lap, to be timed beside the Rust: document 02, C-13, "Faster level walks".
 // Standard input, big-endian, at most 65,536 bytes: number of laps 4, number of reactions 2, the level of each 1, then the walks' sets (number of keys 2,
 // keys 2 each).
 // Standard output: 8 bytes mixed of every level and key, in the order in which they were given.

@@ -1,4 +1,4 @@
-// Runs a script of level walks through `LevelWalk`, for comparison with the Rust.
+// Runs a script of level walks through `LevelWalk`: document 01, "All else is run against the Rust".
 // Standard input, big-endian, for each walk: number of reactions 2, the level of each 1, the start set (number of keys 2, keys 2 each),
 // the keys added before the first level (likewise), number of steps 2, and for each step the keys added after the level of that number,
 // from 0 (likewise).

@@ -94,7 +94,8 @@ answerOf (to-local c g) = tagged (globalToLocal c g)
 answerOf (calls cs) = answers (performed emptyStore cs)
 
 computed : map (λ (r : Row). answerOf (r .asked)) table ≡ map (λ (r : Row). r .said) table
-unfolding table performed perform pushed lacks any lose upsert nextMicrostep nextIn valueIn taken clearedBefore moved isValue isBucket isBefore isThere isSpent following larger globalToLocal localToGlobal tag.toLocal tag.toGlobal checked shifted delayed earlier sameTag within withinClock
+unfolding table performed perform pushed lacks any lose upsert nextMicrostep nextIn valueIn taken clearedBefore moved isValue isBucket isBefore isThere isSpent following larger
+    globalToLocal localToGlobal tag.toLocal tag.toGlobal checked shifted delayed earlier sameTag within withinClock
 computed = refl
 
 -- two maps that agree on a list agree at each of its elements

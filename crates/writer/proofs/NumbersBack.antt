@@ -76,8 +76,8 @@ module _ (k : ℕ) (ns : List ℕ) where
   row-length : (j : ℕ) → length (rowBytes k ns j) ≡ width
   unfolding rowBytes
   row-length j =
-      rw (length-append, length-append, number-length (fieldsOf k .first) (rowNumber ns j 0), number-length (fieldsOf k .second) (rowNumber ns j 1), number-length (fieldsOf k .third) (rowNumber ns j 2))
-      (fields-fill k)
+      let n = rowNumber ns j in
+      rw (length-append, length-append, number-length (fieldsOf k .first) (n 0), number-length (fieldsOf k .second) (n 1), number-length (fieldsOf k .third) (n 2)) (fields-fill k)
 
   -- field f of it
   field-at : (j f : ℕ) → f < 3 → rowNumber ns j f < 256 ^ widthOf (fieldsOf k) f → be (widthOf (fieldsOf k) f) (rowBytes k ns j) (offsetOf (fieldsOf k) f) ≡ rowNumber ns j f

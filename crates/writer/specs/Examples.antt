@@ -29,17 +29,20 @@ room n = replicate n 7
 
 -- the length counts all that follows: 29 of 33 bytes; two bytes past the image stay
 pub smallest-written : writing counts rows (room 35) ≡ wrote (answers.Image 33) (0 ∷ 0 ∷ 0 ∷ 29 ∷ 1 ∷ (counts ++ (rows ++ (7 ∷ 7 ∷ []))))
-unfolding writing imageOf beBytes be countFits badCount badRow kindFits badKind checkRows scan kindOf kinds count countPlace place rowPlace field keyFields keyExists keysExist every parentRule scopeRule initialRule reactorRule ownRule rowRule
+unfolding writing imageOf beBytes be countFits badCount badRow kindFits badKind checkRows scan kindOf kinds count countPlace place rowPlace field keyFields keyExists keysExist
+    every parentRule scopeRule initialRule reactorRule ownRule rowRule
 smallest-written = refl
 
 -- a byte of room less
 pub no-room : writing counts rows (room 32) ≡ wrote answers.NoRoom (room 32)
-unfolding writing imageOf beBytes be countFits badCount badRow kindFits badKind checkRows scan kindOf kinds count countPlace place rowPlace field keyFields keyExists keysExist every parentRule scopeRule initialRule reactorRule ownRule rowRule
+unfolding writing imageOf beBytes be countFits badCount badRow kindFits badKind checkRows scan kindOf kinds count countPlace place rowPlace field keyFields keyExists keysExist
+    every parentRule scopeRule initialRule reactorRule ownRule rowRule
 no-room = refl
 
 -- a scope in a reactor that is not there: 4 at its first byte, before the room is asked for
 pub broken-row : writing counts (255 ∷ 255 ∷ 0 ∷ 1 ∷ 255 ∷ 255 ∷ 0 ∷ 0 ∷ 255 ∷ 255 ∷ []) [] ≡ wrote (answers.Refused (Row 23)) []
-unfolding writing imageOf beBytes be countFits badCount badRow kindFits badKind checkRows scan kindOf kinds count countPlace place rowPlace field keyFields keyExists keysExist every parentRule scopeRule initialRule reactorRule ownRule rowRule
+unfolding writing imageOf beBytes be countFits badCount badRow kindFits badKind checkRows scan kindOf kinds count countPlace place rowPlace field keyFields keyExists keysExist
+    every parentRule scopeRule initialRule reactorRule ownRule rowRule
 broken-row = refl
 
 -- a row's byte too many: 1, before the rows are looked at

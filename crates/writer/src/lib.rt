@@ -1,5 +1,5 @@
-// The writer of table images: document 02, C-11. Counts and rows in, the image over the front of a lent buffer, and how many bytes it has.
-// The rows are checked by the reader's own rules, which crate table has.
+// The writer of table images: document 02, C-11, "given counts and rows, it fills a lent buffer with the image of document 01".
+// The rows are checked by the reader's own rules, which crate table has: a new rule needs no line here.
 ghost use mathlib.Core.Path.{_≡_};
 ghost use Prim.Native.Nat.{_≤_, _^_};
 ghost use lib.ListN.{length};

@@ -5,6 +5,7 @@ use native.Mathlib.Omega.{arith}
 use lib.ListN.{length}
 use lib.Seq.{length-take-le}
 use Rattle.puts.proofs.WrittenLaws.{written-room, written-long}
+use Rattle.lens.specs.Holds.{rowsOf}
 use Rattle.gate_day.specs.Views.{Kept}
 use borrow.Author.Needs.{needs}
 use Rattle.bench.proofs.run.Statement.{statement}
@@ -20,7 +21,7 @@ use Rattle.io.proofs.large_buffer.Reads as large-buffer-reads
 use Rattle.io.proofs.write_all.Reads as write-all-reads
 
 abbrev Inv-loop : tie.InvT-loop
-Inv-loop image day₀ input₀ output₀ filled₀ turns₀ day input output filled turns = Kept image day × (65536 ≡ length input) × (65536 ≡ length output) × (filled ≤ 65536)
+Inv-loop image day₀ input₀ output₀ filled₀ turns₀ day input output filled turns = Kept image (rowsOf day) × (65536 ≡ length input) × (65536 ≡ length output) × (filled ≤ 65536)
 
 abbrev μ-loop : tie.MeasureT-loop
 μ-loop image day₀ input₀ output₀ filled₀ turns₀ day input output filled turns = turns
@@ -74,10 +75,16 @@ returns-2 : tie.Need-returns-2 Inv-loop μ-loop
 returns-2 c = search needs
 
 slice-aggregate-shift : tie.Need-slice-aggregate-shift Inv-loop μ-loop
-slice-aggregate-shift c = c .before .before .before .before .before .before .before .before .before .before .before .before .before .before .loop .inv .1 ∙ sym (c .before .before .before .before .before .before .before .before .before .before .before .fill .ensures .1)
+slice-aggregate-shift c =
+    let c₁ = c .before .before .before .before .before .before .before .before .before .before .before in
+    let c₂ = c₁ .before .before .before in
+    c₂ .loop .inv .1 ∙ sym (c₁ .fill .ensures .1)
 
 shift-requires : tie.Need-shift-requires Inv-loop μ-loop
-shift-requires c κs = (rw (length-take-le _ _ (c .before .before .before .before .before .before .before .before .before .before .before .fill .ensures .0)) at (c .before .before .before .before .before .before .before .run-records .ensures .1 .inside), c .before .before .before .before .before .before .before .before .before .before .before .fill .ensures .0)
+shift-requires c κs =
+    let c₁ = c .before .before .before .before .before .before .before in
+    let c₂ = c₁ .before .before .before .before in
+    (rw (length-take-le _ _ (c₂ .fill .ensures .0)) at (c₁ .run-records .ensures .1 .inside), c₂ .fill .ensures .0)
 
 say-cut-requires : tie.Need-say-cut-requires Inv-loop μ-loop
 say-cut-requires c κs = search needs
@@ -92,13 +99,31 @@ loop-less : tie.Need-loop-less Inv-loop μ-loop
 loop-less c = let t = c .before .before .before .before .before .before .before .before .before .before .before .before .before .before .before .before .before .loop-test .taken in omega (arith, t)
 
 loop-again : tie.Need-loop-again Inv-loop μ-loop
-loop-again c = (c .before .before .before .before .before .before .before .before .before .before .before .run-records .ensures .0, c .before .before .before .before .before .before .before .before .before .before .before .before .before .before .before .before .before .before .loop .inv .1 ∙ (sym (c .before .before .before .before .before .before .before .before .before .before .before .before .before .before .before .fill .ensures .1) ∙ sym (written-long (c .before .before .before .shift .ensures))), c .before .before .before .before .before .before .before .before .before .before .before .before .before .before .before .before .before .before .loop .inv .2 ∙ sym (written-long (c .before .before .before .before .before .before .before .before .before .before .before .run-records .ensures .1 .lines)), omega (arith, written-room (c .before .before .before .shift .ensures), written-long (c .before .before .before .shift .ensures), c .before .before .before .before .before .before .before .before .before .before .before .before .before .before .before .fill .ensures .0, c .before .before .before .before .before .before .before .before .before .before .before .before .before .before .before .before .before .before .loop .inv .1, c .before .before .before .before .before .before .before .before .before .before .before .before .before .before .before .fill .ensures .1))
+loop-again c =
+    let c₁ = c .before .before .before in
+    let c₂ = c₁ .before .before .before .before .before .before .before .before in
+    let c₃ = c₂ .before .before .before .before in
+    let c₄ = c₃ .before .before .before in (
+      c₂ .run-records .ensures .0,
+      c₄ .loop .inv .1 ∙ (sym (c₃ .fill .ensures .1) ∙ sym (written-long (c₁ .shift .ensures))),
+      c₄ .loop .inv .2 ∙ sym (written-long (c₂ .run-records .ensures .1 .lines)),
+      omega (arith, written-room (c₁ .shift .ensures), written-long (c₁ .shift .ensures), c₃ .fill .ensures .0, c₄ .loop .inv .1, c₃ .fill .ensures .1),
+    )
 
 loop-less-2 : tie.Need-loop-less-2 Inv-loop μ-loop
 loop-less-2 c = let t = c .before .before .before .before .before .before .before .before .before .before .before .before .before .before .before .before .loop-test .taken in omega (arith, t)
 
 loop-again-2 : tie.Need-loop-again-2 Inv-loop μ-loop
-loop-again-2 c = (c .before .before .before .before .before .before .before .before .before .before .run-records .ensures .0, c .before .before .before .before .before .before .before .before .before .before .before .before .before .before .before .before .before .loop .inv .1 ∙ (sym (c .before .before .before .before .before .before .before .before .before .before .before .before .before .before .fill .ensures .1) ∙ sym (written-long (c .before .before .shift .ensures))), c .before .before .before .before .before .before .before .before .before .before .before .before .before .before .before .before .before .loop .inv .2 ∙ sym (written-long (c .before .before .before .before .before .before .before .before .before .before .run-records .ensures .1 .lines)), omega (arith, written-room (c .before .before .shift .ensures), written-long (c .before .before .shift .ensures), c .before .before .before .before .before .before .before .before .before .before .before .before .before .before .fill .ensures .0, c .before .before .before .before .before .before .before .before .before .before .before .before .before .before .before .before .before .loop .inv .1, c .before .before .before .before .before .before .before .before .before .before .before .before .before .before .fill .ensures .1))
+loop-again-2 c =
+    let c₁ = c .before .before in
+    let c₂ = c₁ .before .before .before .before .before .before .before .before in
+    let c₃ = c₂ .before .before .before .before in
+    let c₄ = c₃ .before .before .before in (
+      c₂ .run-records .ensures .0,
+      c₄ .loop .inv .1 ∙ (sym (c₃ .fill .ensures .1) ∙ sym (written-long (c₁ .shift .ensures))),
+      c₄ .loop .inv .2 ∙ sym (written-long (c₂ .run-records .ensures .1 .lines)),
+      omega (arith, written-room (c₁ .shift .ensures), written-long (c₁ .shift .ensures), c₃ .fill .ensures .0, c₄ .loop .inv .1, c₃ .fill .ensures .1),
+    )
 
 returns-5 : tie.Need-returns-5 Inv-loop μ-loop
 returns-5 c = search needs

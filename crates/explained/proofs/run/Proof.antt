@@ -1,6 +1,7 @@
 -- `explained::run` is safe: what is read lies within the buffer, and each record leaves a day that keeps the rules. Assumes nothing.
 use borrow.Author.Needs.{needs}
 use Rattle.explained.proofs.Laws.{part-long}
+use Rattle.lens.specs.Holds.{rowsOf}
 use Rattle.gate_day.specs.Views.{Kept}
 use native.Mathlib.Omega.{arith}
 use lib.ListN.{length}
@@ -10,7 +11,7 @@ use Rattle.explained.proofs.run.Statement.{statement}
 use Rattle.explained.proofs.run.Tie as tie
 
 abbrev Inv-loop : tie.InvT-loop
-Inv-loop desk₀ image day₀ input₀ turns₀ desk day input turns = Kept image day × (4096 ≡ length input)
+Inv-loop desk₀ image day₀ input₀ turns₀ desk day input turns = Kept image (rowsOf day) × (4096 ≡ length input)
 
 abbrev μ-loop : tie.MeasureT-loop
 μ-loop desk₀ image day₀ input₀ turns₀ desk day input turns = turns
@@ -46,7 +47,10 @@ slice-aggregate-tell : tie.Need-slice-aggregate-tell Inv-loop μ-loop
 slice-aggregate-tell c = sym (length-take-le _ _ (c .before .before .before .before .read-record .ensures .0))
 
 tell-requires : tie.Need-tell-requires Inv-loop μ-loop
-tell-requires c κs = (c .before .before .before .before .before .before .before .before .loop .inv .0, part-long _ _ _ (c .before .before .before .before .read-record .ensures .0) (c .before .before .if1 .left))
+tell-requires c κs =
+    let c₁ = c .before .before .before .before in
+    let c₂ = c₁ .before .before .before .before in
+    (c₂ .loop .inv .0, part-long _ _ _ (c₁ .read-record .ensures .0) (c .before .before .if1 .left))
 
 loop-less : tie.Need-loop-less Inv-loop μ-loop
 loop-less c = let t = c .before .before .before .before .before .before .before .before .loop-test .taken in omega (arith, t)

@@ -21,7 +21,9 @@ array-share-prefix-keys : tie.Need-array-share-prefix-keys
 array-share-prefix-keys c = search needs
 
 slice-aggregate-say-keys : tie.Need-slice-aggregate-say-keys
-slice-aggregate-say-keys c = let l : length (c .before .before .before .before .before .parse .last .1 .0) ≡ mostKeys = search needs in sym (length-take-le _ _ (omega (arith, c .before .before .before .before .keys-end .ensures, l)))
+slice-aggregate-say-keys c =
+    let c₁ = c .before .before .before .before in
+    let l : length (c₁ .before .parse .last .1 .0) ≡ mostKeys = search needs in sym (length-take-le _ _ (omega (arith, c₁ .keys-end .ensures, l)))
 
 say-keys-requires : tie.Need-say-keys-requires
 say-keys-requires c κs = search needs
@@ -30,7 +32,9 @@ array-share-prefix-keys-2 : tie.Need-array-share-prefix-keys-2
 array-share-prefix-keys-2 c = search needs
 
 slice-aggregate-say-lack : tie.Need-slice-aggregate-say-lack
-slice-aggregate-say-lack c = let l : length (c .before .before .before .before .before .before .before .before .parse .last .1 .0) ≡ mostKeys = search needs in sym (length-take-le _ _ (omega (arith, c .before .before .before .before .before .before .before .keys-end .ensures, l)))
+slice-aggregate-say-lack c =
+    let c₁ = c .before .before .before .before .before .before .before in
+    let l : length (c₁ .before .parse .last .1 .0) ≡ mostKeys = search needs in sym (length-take-le _ _ (omega (arith, c₁ .keys-end .ensures, l)))
 
 say-lack-requires : tie.Need-say-lack-requires
 say-lack-requires c κs = search needs

@@ -5,10 +5,10 @@ use Rattle.explained.proofs.say_pop.Statement.{statement}
 use Rattle.explained.proofs.say_pop.Tie as tie
 
 say-queues-requires : tie.Need-say-queues-requires
-say-queues-requires c κs = few-wait (c .before .before .before .before .before .before .before .pre)
+say-queues-requires c κs = few-wait (c .before .before .before .before .before .before .before .before .pre)
 
 peek-requires : tie.Need-peek-requires
-peek-requires c κs = few-wait (c .before .before .before .before .before .before .before .before .before .before .pre)
+peek-requires c κs = few-wait (c .before .before .before .before .before .before .before .before .before .before .before .pre)
 
 enum-told : tie.Need-enum-told
 enum-told c = search needs

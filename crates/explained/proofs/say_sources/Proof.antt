@@ -5,7 +5,7 @@ use Rattle.explained.proofs.say_sources.Statement.{statement}
 use Rattle.explained.proofs.say_sources.Tie as tie
 
 take-root-requires : tie.Need-take-root-requires
-take-root-requires c κs = (whole-events (c .before .before .before .before .before .before .before .pre), few-wait (c .before .before .before .before .before .before .before .pre))
+take-root-requires c κs = let k = c .before .before .before .before .before .before .before .before .pre in (whole-events k, few-wait k)
 
 take-scopes-requires : tie.Need-take-scopes-requires
 take-scopes-requires c κs = search needs

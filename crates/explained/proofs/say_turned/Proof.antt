@@ -11,7 +11,7 @@ say-scopes-requires : tie.Need-say-scopes-requires
 say-scopes-requires c κs = search needs
 
 say-queues-requires : tie.Need-say-queues-requires
-say-queues-requires c κs = few-wait (c .before .before .before .before .before .before .before .before .before .before .before .before .before .before .pre)
+say-queues-requires c κs = few-wait (c .before .before .before .before .before .before .before .before .before .before .before .before .before .before .before .pre)
 
 returns : tie.Need-returns
 returns c = search needs

@@ -28,7 +28,10 @@ same-length : tie.Need-same-length
 same-length c = search needs
 
 returns-2 : tie.Need-returns-2
-returns-2 c = check-told (c .before .before .before .before .before .before .before .if1 .left) (c .before .before .before .before .before .before .check .ensures) (c .before .before .before .before .before .place-in .ensures) (c .number-in .ensures) (c .before .before .before .put-number .ensures)
+returns-2 c =
+    let c₁ = c .before .before .before in
+    let c₂ = c₁ .before .before .before in
+    check-told (c₂ .before .if1 .left) (c₂ .check .ensures) (c₁ .before .before .place-in .ensures) (c .number-in .ensures) (c₁ .put-number .ensures)
 
 pub barnshiver-check-table-spec : {M : Type 1} → statement M
 barnshiver-check-table-spec =

@@ -32,10 +32,15 @@ same-length : tie.Need-same-length
 same-length c = search needs
 
 returns-2 : tie.Need-returns-2
-returns-2 c = tag-told (c .before .before .before .before .before .before .before .before .if1 .left) (c .before .before .before .before .before .before .before .mapped-global .ensures) (ap mappedGlobal (c .before .before .before .before .before .t .given .1)) (c .before .before .put-tag .ensures)
+returns-2 c =
+    let c₁ = c .before .before .before .before .before in
+    let c₂ = c₁ .before .before .before in
+    tag-told (c₂ .if1 .left) (c₁ .before .before .mapped-global .ensures) (ap mappedGlobal (c₁ .t .given .1)) (c .before .before .put-tag .ensures)
 
 returns-3 : tie.Need-returns-3
-returns-3 c = refusal-told (c .before .before .before .before .before .if1 .left) (c .before .before .before .before .mapped-global .ensures) (ap mappedGlobal (c .before .before .refusal .given .1)) (c .number-of .ensures)
+returns-3 c =
+    let c₁ = c .before .before .before .before in
+    refusal-told (c₁ .before .if1 .left) (c₁ .mapped-global .ensures) (ap mappedGlobal (c .before .before .refusal .given .1)) (c .number-of .ensures)
 
 pub barnshiver-local-to-global-spec : {M : Type 1} → statement M
 barnshiver-local-to-global-spec =

@@ -48,7 +48,13 @@ mul-result : tie.Need-mul-result
 mul-result c = search needs
 
 add-result : tie.Need-add-result
-add-result c = let p = place-small (c .before .before .before .before .before .before .before .before .before .before .before .before .before .before .before .before .before .args .day .now) (c .before .before .before .before .before .before .before .before .before .before .before .before .before .before .before .before .before .args .output .now) (c .before .before .before .before .before .before .before .before .before .before .before .before .before .before .before .before .before .args .report .now) (c .before .before .before .before .before .before .before .before .before .before .before .before .report-head .ensures) (c .before .before .before .before .before .before .before .before .before .rescue .ensures) (c .before .before .before .why .given .1) in omega (arith, c .place-of .ensures, p)
+add-result c =
+    let c₁ = c .before .before .before in
+    let c₂ = c₁ .before .before .before .before .before .before in
+    let c₃ = c₂ .before .before .before in
+    let c₄ = c₃ .before .before .before .before .before in
+    let p = place-small (c₄ .args .day .now) (c₄ .args .output .now) (c₄ .args .report .now) (c₃ .report-head .ensures) (c₂ .rescue .ensures) (c₁ .why .given .1) in
+    omega (arith, c .place-of .ensures, p)
 
 enum-told : tie.Need-enum-told
 enum-told c = search needs
@@ -66,7 +72,15 @@ same-length-2 : tie.Need-same-length-2
 same-length-2 c = search needs
 
 returns : tie.Need-returns
-returns c = told-saved (c .before .before .before .before .before .before .before .before .before .before .before .before .before .before .before .before .before .before .before .before .before .before .before .before .before .before .before .before .args .day .now) (c .before .before .before .before .before .before .before .before .before .before .before .before .before .before .before .before .before .before .before .before .before .before .before .before .before .before .before .before .args .output .now) (c .before .before .before .before .before .before .before .before .before .before .before .before .before .before .before .before .before .before .before .before .before .before .before .before .before .before .before .before .args .report .now) (c .before .before .before .before .before .before .before .before .before .before .before .before .before .before .before .before .before .before .before .before .before .before .before .report-head .ensures) (c .before .before .before .before .before .before .before .before .before .before .before .before .before .before .before .before .before .before .before .before .rescue .ensures) (c .before .before .before .before .before .before .before .before .before .before .before .before .before .before .totals .given .1) (c .before .before .before .before .before .before .before .before .before .before .before .put-number .ensures) (c .before .before .before .before .before .before .before .put-number2 .ensures) (c .before .before .put-number3 .ensures)
+returns c =
+    let c₁ = c .before .before .before .before .before .before .before in
+    let c₂ = c₁ .before .before .before .before in
+    let c₃ = c₂ .before .before .before in
+    let c₄ = c₃ .before .before .before .before .before .before in
+    let c₅ = c₄ .before .before .before in
+    let c₆ = c₅ .before .before .before .before .before in
+    told-saved (c₆ .args .day .now) (c₆ .args .output .now) (c₆ .args .report .now) (c₅ .report-head .ensures) (c₄ .rescue .ensures) (c₃ .totals .given .1) (c₂ .put-number .ensures)
+    (c₁ .put-number2 .ensures) (c .before .before .put-number3 .ensures)
 
 same-length-3 : tie.Need-same-length-3
 same-length-3 c = search needs
@@ -75,7 +89,13 @@ same-length-4 : tie.Need-same-length-4
 same-length-4 c = search needs
 
 returns-2 : tie.Need-returns-2
-returns-2 c = told-refused (c .before .before .before .before .before .before .before .before .before .before .before .before .before .before .before .before .before .args .day .now) (c .before .before .before .before .before .before .before .before .before .before .before .before .before .before .before .before .before .args .output .now) (c .before .before .before .before .before .before .before .before .before .before .before .before .before .before .before .before .before .args .report .now) (c .before .before .before .before .before .before .before .before .before .before .before .before .report-head .ensures) (c .before .before .before .before .before .before .before .before .before .rescue .ensures) (c .before .before .before .why .given .1) (c .before .number-of .ensures) (c .place-of .ensures)
+returns-2 c =
+    let c₁ = c .before .before .before in
+    let c₂ = c₁ .before .before .before .before .before .before in
+    let c₃ = c₂ .before .before .before in
+    let c₄ = c₃ .before .before .before .before .before in
+    told-refused (c₄ .args .day .now) (c₄ .args .output .now) (c₄ .args .report .now) (c₃ .report-head .ensures) (c₂ .rescue .ensures) (c₁ .why .given .1) (c .before .number-of .ensures)
+    (c .place-of .ensures)
 
 same-length-5 : tie.Need-same-length-5
 same-length-5 c = search needs
@@ -84,7 +104,11 @@ same-length-6 : tie.Need-same-length-6
 same-length-6 c = search needs
 
 returns-3 : tie.Need-returns-3
-returns-3 c = told-none (c .before .before .before .before .before .before .before .before .before .before .before .before .before .before .args .day .now) (c .before .before .before .before .before .before .before .before .before .before .before .before .before .before .args .output .now) (c .before .before .before .before .before .before .before .before .before .before .before .before .before .before .args .report .now) (c .before .before .before .before .before .before .before .before .before .report-head .ensures) (c .before .before .before .before .before .before .rescue .ensures) (c .enum-told .given .1)
+returns-3 c =
+    let c₁ = c .before .before .before .before .before .before in
+    let c₂ = c₁ .before .before .before in
+    let c₃ = c₂ .before .before .before .before .before in
+    told-none (c₃ .args .day .now) (c₃ .args .output .now) (c₃ .args .report .now) (c₂ .report-head .ensures) (c₁ .rescue .ensures) (c .enum-told .given .1)
 
 pub barnshiver-rescue-spec : {M : Type 1} → statement M
 barnshiver-rescue-spec =

@@ -1,4 +1,5 @@
 use Rattle.gate_day.proofs.WholeLaws.{open-fits, open-table, rest-is}
+use Rattle.lens.specs.Holds.{rowsOf}
 use Rattle.exports.proofs.AnswerLaws.{short-state, image-refused, all-told}
 use lib.Seq.{length-take-le}
 use mathlib.Core.Path.{sym, _∙_}
@@ -26,22 +27,38 @@ image-end-requires : tie.Need-image-end-requires
 image-end-requires c κs = search needs
 
 slice-aggregate-run-all : tie.Need-slice-aggregate-run-all
-slice-aggregate-run-all c = sym (length-take-le _ _ (rw (c .before .image-end .ensures) (open-fits (c .before .before .before .before .before .before .before .before .args .day .now) (sym (c .before .before .before .before .«open» .ensures) ∙ c .before .before .enum-told .given .1))))
+slice-aggregate-run-all c =
+    let c₁ = c .before .before .before .before in
+    let c₂ = c₁ .before .before .before .before in
+    sym (length-take-le _ _ (rw (c .before .image-end .ensures) (open-fits (c₂ .args .day .now) (sym (c₁ .«open» .ensures) ∙ c .before .before .enum-told .given .1))))
 
 sub-run-all : tie.Need-sub-run-all
-sub-run-all c = rw (c .before .image-end .ensures) (open-fits (c .before .before .before .before .before .before .before .before .args .day .now) (sym (c .before .before .before .before .«open» .ensures) ∙ c .before .before .enum-told .given .1))
+sub-run-all c =
+    let c₁ = c .before .before .before .before in
+    let c₂ = c₁ .before .before .before .before in
+    rw (c .before .image-end .ensures) (open-fits (c₂ .args .day .now) (sym (c₁ .«open» .ensures) ∙ c .before .before .enum-told .given .1))
 
 part-run-all-start : tie.Need-part-run-all-start
-part-run-all-start c = rw (c .before .image-end .ensures) (open-fits (c .before .before .before .before .before .before .before .before .args .day .now) (sym (c .before .before .before .before .«open» .ensures) ∙ c .before .before .enum-told .given .1))
+part-run-all-start c =
+    let c₁ = c .before .before .before .before in
+    let c₂ = c₁ .before .before .before .before in
+    rw (c .before .image-end .ensures) (open-fits (c₂ .args .day .now) (sym (c₁ .«open» .ensures) ∙ c .before .before .enum-told .given .1))
 
 part-run-all-end : tie.Need-part-run-all-end
 part-run-all-end c = search needs
 
 run-all-requires : tie.Need-run-all-requires
-run-all-requires c κs = rw (c .before .before .image-end .ensures) (open-table (c .before .before .before .before .before .before .before .before .before .args .day .now) (sym (c .before .before .before .before .before .«open» .ensures) ∙ c .before .before .before .enum-told .given .1))
+run-all-requires c κs =
+    let c₁ = c .before .before .before in
+    let c₂ = c₁ .before .before .before .before .before .before in
+    rw (c .before .before .image-end .ensures) (open-table (c₂ .args .day .now) (sym (c₁ .before .before .«open» .ensures) ∙ c₁ .enum-told .given .1))
 
 slice-aggregate-put-state : tie.Need-slice-aggregate-put-state
-slice-aggregate-put-state c = sym (length-take-le _ _ (rw (c .before .before .before .before .before .image-end .ensures) (open-fits (c .before .before .before .before .before .before .before .before .before .before .before .before .args .day .now) (sym (c .before .before .before .before .before .before .before .before .«open» .ensures) ∙ c .before .before .before .before .before .before .enum-told .given .1))))
+slice-aggregate-put-state c =
+    let c₁ = c .before .before .before .before .before in
+    let c₂ = c₁ .before .before .before in
+    let c₃ = c₂ .before .before .before .before in
+    sym (length-take-le _ _ (rw (c₁ .image-end .ensures) (open-fits (c₃ .args .day .now) (sym (c₂ .«open» .ensures) ∙ c₁ .before .enum-told .given .1))))
 
 put-state-requires : tie.Need-put-state-requires
 put-state-requires c κs = search needs
@@ -56,10 +73,19 @@ same-length : tie.Need-same-length
 same-length c = search needs
 
 returns-2 : tie.Need-returns-2
-returns-2 c = all-told (c .before .before .before .before .before .before .before .before .before .before .before .before .before .before .before .args .day .now) (c .before .before .before .before .before .before .before .before .before .before .before .before .if1 .left) (c .before .before .before .before .before .before .before .before .before .before .before .«open» .ensures) (c .before .before .before .before .before .before .before .before .before .enum-told .given .1) (c .before .before .before .before .before .before .before .before .image-end .ensures) (rest-is (c .before .before .before .before .before .before .before .before .before .before .before .before .before .before .before .args .day .now) (c .before .before .before .before .before .before .before .before .image-end .result)) (c .before .before .before .before .before .run-all .result) (c .before .before .before .before .before .run-all .ensures .1) (c .before .before .put-state .ensures)
+returns-2 c =
+    let c₁ = c .before .before .before .before .before in
+    let c₂ = c₁ .before .before .before in
+    let c₃ = c₂ .before .before .before in
+    let c₄ = c₃ .before .before .before .before in
+    all-told (c₄ .args .day .now) (c₃ .before .if1 .left) (c₃ .«open» .ensures) (c₂ .before .enum-told .given .1) (c₂ .image-end .ensures)
+    (rest-is (c₄ .args .day .now) (c₂ .image-end .result)) (rowsOf (c₁ .run-all .result)) (c₁ .run-all .ensures .1) (c .before .before .put-state .ensures)
 
 returns-3 : tie.Need-returns-3
-returns-3 c = image-refused (c .before .before .before .before .before .before .before .before .args .day .now) (c .before .before .before .before .before .if1 .left) (c .before .before .before .before .«open» .ensures) (c .before .before .checked .given .1) (c .number-of .ensures)
+returns-3 c =
+    let c₁ = c .before .before .before .before in
+    let c₂ = c₁ .before .before .before .before in
+    image-refused (c₂ .args .day .now) (c₁ .before .if1 .left) (c₁ .«open» .ensures) (c .before .before .checked .given .1) (c .number-of .ensures)
 
 pub barnshiver-state-after-spec : {M : Type 1} → statement M
 barnshiver-state-after-spec =

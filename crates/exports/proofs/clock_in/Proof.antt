@@ -20,7 +20,9 @@ tag-at-requires-3 : tie.Need-tag-at-requires-3
 tag-at-requires-3 c κs = search needs
 
 returns : tie.Need-returns
-returns c = clock-are (c .before .before .before .before .before .args .clock .now) (c .before .before .before .tag-at .ensures) (c .before .before .tag-at2 .ensures) (c .before .is-one .ensures) (c .tag-at3 .ensures)
+returns c =
+    let c₁ = c .before .before .before in
+    clock-are (c₁ .before .before .args .clock .now) (c₁ .tag-at .ensures) (c .before .before .tag-at2 .ensures) (c .before .is-one .ensures) (c .tag-at3 .ensures)
 
 pub clock-in-spec : {M : Type 1} → statement M
 clock-in-spec =

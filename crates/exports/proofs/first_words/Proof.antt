@@ -10,19 +10,23 @@ use Rattle.pops.proofs.peek_is_control_only.Reads as peek-is-control-only-reads
 use Rattle.pops.proofs.peek_tag.Reads as peek-tag-reads
 
 peek-tag-requires : tie.Need-peek-tag-requires
-peek-tag-requires c κs = few-wait (c .before .before .before .before .before .before .before .pre)
+peek-tag-requires c κs = few-wait (c .before .before .before .before .before .before .before .before .pre)
 
 peek-words-requires : tie.Need-peek-words-requires
 peek-words-requires c κs = search needs
 
 peek-is-control-only-requires : tie.Need-peek-is-control-only-requires
-peek-is-control-only-requires c κs = few-wait (c .before .before .before .before .before .before .before .before .before .before .before .pre)
+peek-is-control-only-requires c κs = few-wait (c .before .before .before .before .before .before .before .before .before .before .before .before .pre)
 
 flag-word-requires : tie.Need-flag-word-requires
 flag-word-requires c κs = search needs
 
 returns : tie.Need-returns
-returns c = first-are (c .before .before .before .before .before .before .before .before .before .before .before .before .before .pre) (c .before .before .before .before .before .peek-tag .result) (c .before .before .before .before .before .peek-tag .ensures) (c .before .before .before .before .peek-words .ensures) (c .before .peek-is-control-only .ensures) (c .flag-word .ensures)
+returns c =
+    let c4 = c .before .before .before .before in
+    let c5 = c4 .before in
+    let c14 = c5 .before .before .before .before .before .before .before .before .before in
+    first-are (c14 .pre) (c5 .peek-tag .result) (c5 .peek-tag .ensures) (c4 .peek-words .ensures) (c .before .peek-is-control-only .ensures) (c .flag-word .ensures)
 
 pub first-words-spec : {M : Type 1} → statement M
 first-words-spec =

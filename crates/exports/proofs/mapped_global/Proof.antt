@@ -19,10 +19,16 @@ local-to-global-requires : tie.Need-local-to-global-requires
 local-to-global-requires c κs = search needs
 
 returns : tie.Need-returns
-returns c = by-clock localToGlobal (c .before .before .before .before .before .args .clock .now) (at (c .before .before .before .before .before .args .tag .0) (c .before .before .before .before .before .args .tag .1)) (c .before .before .before .is-clock .ensures) (c .before .before .if1 .taken) (c .before .clock-in .ensures) (c .local-to-global .ensures)
+returns c =
+    let c₁ = c .before .before .before in
+    let c₂ = c₁ .before .before in
+    by-clock localToGlobal (c₂ .args .clock .now) (at (c₂ .args .tag .0) (c₂ .args .tag .1)) (c₁ .is-clock .ensures) (c .before .before .if1 .taken) (c .before .clock-in .ensures)
+    (c .local-to-global .ensures)
 
 returns-2 : tie.Need-returns-2
-returns-2 c = no-clock localToGlobal (c .before .before .before .args .clock .now) (at (c .before .before .before .args .tag .0) (c .before .before .before .args .tag .1)) (c .before .is-clock .ensures) (c .if1 .left)
+returns-2 c =
+    let c₁ = c .before .before .before in
+    no-clock localToGlobal (c₁ .args .clock .now) (at (c₁ .args .tag .0) (c₁ .args .tag .1)) (c .before .is-clock .ensures) (c .if1 .left)
 
 pub mapped-global-spec : {M : Type 1} → statement M
 mapped-global-spec =

@@ -17,7 +17,10 @@ same-length : tie.Need-same-length
 same-length c = search needs
 
 returns : tie.Need-returns
-returns c = tag-written (c .before .before .before .before .before .before .before .before .before .args .offset) (c .before .before .before .before .before .before .before .before .before .args .microstep) (c .before .before .before .before .before .before .put-number .ensures) (c .before .before .put-number2 .ensures)
+returns c =
+    let c₁ = c .before .before .before .before .before .before in
+    let c₂ = c₁ .before .before .before in
+    tag-written (c₂ .args .offset) (c₂ .args .microstep) (c₁ .put-number .ensures) (c .before .before .put-number2 .ensures)
 
 pub put-tag-spec : {M : Type 1} → statement M
 put-tag-spec = tie.close (tie.spec put-number-requires put-number-requires-2 same-length returns)

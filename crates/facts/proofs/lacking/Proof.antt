@@ -78,10 +78,14 @@ returns-5 : tie.Need-returns-5
 returns-5 c = rw (c .before .before .before .parsed .given .1) (below-no (c .before .count .ensures) _ (c .if1 .left) refl)
 
 returns-6 : tie.Need-returns-6
-returns-6 c = rw (c .before .before .before .before .before .parsed2 .given .1) (below-yes (c .before .before .before .count2 .ensures) _ (c .before .before .if2 .taken) (below-yes (c .before .count3 .ensures) _ (c .if3 .taken) refl))
+returns-6 c =
+    let c₁ = c .before .before .before in
+    rw (c₁ .before .before .parsed2 .given .1) (below-yes (c₁ .count2 .ensures) _ (c .before .before .if2 .taken) (below-yes (c .before .count3 .ensures) _ (c .if3 .taken) refl))
 
 returns-7 : tie.Need-returns-7
-returns-7 c = rw (c .before .before .before .before .before .parsed2 .given .1) (below-yes (c .before .before .before .count2 .ensures) _ (c .before .before .if2 .taken) (below-no (c .before .count3 .ensures) _ (c .if3 .left) refl))
+returns-7 c =
+    let c₁ = c .before .before .before in
+    rw (c₁ .before .before .parsed2 .given .1) (below-yes (c₁ .count2 .ensures) _ (c .before .before .if2 .taken) (below-no (c .before .count3 .ensures) _ (c .if3 .left) refl))
 
 returns-8 : tie.Need-returns-8
 returns-8 c = rw (c .before .before .before .parsed2 .given .1) (below-no (c .before .count2 .ensures) _ (c .if2 .left) refl)

@@ -43,7 +43,9 @@ wide-requires : tie.Need-wide-requires Inv-loop μ-loop
 wide-requires c κs = search needs
 
 returns : tie.Need-returns Inv-loop μ-loop
-returns c = lacking-by _ (c .before .before .before .before .before .count .ensures) (c .before .before .before .before .loop .inv .1 ∙ (lacking-here _ _ _ (c .before .before .before .loop-test .taken) (c .before .if1 .left) ∙ ap (lack reaction) (sym (c .wide .ensures))))
+returns c =
+    let c₁ = c .before .before .before in
+    lacking-by _ (c₁ .before .before .count .ensures) (c₁ .before .loop .inv .1 ∙ (lacking-here _ _ _ (c₁ .loop-test .taken) (c .before .if1 .left) ∙ ap (lack reaction) (sym (c .wide .ensures))))
 
 returns-2 : tie.Need-returns-2 Inv-loop μ-loop
 returns-2 c = lacking-by _ (c .before .before .count .ensures) (c .before .loop .inv .1 ∙ lacking-none _ _ _ (c .loop-test .left))

@@ -23,7 +23,11 @@ cast-t11 : tie.Need-cast-t11
 cast-t11 c = search needs
 
 returns : tie.Need-returns
-returns c = scope-place-is _ _ _ (c .before .before .before .before .before .to-global .ensures) (c .before .before .before .before .of-global .ensures .0) (c .before .before .before .before .of-global .ensures .1 .0) (c .before .before .before .before .of-global .ensures .1 .1) (c .before .before .before .bit .ensures) (c .before .before .holds-back .ensures) (c .before .bit2 .ensures)
+returns c =
+    let c₁ = c .before .before .before in
+    let c₂ = c₁ .before in
+    scope-place-is _ _ _ (c₂ .before .to-global .ensures) (c₂ .of-global .ensures .0) (c₂ .of-global .ensures .1 .0) (c₂ .of-global .ensures .1 .1) (c₁ .bit .ensures)
+    (c .before .before .holds-back .ensures) (c .before .bit2 .ensures)
 
 pub scope-place-spec : {M : Type 1} → statement M
 scope-place-spec =

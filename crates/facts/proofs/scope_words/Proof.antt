@@ -26,7 +26,10 @@ cast-t15 : tie.Need-cast-t15
 cast-t15 c = search needs
 
 returns : tie.Need-returns
-returns c = scope-words-are _ _ (c .before .before .before .before .before .before .before .before .before .before .scope-at .ensures) (c .before .before .before .before .before .bit .ensures) (c .before .before .before .before .bit2 .ensures) (c .before .before .before .bit3 .ensures)
+returns c =
+    let c₁ = c .before .before .before in
+    let c₂ = c₁ .before .before .before .before .before .before .before in
+    scope-words-are _ _ (c₂ .scope-at .ensures) (c₁ .before .before .bit .ensures) (c₁ .before .bit2 .ensures) (c₁ .bit3 .ensures)
 
 pub scope-words-spec : {M : Type 1} → statement M
 scope-words-spec =

@@ -17,7 +17,10 @@ same-length : tie.Need-same-length
 same-length c = search needs
 
 returns : tie.Need-returns
-returns c = written-fact _ _ (c .before .before .before .before .before .before .before .before .before .before .write-text .ensures) (c .before .before .before .before .before .before .write-words .ensures) (c .before .before .put .ensures)
+returns c =
+    let c₁ = c .before .before .before .before .before .before in
+    let c₂ = c₁ .before .before .before .before in
+    written-fact _ _ (c₂ .write-text .ensures) (c₁ .write-words .ensures) (c .before .before .put .ensures)
 
 pub write-fact-spec : {M : Type 1} → statement M
 write-fact-spec =

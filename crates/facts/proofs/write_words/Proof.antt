@@ -38,7 +38,10 @@ loop-less : tie.Need-loop-less Inv-loop μ-loop
 loop-less c = search needs
 
 loop-again : tie.Need-loop-again Inv-loop μ-loop
-loop-again c = (search needs, written-word _ _ (c .before .before .before .before .before .before .before .before .before .loop-test .taken) (c .before .before .before .before .before .before .before .before .before .before .loop .inv .1) (c .before .before .before .before .before .before .put .ensures) (c .before .before .write-decimal .ensures))
+loop-again c =
+    let c₁ = c .before .before .before .before .before .before in
+    let c₂ = c₁ .before .before .before in
+    (search needs, written-word _ _ (c₂ .loop-test .taken) (c₂ .before .loop .inv .1) (c₁ .put .ensures) (c .before .before .write-decimal .ensures))
 
 same-length : tie.Need-same-length Inv-loop μ-loop
 same-length c = written-long (c .before .loop .inv .1)

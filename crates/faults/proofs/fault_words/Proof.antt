@@ -23,7 +23,9 @@ cast-t11 : tie.Need-cast-t11
 cast-t11 c = search needs
 
 returns : tie.Need-returns
-returns c = fault-words-are _ _ _ (c .before .before .before .before .before .broken-rule .ensures) (c .before .before .before .before .rule-number .ensures) (c .before .before .before .field-of .ensures) (c .before .before .key-field .ensures)
+returns c =
+    let c₁ = c .before .before .before in
+    fault-words-are _ _ _ (c₁ .before .before .broken-rule .ensures) (c₁ .before .rule-number .ensures) (c₁ .field-of .ensures) (c .before .before .key-field .ensures)
 
 pub fault-words-spec : {M : Type 1} → statement M
 fault-words-spec =

@@ -38,10 +38,20 @@ under-requires : tie.Need-under-requires
 under-requires c κs = search needs
 
 returns-5 : tie.Need-returns-5
-returns-5 c = mode-agreed _ _ _ _ _ (c .before .before .before .before .before .before .before .before .before .count .ensures) (c .before .before .before .before .before .before .before .before .if1 .left) (c .before .before .before .before .before .before .before .if2 .left) (c .before .before .before .before .before .before .mode-scope .ensures) (c .before .before .before .before .before .if3 .left) (c .before .before .before .before .mode-reactor .ensures) (c .before .before .before .if4 .left) (if-yes _ (by-root _ _ _ (c .before .before .root-scope .ensures) (c .before .under .ensures) (c .if5 .taken)) refl)
+returns-5 c =
+    let c₁ = c .before .before .before in
+    let c₂ = c₁ .before .before .before in
+    let c₃ = c₂ .before .before .before in
+    mode-agreed _ _ _ _ _ (c₃ .count .ensures) (c₂ .before .before .if1 .left) (c₂ .before .if2 .left) (c₂ .mode-scope .ensures) (c₁ .before .before .if3 .left)
+    (c₁ .before .mode-reactor .ensures) (c₁ .if4 .left) (if-yes _ (by-root _ _ _ (c .before .before .root-scope .ensures) (c .before .under .ensures) (c .if5 .taken)) refl)
 
 returns-6 : tie.Need-returns-6
-returns-6 c = mode-agreed _ _ _ _ _ (c .before .before .before .before .before .before .before .before .before .count .ensures) (c .before .before .before .before .before .before .before .before .if1 .left) (c .before .before .before .before .before .before .before .if2 .left) (c .before .before .before .before .before .before .mode-scope .ensures) (c .before .before .before .before .before .if3 .left) (c .before .before .before .before .mode-reactor .ensures) (c .before .before .before .if4 .left) (if-no _ (by-root _ _ _ (c .before .before .root-scope .ensures) (c .before .under .ensures) (c .if5 .left)) refl)
+returns-6 c =
+    let c₁ = c .before .before .before in
+    let c₂ = c₁ .before .before .before in
+    let c₃ = c₂ .before .before .before in
+    mode-agreed _ _ _ _ _ (c₃ .count .ensures) (c₂ .before .before .if1 .left) (c₂ .before .if2 .left) (c₂ .mode-scope .ensures) (c₁ .before .before .if3 .left)
+    (c₁ .before .mode-reactor .ensures) (c₁ .if4 .left) (if-no _ (by-root _ _ _ (c .before .before .root-scope .ensures) (c .before .under .ensures) (c .if5 .left)) refl)
 
 pub mode-fault-spec : {M : Type 1} → statement M
 mode-fault-spec =

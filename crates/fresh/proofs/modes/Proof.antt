@@ -6,7 +6,7 @@ use Rattle.lists.specs.Lists.{from}
 use Rattle.rows.specs.Rows.{initialMode}
 use Rattle.machine.specs.Table.{reactors}
 use Rattle.lens.specs.Padded.{padded}
-use Rattle.unpacked.specs.Unpacked.{most-reactors}
+use Rattle.lens.specs.Holds.{most-reactors}
 use Rattle.lens.specs.Lens.{mostReactors}
 use Rattle.fresh.proofs.FreshLaws.{modes-none, modes-more}
 use borrow.Author.Needs.{needs}

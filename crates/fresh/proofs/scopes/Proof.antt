@@ -8,8 +8,8 @@ use Rattle.schedule.specs.Schedule.{isActive}
 use Rattle.machine.specs.Table.{scopes}
 use Rattle.scopes.specs.Scopes.{mostScopes}
 use Rattle.lens.specs.Lens.{Scoped}
-use Rattle.unpacked.specs.Unpacked.{most-scopes}
-use Rattle.fresh.specs.Fresh.{freshScope}
+use Rattle.lens.specs.Holds.{most-scopes}
+use Rattle.machine.specs.State.{freshScope}
 use Rattle.fresh.proofs.FreshLaws.{scopes-none, scopes-more}
 use borrow.Author.Needs.{needs}
 use Rattle.fresh.proofs.scopes.Statement.{statement}
@@ -56,7 +56,10 @@ loop-less : tie.Need-loop-less Inv-loop μ-loop
 loop-less c = search needs
 
 loop-again : tie.Need-loop-again Inv-loop μ-loop
-loop-again c = let l = c .before .before .before .before .before .loop in (search needs, l .inv .1, scopes-more _ (l .i) _ (l .out) _ (l .inv .2) (c .before .before .scope .ensures ∙ ap freshScope (c .before .before .before .is-active .ensures)) (c .put-scope .ensures))
+loop-again c =
+    let c₁ = c .before .before .before in
+    let l = c₁ .before .before .loop in
+    (search needs, l .inv .1, scopes-more _ (l .i) _ (l .out) _ (l .inv .2) (c .before .before .scope .ensures ∙ ap freshScope (c₁ .is-active .ensures)) (c .put-scope .ensures))
 
 returns : tie.Need-returns Inv-loop μ-loop
 returns c = let l = c .before .loop in let e : l .i ≡ scopes (c .before .before .before .before .before .before .args .image .now) = search needs in rw (← e) (l .inv .2)

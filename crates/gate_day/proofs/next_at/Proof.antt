@@ -19,16 +19,24 @@ cast-n : tie.Need-cast-n
 cast-n c = search needs
 
 returns-2 : tie.Need-returns-2
-returns-2 c = let a = c .before .before .before .before .args in next-broken (a .bytes .now) (a .at) (c .before .before .before .before .pre) (search needs) _ (c .before .four-bytes .ensures) (search needs)
+returns-2 c =
+    let c4 = c .before .before .before .before in
+    let a = c4 .args in next-broken (a .bytes .now) (a .at) (c4 .pre) (search needs) _ (c .before .four-bytes .ensures) (search needs)
 
 add-if3 : tie.Need-add-if3
 add-if3 c = search needs
 
 returns-3 : tie.Need-returns-3
-returns-3 c = let a = c .before .before .before .before .before .args in next-short (a .bytes .now) (a .at) (c .before .before .before .before .before .pre) (search needs) _ (c .before .before .four-bytes .ensures) (search needs) (search needs)
+returns-3 c =
+    let c2 = c .before .before in
+    let c5 = c2 .before .before .before in
+    let a = c5 .args in next-short (a .bytes .now) (a .at) (c5 .pre) (search needs) _ (c2 .four-bytes .ensures) (search needs) (search needs)
 
 returns-4 : tie.Need-returns-4
-returns-4 c = let a = c .before .before .before .before .before .args in next-whole (a .bytes .now) (a .at) (c .before .before .before .before .before .pre) (search needs) _ (c .before .before .four-bytes .ensures) (search needs) (search needs)
+returns-4 c =
+    let c2 = c .before .before in
+    let c5 = c2 .before .before .before in
+    let a = c5 .args in next-whole (a .bytes .now) (a .at) (c5 .pre) (search needs) _ (c2 .four-bytes .ensures) (search needs) (search needs)
 
 pub next-at-spec : {M : Type 1} → statement M
 next-at-spec =

@@ -9,29 +9,28 @@ use Rattle.gate_day.proofs.open.Lts as lts
 use Rattle.gate_day.proofs.image_end.Reads as image-end-reads
 use Rattle.table.proofs.check.Reads as check-reads
 
--- src/lib.rt:408:9
 image-end-requires : tie.Need-image-end-requires
 image-end-requires c κs = search needs
 
--- src/lib.rt:410:9
 returns : tie.Need-returns
 returns c = open-short (c .before .before .before .args .day .now) _ (c .before .image-end .ensures) (c .if1 .taken)
 
--- src/lib.rt:413:9
 returns-2 : tie.Need-returns-2
 returns-2 c = open-large (c .before .before .before .before .args .day .now) _ (c .before .before .image-end .ensures) (c .if2 .taken)
 
--- src/lib.rt:415:18
 slice-aggregate-check : tie.Need-slice-aggregate-check
 slice-aggregate-check c = sym (length-take-le _ _ (c .before .before .if1 .left))
 
--- src/lib.rt:415:5
 check-requires : tie.Need-check-requires
 check-requires c κs = search needs
 
--- src/lib.rt:405:1
 returns-3 : tie.Need-returns-3
-returns-3 c = open-checked (c .before .before .before .before .before .before .args .day .now) _ (c .before .before .before .before .image-end .ensures) (c .before .before .before .if1 .left) (c .before .before .if2 .left) (c .check .ensures)
+returns-3 c =
+    let c2 = c .before .before in
+    let c3 = c2 .before in
+    let c4 = c3 .before in
+    let c6 = c4 .before .before in
+    open-checked (c6 .args .day .now) _ (c4 .image-end .ensures) (c3 .if1 .left) (c2 .if2 .left) (c .check .ensures)
 
 pub open-spec : {M : Type 1} → statement M
 open-spec =

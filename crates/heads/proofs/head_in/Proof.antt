@@ -3,8 +3,7 @@ use mathlib.Core.Path.{_∙_, ap}
 use Rattle.scopes.specs.Scopes.{scopesOf}
 use Rattle.tags.specs.Views.{ofQueue}
 use Rattle.queue.specs.Queue.{leastsOf}
-use Rattle.machine.specs.Heads.{least}
-use Rattle.heads.specs.Found.{scopeHeadOf}
+use Rattle.machine.specs.Heads.{least, scopeHeadOf}
 use Rattle.heads.proofs.HeadsLaws.{in-nothing, in-at}
 use borrow.Author.Needs.{needs}
 use Rattle.heads.proofs.head_in.Statement.{statement}
@@ -26,7 +25,9 @@ scope-head-of-requires : tie.Need-scope-head-of-requires
 scope-head-of-requires c κs = search needs
 
 returns : tie.Need-returns
-returns c = let a = c .before .before .before .args in in-nothing (scopesOf (a .scopes .now)) (leastsOf (a .heads .now)) (a .i) (c .before .before .least-at .result) (c .before .before .least-at .ensures) (c .enum-told .given .1)
+returns c =
+    let c₁ = c .before .before in
+    let a = c₁ .before .args in in-nothing (scopesOf (a .scopes .now)) (leastsOf (a .heads .now)) (a .i) (c₁ .least-at .result) (c₁ .least-at .ensures) (c .enum-told .given .1)
 
 returns-2 : tie.Need-returns-2
 returns-2 c =

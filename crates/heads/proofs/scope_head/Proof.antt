@@ -48,20 +48,30 @@ loop-less-2 c = search needs
 
 loop-again-2 : tie.Need-loop-again-2 Inv-loop μ-loop
 loop-again-2 c =
-    let l = c .before .before .before .before .before .before .before .loop in
-    let a = c .before .before .before .before .before .before .before .before .args in
-    let h = c .before .before .before .before .before .head-in in
-    (search needs, loop-sooner (scopesOf (a .scopes .now)) (leastsOf (a .heads .now)) (a .n) (l .i) (l .found) (l .best) (search needs) (h .result) (h .ensures) (l .inv .1) _ (c .before .before .before .x .given .1) (c .before .is-sooner .result) (c .before .is-sooner .ensures) (c .if1 .taken))
+    let c₁ = c .before .before .before in
+    let c₂ = c₁ .before .before .before .before in
+    let l = c₂ .loop in
+    let a = c₂ .before .args in
+    let h = c₁ .before .before .head-in in (
+      search needs,
+      loop-sooner (scopesOf (a .scopes .now)) (leastsOf (a .heads .now)) (a .n) (l .i) (l .found) (l .best) (search needs) (h .result) (h .ensures) (l .inv .1) _ (c₁ .x .given .1)
+          (c .before .is-sooner .result) (c .before .is-sooner .ensures) (c .if1 .taken),
+    )
 
 loop-less-3 : tie.Need-loop-less-3 Inv-loop μ-loop
 loop-less-3 c = search needs
 
 loop-again-3 : tie.Need-loop-again-3 Inv-loop μ-loop
 loop-again-3 c =
-    let l = c .before .before .before .before .before .before .before .loop in
-    let a = c .before .before .before .before .before .before .before .before .args in
-    let h = c .before .before .before .before .before .head-in in
-    (search needs, loop-kept (scopesOf (a .scopes .now)) (leastsOf (a .heads .now)) (a .n) (l .i) (l .found) (l .best) (search needs) (h .result) (h .ensures) (l .inv .1) _ (c .before .before .before .x .given .1) (c .before .is-sooner .result) (c .before .is-sooner .ensures) (c .if1 .left))
+    let c₁ = c .before .before .before in
+    let c₂ = c₁ .before .before .before .before in
+    let l = c₂ .loop in
+    let a = c₂ .before .args in
+    let h = c₁ .before .before .head-in in (
+      search needs,
+      loop-kept (scopesOf (a .scopes .now)) (leastsOf (a .heads .now)) (a .n) (l .i) (l .found) (l .best) (search needs) (h .result) (h .ensures) (l .inv .1) _ (c₁ .x .given .1)
+          (c .before .is-sooner .result) (c .before .is-sooner .ensures) (c .if1 .left),
+    )
 
 returns : tie.Need-returns Inv-loop μ-loop
 returns c =

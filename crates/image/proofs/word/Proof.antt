@@ -1,4 +1,5 @@
--- `image::word` meets its contract: a walk of its MIR, by hand. The struct is taken apart, and `rows::two_bytes` is called on the slice and the number. All that the proof knows of `two_bytes` is that it meets its contract.
+-- `image::word` meets its contract: a walk of its MIR, by hand. The struct is taken apart, and `rows::two_bytes` is called on the slice and the number.
+-- All that the proof knows of `two_bytes` is that it meets its contract.
 -- The struct is Copy: what it owns is had twice, one copy is kept whole for the exit, and of the other what image owns goes to the callee, beside the lifetime's token, which comes back.
 -- Assumes nothing.
 use mathlib.Core.Path.{_≡_, refl}
@@ -59,6 +60,13 @@ use Rattle.image.proofs.word.Code as code
 abbrev B : Lfts 1 → RattleType
 B κs = T.the-row (namedLft 1 0 tt κs)
 
+-- its declaration and laws
+abbrev D : Lfts 1 → Declared
+D κs = T.the-type (namedLft 1 0 tt κs)
+
+abbrev L : (κs : Lfts 1) → LL.Laws (D κs)
+L κs = T′.the-laws (namedLft 1 0 tt κs)
+
 abbrev stayed : Stays (word.ended .signature .params) (word.ended .kept)
 stayed = (stay-none B yes, tt)
 
@@ -84,14 +92,14 @@ module _ {M : Type 1} (𝓤 : URA M) (H : Heap 𝓤) (A : Atoms 𝓤) (W : Given
   abbrev Own : Fml
   Own = B (κ, tt) .own d (mach ∷ [])
 
-  -- the struct's type and laws, and d's fields' values
-  abbrev D : Declared
-  D = T.the-type (namedLft 1 0 tt (κ, tt))
+  -- the struct's declaration and laws here, and d's fields' values
+  abbrev Dκ : Declared
+  Dκ = D (κ, tt)
 
-  abbrev L : LL.Laws D
-  L = T′.the-laws (namedLft 1 0 tt (κ, tt))
+  abbrev Lκ : LL.Laws Dκ
+  Lκ = L (κ, tt)
 
-  abbrev vd : Values (D .parts)
+  abbrev vd : Values (Dκ .parts)
   vd = (d .image, (d .place, tt))
 
   -- what the callee is passed
@@ -108,8 +116,9 @@ module _ {M : Type 1} (𝓤 : URA M) (H : Heap 𝓤) (A : Atoms 𝓤) (W : Given
   apart : d .place < 2 ^ 64 → ent 𝓤 (onEntry 𝓤 H A word.signature (κ, tt) (q, tt) (d, tt) (mach ∷ [], tt)) (sep 𝓤 (TwoBytes 𝓤 H A mem run .pre to) (sem 𝓤 H A Own))
   apart fits =
       qed W ((‵ (flft κ q) ⊛ ‵ ftrue) ∷ ‵ (owns (B (κ, tt) ∷ []) (d, tt) (mach ∷ [], tt)) ∷ []) ∵
-      move ! (1 ∷ []) $ fsplit ! $ move ! (1 ∷ []) $ drop ! $ use1 W (‵ Own ⊛ ‵ Own) (LL.copy D (T′.the-copy (namedLft 1 0 tt (κ, tt))) 𝓤 H A W .twice d (mach ∷ [])) $ split ! $
-      use1 W (given (mach ∷ [] ≡ mach ∷ []) (‵ (all-own (D .parts) L vd))) (own-open 𝓤 H A W D L vd mach) $ learn ! (λ _. use1 W (‵ (ownAt (D .parts) L 0 (d .image)) ⊛ ‵ (rest (D .parts) L 0 vd)) (own-out 𝓤 H A W (D .parts) L 0 vd) $ split ! $
+      move ! (1 ∷ []) $ fsplit ! $ move ! (1 ∷ []) $ drop ! $ use1 W (‵ Own ⊛ ‵ Own) (LL.copy Dκ (T′.the-copy (namedLft 1 0 tt (κ, tt))) 𝓤 H A W .twice d (mach ∷ [])) $ split ! $
+      use1 W (given (mach ∷ [] ≡ mach ∷ []) (‵ (all-own (Dκ .parts) Lκ vd))) (own-open 𝓤 H A W Dκ Lκ vd mach) $
+      learn ! (λ _. use1 W (‵ (ownAt (Dκ .parts) Lκ 0 (d .image)) ⊛ ‵ (rest (Dκ .parts) Lκ 0 vd)) (own-out 𝓤 H A W (Dκ .parts) Lκ 0 vd) $ split ! $
       -- [what image owns; what place owns; what the struct owns; the token]
       move ! (1 ∷ []) $ drop ! $ nothing ! $ owned ! usize (Is usize) (uint-makes 𝓤 H A W w64) (d .place) _ (refl, fits) $ fjoin ! $ move ! (1 ∷ 0 ∷ []) $ fjoin ! $
       move ! (2 ∷ 0 ∷ []) $ use2 W (raw (TwoBytes 𝓤 H A mem run .pre to)) asked $ frame ! $ done !)
@@ -133,7 +142,8 @@ module _ {M : Type 1} (𝓤 : URA M) (H : Heap 𝓤) (A : Atoms 𝓤) (W : Given
         assigns ! (of-opd ! (load ! (from ! (fld ! refl (stop !))) (look-in ! 4 (sub ! 1 refl (whole !))))) (from ! (stop !)) (init ! 0 refl (tt, wt .1 .1 .0)) $
         move ! (8 ∷ []) $ use1 W (raw (TwoBytes 𝓤 H A mem run .pre to) ⊛ ‵ Own) (apart (wt .1 .1 .0 .fits)) $ split ! $
         calls-at ! fm (TwoBytes 𝓤 H A mem run) known to (and-then ! (load ! (from ! (stop !)) (look ! 4 refl)) (and-then ! (load ! (from ! (stop !)) (look ! 2 refl)) (no-more !))) (λ u.
-        use1 W (later (some (λ (r : ℕ). ((‵ (flft κ q) ⊛ ‵ ftrue) ⊛ ‵ (u16 .own r (u ∷ []))) ⊛ raw (ensured 𝓤 H A step.ended (step.clauses 𝓤 H A mem run) (κ, tt) (d .image, (d .place, tt)) tt r)))) (id⊢ 𝓤 _) $ await ! tt $ pick ! (λ r.
+        use1 W (later (some (λ (r : ℕ). ((‵ (flft κ q) ⊛ ‵ ftrue) ⊛ ‵ (u16 .own r (u ∷ []))) ⊛
+        raw (ensured 𝓤 H A step.ended (step.clauses 𝓤 H A mem run) (κ, tt) (d .image, (d .place, tt)) tt r)))) (id⊢ 𝓤 _) $ await ! tt $ pick ! (λ r.
         split ! $ move ! (1 ∷ []) $ use1 W (raw (fact 𝓤 (r ≡ found))) (said r) $ heard ! (r ≡ found) (λ e. split ! $ move ! (1 ∷ []) $
         -- [the result; the token; what the struct owns; _3; …; _2; …; _1; …; room for _0; …]
         peeks ! u16 (Is u16) (shows 𝓤 H A u16) r (u ∷ []) (λ is.
@@ -144,14 +154,17 @@ module _ {M : Type 1} (𝓤 : URA M) (H : Heap 𝓤) (A : Atoms 𝓤) (W : Given
 module _ {M : Type 1} (𝓤 : URA M) (H : Heap 𝓤) (A : Atoms 𝓤) (W : Given 𝓤 H A) (mem : Memory → SProp 𝓤) (run : Routine → Fun 𝓤) where
   word-walks : (C : Calls 𝓤 H) (Λ : Loops 𝓤 H) → FmC 𝓤 H (W .laws) C → Triple 𝓤 (C #rows·two-bytes) (TwoBytes 𝓤 H A mem run)
       → Walks 𝓤 H A word.ended stayed (WpFn 𝓤 H C Λ code.function) (word.clauses 𝓤 H A mem run)
-  word-walks C Λ fm known = walked 𝓤 H A word.ended stayed (word.clauses 𝓤 H A mem run) (WpFn 𝓤 H C Λ code.function) (λ κs. (LL.vals (T.the-type (namedLft 1 0 tt κs)) (T′.the-laws (namedLft 1 0 tt κs)), tt)) (λ κs. (LL.tells (T.the-type (namedLft 1 0 tt κs)) (T′.the-laws (namedLft 1 0 tt κs)), tt))
-      (λ κs qs bounds a g are. via 𝓤 _ (fst∗ 𝓤 _ (emp 𝓤)) (walk 𝓤 H A W mem run (κs .0) (qs .0) (a .0) C Λ fm known (LL.lawful (T.the-type (namedLft 1 0 tt κs)) (T′.the-laws (namedLft 1 0 tt κs)) 𝓤 H A W .typed (a .0) _ (are .0) .0)))
+  word-walks C Λ fm known =
+      walked 𝓤 H A word.ended stayed (word.clauses 𝓤 H A mem run) (WpFn 𝓤 H C Λ code.function)
+      (λ κs. (LL.vals (D κs) (L κs), tt)) (λ κs. (LL.tells (D κs) (L κs), tt))
+      (λ κs qs bounds a g are. via 𝓤 _ (fst∗ 𝓤 _ (emp 𝓤))
+      (walk 𝓤 H A W mem run (κs .0) (qs .0) (a .0) C Λ fm known (LL.lawful (D κs) (L κs) 𝓤 H A W .typed (a .0) _ (are .0) .0)))
 
-word-meets : {M : Type 1} (𝓤 : URA M) (H : Heap 𝓤) (A : Atoms 𝓤) (W : Given 𝓤 H A) (mem : Memory → SProp 𝓤) (run : Routine → Fun 𝓤) (𝓣 : Tables 𝓤 H)
-    → Triple 𝓤 (𝓣 .C #rows·two-bytes) (TwoBytes 𝓤 H A mem run)
-    → Meets 𝓤 H A word.signature (WpFn 𝓤 H (𝓣 .C) (𝓣 .Λ) code.function) (word.spec 𝓤 H A mem run)
-word-meets 𝓤 H A W mem run 𝓣 known-step = walk-meets 𝓤 H A word.ended stayed W (goes-none 𝓤 H A W 1 B yes (λ κs x f. refl), tt) (word.clauses 𝓤 H A mem run) (WpFn 𝓤 H (𝓣 .C) (𝓣 .Λ) code.function) (WpFn-mono 𝓤 H (W .laws) 𝓣 code.function)
-    (word-walks 𝓤 H A W mem run (𝓣 .C) (𝓣 .Λ) (fmOf 𝓤 H (W .laws) 𝓣) known-step)
+  word-meets : (𝓣 : Tables 𝓤 H) → Triple 𝓤 (𝓣 .C #rows·two-bytes) (TwoBytes 𝓤 H A mem run)
+      → Meets 𝓤 H A word.signature (WpFn 𝓤 H (𝓣 .C) (𝓣 .Λ) code.function) (word.spec 𝓤 H A mem run)
+  word-meets 𝓣 known =
+      walk-meets 𝓤 H A word.ended stayed W (goes-none 𝓤 H A W 1 B yes (λ κs x f. refl), tt) (word.clauses 𝓤 H A mem run) (WpFn 𝓤 H (𝓣 .C) (𝓣 .Λ) code.function)
+      (WpFn-mono 𝓤 H (W .laws) 𝓣 code.function) (word-walks (𝓣 .C) (𝓣 .Λ) (fmOf 𝓤 H (W .laws) 𝓣) known)
 
 pub word-spec : {M : Type 1} → stated.statement M
 unfolding code.routine tablesOf

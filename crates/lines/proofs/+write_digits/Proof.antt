@@ -66,7 +66,9 @@ write-digits-same-length-3 : (t : ℕ) → write-digits-lts.Need-same-length-3 (
 write-digits-same-length-3 t c = written-long (written-then (c .before .before .before .before .before .before .write-digits .ensures) (c .before .before .write-two2 .ensures))
 
 write-digits-returns-3 : (t : ℕ) → write-digits-lts.Need-returns-3 (claims t) (write-digits-at t) write-digits.Post
-write-digits-returns-3 t c = written-as (written-then (c .before .before .before .before .before .before .write-digits .ensures) (c .before .before .write-two2 .ensures)) (decimal-hundred _ (c .before .before .before .before .before .before .before .before .if2 .left))
+write-digits-returns-3 t c =
+    let c₁ = c .before .before .before .before .before .before in
+    written-as (written-then (c₁ .write-digits .ensures) (c .before .before .write-two2 .ensures)) (decimal-hundred _ (c₁ .before .before .if2 .left))
 
 pub +write-digits-spec : {M : Type 1} → statement M
 +write-digits-spec = close μ-write-digits λ t. write-digits-lts.spec (claims t)

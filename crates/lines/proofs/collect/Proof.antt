@@ -40,19 +40,33 @@ cast-put-key : tie.Need-cast-put-key Inv-loop μ-loop
 cast-put-key c = let r = lowest-range _ _ wordCount (search needs) (told-key (c .before .before .f .given .1) (c .before .before .before .before .lowest-from .ensures)) in omega (arith, r .1)
 
 put-key-requires : tie.Need-put-key-requires Inv-loop μ-loop
-put-key-requires c κs = collect-room (c .before .before .before .before .before .loop .inv) (search needs) (c .before .before .before .before .before .before .before .before .pre) (told-key (c .before .before .f .given .1) (c .before .before .before .before .lowest-from .ensures))
+put-key-requires c κs =
+    let c₁ = c .before .before .before .before in
+    let c₂ = c₁ .before .before .before .before in
+    collect-room (c₁ .before .loop .inv) (search needs) (c₂ .pre) (told-key (c .before .before .f .given .1) (c₁ .lowest-from .ensures))
 
 add-n : tie.Need-add-n Inv-loop μ-loop
-add-n c = let r = collect-room (c .before .before .before .before .before .before .before .before .loop .inv) (search needs) (c .before .before .before .before .before .before .before .before .before .before .before .pre) (told-key (c .before .before .before .before .before .f .given .1) (c .before .before .before .before .before .before .before .lowest-from .ensures)) in search needs
+add-n c =
+    let c₁ = c .before .before .before .before .before in
+    let c₂ = c₁ .before .before .before in
+    let c₃ = c₂ .before .before .before in
+    let r = collect-room (c₂ .loop .inv) (search needs) (c₃ .pre) (told-key (c₁ .f .given .1) (c₁ .before .before .lowest-from .ensures)) in search needs
 
 add-k : tie.Need-add-k Inv-loop μ-loop
-add-k c = let r = lowest-range _ _ wordCount (search needs) (told-key (c .before .before .before .before .before .f .given .1) (c .before .before .before .before .before .before .before .lowest-from .ensures)) in omega (arith, r .1)
+add-k c =
+    let c₁ = c .before .before .before .before .before in
+    let r = lowest-range _ _ wordCount (search needs) (told-key (c₁ .f .given .1) (c₁ .before .before .lowest-from .ensures)) in omega (arith, r .1)
 
 loop-less : tie.Need-loop-less Inv-loop μ-loop
-loop-less c = let r = lowest-range _ _ wordCount (search needs) (told-key (c .before .before .before .before .before .f .given .1) (c .before .before .before .before .before .before .before .lowest-from .ensures)) in omega (arith, r .0, r .1)
+loop-less c =
+    let c₁ = c .before .before .before .before .before in
+    let r = lowest-range _ _ wordCount (search needs) (told-key (c₁ .f .given .1) (c₁ .before .before .lowest-from .ensures)) in omega (arith, r .0, r .1)
 
 loop-again : tie.Need-loop-again Inv-loop μ-loop
-loop-again c = collect-more (c .before .before .before .before .before .before .before .before .loop .inv) (told-key (c .before .before .before .before .before .f .given .1) (c .before .before .before .before .before .before .before .lowest-from .ensures)) refl (search needs) (c .before .before .put-key .ensures)
+loop-again c =
+    let c₁ = c .before .before .before .before .before in
+    let c₂ = c₁ .before .before .before in
+    collect-more (c₂ .loop .inv) (told-key (c₁ .f .given .1) (c₁ .before .before .lowest-from .ensures)) refl (search needs) (c .before .before .put-key .ensures)
 
 pub collect-spec : {M : Type 1} → statement M
 collect-spec =

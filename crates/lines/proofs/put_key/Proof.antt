@@ -13,15 +13,19 @@ up-to-requires : tie.Need-up-to-requires
 up-to-requires c κs = search needs
 
 put-in-requires : tie.Need-put-in-requires
-put-in-requires c κs = (place-fits _ (c .before .before .before .before .before .before .args .keys .now) _ _ (omega (arith, c .before .before .before .before .before .before .pre)) (c .before .up-to .ensures), c .before .before .before .before .before .before .pre)
+put-in-requires c κs =
+    let c₁ = c .before .before .before .before .before .before in
+    (place-fits _ (c₁ .args .keys .now) _ _ (omega (arith, c₁ .pre)) (c .before .up-to .ensures), c₁ .pre)
 
 same-length : tie.Need-same-length
 same-length c = search needs
 
 returns : tie.Need-returns
 returns c =
-    let a = c .before .before .before .before .before .before .before .before .before .args in
-    λ x. put-placed (levelIn (a .levels .now)) x (a .keys .now) _ _ _ _ (c .before .before .before .before .before .before .before .before .before .pre) (omega arith) (c .before .before .before .before .before .before .level-of .ensures) (c .before .before .before .before .up-to .ensures) (c .before .before .put-in .ensures)
+    let c₁ = c .before .before .before .before in
+    let c₂ = c₁ .before .before .before .before .before in
+    let a = c₂ .args in
+    λ x. put-placed (levelIn (a .levels .now)) x (a .keys .now) _ _ _ _ (c₂ .pre) (omega arith) (c₁ .before .before .level-of .ensures) (c₁ .up-to .ensures) (c .before .before .put-in .ensures)
 
 pub put-key-spec : {M : Type 1} → statement M
 put-key-spec =

@@ -40,21 +40,30 @@ loop-less c = search needs
 
 loop-again : tie.Need-loop-again Inv-loop μ-loop
 loop-again c =
-    let inv = c .before .before .before .before .loop .inv in
-    let t = c .before .before .before .loop-test .taken in
-    (search needs, omega (arith, inv .1), count-yes (levelIn (c .before .before .before .before .before .before .before .args .levels .now)) _ (c .before .before .before .before .before .before .before .args .keys .now) _ (omega (arith, t, c .before .before .before .before .before .before .before .pre)) refl (c .before .level-of .ensures) (inv .2) (c .if1 .taken))
+    let c₁ = c .before .before .before in
+    let c₂ = c₁ .before .before .before .before in
+    let inv = c₁ .before .loop .inv in
+    let t = c₁ .loop-test .taken in (
+      search needs,
+      omega (arith, inv .1),
+      count-yes (levelIn (c₂ .args .levels .now)) _ (c₂ .args .keys .now) _ (omega (arith, t, c₂ .pre)) refl (c .before .level-of .ensures) (inv .2) (c .if1 .taken),
+    )
 
 loop-less-2 : tie.Need-loop-less-2 Inv-loop μ-loop
 loop-less-2 c = search needs
 
 loop-again-2 : tie.Need-loop-again-2 Inv-loop μ-loop
 loop-again-2 c =
-    let inv = c .before .before .before .before .loop .inv in
-    let t = c .before .before .before .loop-test .taken in
-    (search needs, omega (arith, inv .1), count-no (levelIn (c .before .before .before .before .before .before .before .args .levels .now)) _ (c .before .before .before .before .before .before .before .args .keys .now) _ (omega (arith, t, c .before .before .before .before .before .before .before .pre)) refl (c .before .level-of .ensures) (inv .2) (c .if1 .left))
+    let c₁ = c .before .before .before in
+    let c₂ = c₁ .before .before .before .before in
+    let inv = c₁ .before .loop .inv in
+    let t = c₁ .loop-test .taken in
+    (search needs, omega (arith, inv .1), count-no (levelIn (c₂ .args .levels .now)) _ (c₂ .args .keys .now) _ (omega (arith, t, c₂ .pre)) refl (c .before .level-of .ensures) (inv .2) (c .if1 .left))
 
 returns : tie.Need-returns Inv-loop μ-loop
-returns c = count-all (levelIn (c .before .before .before .before .args .levels .now)) _ (c .before .before .before .before .args .keys .now) (c .before .loop .inv .0) (c .loop-test .left) (c .before .loop .inv .2)
+returns c =
+    let c₁ = c .before .before .before .before in
+    count-all (levelIn (c₁ .args .levels .now)) _ (c₁ .args .keys .now) (c .before .loop .inv .0) (c .loop-test .left) (c .before .loop .inv .2)
 
 pub up-to-spec : {M : Type 1} → statement M
 up-to-spec =

@@ -20,7 +20,10 @@ same-length : tie.Need-same-length
 same-length c = search needs
 
 returns : tie.Need-returns
-returns c = written-then (c .before .before .before .before .before .before .before .before .before .before .write-text .ensures) (written-then (c .before .before .before .before .before .before .write-actions .ensures) (c .before .before .put .ensures))
+returns c =
+    let c₁ = c .before .before .before .before .before .before in
+    let c₂ = c₁ .before .before .before .before in
+    written-then (c₂ .write-text .ensures) (written-then (c₁ .write-actions .ensures) (c .before .before .put .ensures))
 
 pub write-acted-spec : {M : Type 1} → statement M
 write-acted-spec =

@@ -17,7 +17,10 @@ same-length : tie.Need-same-length
 same-length c = search needs
 
 returns : tie.Need-returns
-returns c = written-then (c .before .before .before .before .before .before .before .write-text .ensures) (rw (c .before .before .before .before .bit .ensures) at (c .before .before .write-decimal .ensures))
+returns c =
+    let c₁ = c .before .before .before .before in
+    let c₂ = c₁ .before .before .before in
+    written-then (c₂ .write-text .ensures) (rw (c₁ .bit .ensures) at (c .before .before .write-decimal .ensures))
 
 pub write-flag-spec : {M : Type 1} → statement M
 write-flag-spec =

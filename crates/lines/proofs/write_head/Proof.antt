@@ -38,7 +38,13 @@ same-length c = search needs
 
 returns : tie.Need-returns
 unfolding headText
-returns c = written-then (c .before .before .before .before .before .before .before .before .before .before .before .before .before .before .before .before .before .before .before .before .before .write-text .ensures) (written-then (c .before .before .before .before .before .before .before .before .before .before .before .before .before .before .before .before .before .write-tag .ensures) (written-as (written-then (c .before .before .before .before .before .before .before .before .before .before .before .before .write-flag .ensures) (written-then (c .before .before .before .before .before .before .before .write-flag2 .ensures) (c .before .before .write-flag3 .ensures))) (simp append-assoc)))
+returns c =
+    let c₁ = c .before .before .before .before .before .before .before in
+    let c₂ = c₁ .before .before .before .before .before in
+    let c₃ = c₂ .before .before .before .before .before in
+    let c₄ = c₃ .before .before .before .before in
+    let flags = written-then (c₂ .write-flag .ensures) (written-then (c₁ .write-flag2 .ensures) (c .before .before .write-flag3 .ensures)) in
+    written-then (c₄ .write-text .ensures) (written-then (c₃ .write-tag .ensures) (written-as flags (simp append-assoc)))
 
 pub write-head-spec : {M : Type 1} → statement M
 write-head-spec =

@@ -40,18 +40,23 @@ loop-less c = search needs
 
 loop-again : tie.Need-loop-again Inv-loop μ-loop
 loop-again c =
-    let a = c .before .before .before .before .before .before .before .before .before .before .before .args in
-    let h = c .before .before .before .before .before .before .loop-test .taken in (
+    let c₁ = c .before .before .before .before in
+    let c₂ = c₁ .before .before .before in
+    let c₃ = c₂ .before .before .before .before in
+    let a = c₃ .args in
+    let h = c₁ .before .before .loop-test .taken in (
       search needs,
-      keys-next (entryOf (levelIn (a .levels .now))) (a .keys .now) _ _ (omega (arith, h, c .before .before .before .before .before .before .before .before .before .before .before .pre .1)) refl (c .before .before .before .before .before .before .before .loop .inv .1)
-          (entry-listed _ _ (c .before .before .before .before .level-of .ensures) (c .before .before .write-reaction .ensures)),
+      keys-next (entryOf (levelIn (a .levels .now))) (a .keys .now) _ _ (omega (arith, h, c₃ .pre .1)) refl (c₂ .loop .inv .1)
+          (entry-listed _ _ (c₁ .level-of .ensures) (c .before .before .write-reaction .ensures)),
     )
 
 same-length : tie.Need-same-length Inv-loop μ-loop
 same-length c = listed-long (c .before .loop .inv .1)
 
 returns : tie.Need-returns Inv-loop μ-loop
-returns c = keys-stop (entryOf (levelIn (c .before .before .before .before .before .args .levels .now))) (c .before .before .before .before .before .args .keys .now) _ _ (c .before .loop .inv .0) (c .loop-test .left) (c .before .loop .inv .1)
+returns c =
+    let c₁ = c .before .before .before .before .before in
+    keys-stop (entryOf (levelIn (c₁ .args .levels .now))) (c₁ .args .keys .now) _ _ (c .before .loop .inv .0) (c .loop-test .left) (c .before .loop .inv .1)
 
 pub write-leveled-spec : {M : Type 1} → statement M
 write-leveled-spec =

@@ -30,7 +30,10 @@ same-length : tie.Need-same-length
 same-length c = search needs
 
 returns : tie.Need-returns
-returns c = written-then (c .before .before .before .before .before .before .before .before .write-text .ensures) (written-as (c .before .before .write-reactions .ensures) (same-levels _ _ _ (c .before .before .before .before .before .first-level .ensures .1)))
+returns c =
+    let c₁ = c .before .before .before .before .before in
+    let c₂ = c₁ .before .before .before in
+    written-then (c₂ .write-text .ensures) (written-as (c .before .before .write-reactions .ensures) (same-levels _ _ _ (c₁ .first-level .ensures .1)))
 
 pub write-reacted-spec : {M : Type 1} → statement M
 write-reacted-spec =

@@ -21,7 +21,11 @@ same-length : tie.Need-same-length
 same-length c = search needs
 
 returns : tie.Need-returns
-returns c = listed-one _ (c .before .before .before .before .before .before .before .before .before .before .before .before .before .before .separate .ensures) (written-then (c .before .before .before .before .before .before .before .before .before .before .write-decimal .ensures) (written-then (c .before .before .before .before .before .before .put .ensures) (c .before .before .write-decimal2 .ensures)))
+returns c =
+    let c₁ = c .before .before .before .before .before .before in
+    let c₂ = c₁ .before .before .before .before in
+    let c₃ = c₂ .before .before .before .before in
+    listed-one _ (c₃ .separate .ensures) (written-then (c₂ .write-decimal .ensures) (written-then (c₁ .put .ensures) (c .before .before .write-decimal2 .ensures)))
 
 pub write-reaction-spec : {M : Type 1} → statement M
 write-reaction-spec =

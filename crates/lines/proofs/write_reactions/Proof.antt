@@ -29,10 +29,13 @@ same-length c = search needs
 returns : tie.Need-returns
 unfolding reactionList
 returns c =
-    let a = c .before .before .before .before .before .before .before .before .before .before .before .before .before .before .args in
+    let c₁ = c .before .before .before .before .before .before in
+    let c₂ = c₁ .before .before .before .before in
+    let c₃ = c₂ .before .before .before .before in
+    let a = c₃ .args in
     let lev = levelIn (a .levels .now) in
     listed-end (map (entryOf lev) (byLevel lev (keysOf (a .set .words)) 0 levelCount))
-    (listed-as (c .before .before .before .before .before .before .write-leveled .ensures) (ap (map (entryOf lev)) (c .before .before .before .before .before .before .before .before .before .before .collect .ensures .1))) (c .before .before .finish .ensures)
+    (listed-as (c₁ .write-leveled .ensures) (ap (map (entryOf lev)) (c₂ .collect .ensures .1))) (c .before .before .finish .ensures)
 
 pub write-reactions-spec : {M : Type 1} → statement M
 write-reactions-spec =

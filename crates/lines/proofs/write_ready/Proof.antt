@@ -20,8 +20,11 @@ same-length c = search needs
 
 returns : tie.Need-returns
 returns c =
-    let a = c .before .before .before .before .before .before .before .before .before .before .before .before .before .before .before .before .args in
-    ready-line (a .image .now) (readyAt (ofGlobal (a .tag)) (gatheringOf (a .g) (a .actions .now))) (c .before .before .before .before .before .before .before .before .before .before .before .write-head .ensures) (c .before .before .before .before .before .before .write-reacted .ensures) (c .before .before .write-acted .ensures)
+    let c₁ = c .before .before .before .before .before .before in
+    let c₂ = c₁ .before .before .before .before .before in
+    let c₃ = c₂ .before .before .before .before .before in
+    let a = c₃ .args in
+    ready-line (a .image .now) (readyAt (ofGlobal (a .tag)) (gatheringOf (a .g) (a .actions .now))) (c₂ .write-head .ensures) (c₁ .write-reacted .ensures) (c .before .before .write-acted .ensures)
 
 pub write-ready-spec : {M : Type 1} → statement M
 write-ready-spec =

@@ -22,7 +22,10 @@ same-length c = search needs
 
 returns : tie.Need-returns
 unfolding refusedLine
-returns c = written-then (c .before .before .before .before .before .before .before .before .before .before .write-text .ensures) (written-then (c .before .before .before .before .before .before .write-decimal .ensures) (c .before .before .put .ensures))
+returns c =
+    let c₁ = c .before .before .before .before .before .before in
+    let c₂ = c₁ .before .before .before .before in
+    written-then (c₂ .write-text .ensures) (written-then (c₁ .write-decimal .ensures) (c .before .before .put .ensures))
 
 pub write-refused-spec : {M : Type 1} → statement M
 write-refused-spec =

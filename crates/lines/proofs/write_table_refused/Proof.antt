@@ -37,7 +37,15 @@ same-length c = search needs
 
 returns : tie.Need-returns
 unfolding tableRefused
-returns c = let w = written-then (c .before .before .before .before .before .before .before .before .before .before .before .before .before .before .before .before .before .before .write-text .ensures) (written-then (c .before .before .before .before .before .before .before .before .before .before .before .before .before .before .write-decimal .ensures) (written-then (c .before .before .before .before .before .before .before .before .before .before .put .ensures) (written-then (c .before .before .before .before .before .before .write-decimal2 .ensures) (c .before .before .put2 .ensures)))) in rw (c .before .before .before .before .before .before .before .before .before .before .before .before .before .before .before .before .before .before .before .before .before .before .number-of .ensures, c .before .before .before .before .before .before .before .before .before .before .before .before .before .before .before .before .before .before .before .before .before .place-of .ensures) at w
+returns c =
+    let c₁ = c .before .before .before .before .before .before in
+    let c₂ = c₁ .before .before .before .before in
+    let c₃ = c₂ .before .before .before .before in
+    let c₄ = c₃ .before .before .before .before in
+    let c₅ = c₄ .before .before .before in
+    let place = written-then (c₂ .put .ensures) (written-then (c₁ .write-decimal2 .ensures) (c .before .before .put2 .ensures)) in
+    let w = written-then (c₄ .write-text .ensures) (written-then (c₃ .write-decimal .ensures) place) in
+    rw (c₅ .before .number-of .ensures, c₅ .place-of .ensures) at w
 
 pub write-table-refused-spec : {M : Type 1} → statement M
 write-table-refused-spec =

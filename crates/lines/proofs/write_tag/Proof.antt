@@ -22,7 +22,10 @@ same-length c = search needs
 
 returns : tie.Need-returns
 unfolding tagText
-returns c = written-then (c .before .before .before .before .before .before .before .before .before .before .before .write-decimal .ensures) (written-then (c .before .before .before .before .before .before .before .put .ensures) (c .before .before .write-decimal2 .ensures))
+returns c =
+    let c₁ = c .before .before .before .before .before .before .before in
+    let c₂ = c₁ .before .before .before .before in
+    written-then (c₂ .write-decimal .ensures) (written-then (c₁ .put .ensures) (c .before .before .write-decimal2 .ensures))
 
 pub write-tag-spec : {M : Type 1} → statement M
 write-tag-spec =

@@ -22,7 +22,10 @@ same-length : tie.Need-same-length
 same-length c = search needs
 
 returns : tie.Need-returns
-returns c = written-as (written-then (c .before .before .before .before .before .before .before .put .ensures) (c .before .before .put2 .ensures)) (ap₂ (λ a b. a ∷ (b ∷ [])) (c .before .before .before .before .before .before .before .before .before .last-digit .ensures) (c .before .before .before .before .last-digit2 .ensures))
+returns c =
+    let c₁ = c .before .before .before .before in
+    let c₂ = c₁ .before .before .before in
+    written-as (written-then (c₂ .put .ensures) (c .before .before .put2 .ensures)) (ap₂ (λ a b. a ∷ (b ∷ [])) (c₂ .before .before .last-digit .ensures) (c₁ .last-digit2 .ensures))
 
 pub write-two-spec : {M : Type 1} → statement M
 write-two-spec =

@@ -11,7 +11,9 @@ keeps-rules-requires : tie.Need-keeps-rules-requires
 keeps-rules-requires c κs = search needs
 
 returns : tie.Need-returns
-returns c = (sound-is _ _ _ (c .before .before .before .before .before .before .before .before .before .before .before .before .unpack .ensures) (c .keeps-rules .ensures), c .before .before .before .before .before .before .before .before .before .before .before .before .unpack .ensures)
+returns c =
+    let u = c .before .before .before .before .before .before .before .before .before .before .unpack .ensures in
+    (sound-is _ _ _ u (c .keeps-rules .ensures), u)
 
 pub enter-spec : {M : Type 1} → statement M
 enter-spec = tie.close (tie.spec unpack-requires keeps-rules-requires returns)

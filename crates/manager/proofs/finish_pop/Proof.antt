@@ -4,8 +4,11 @@ use borrow.Author.Needs.{needs}
 use Rattle.manager.proofs.finish_pop.Statement.{statement}
 use Rattle.manager.proofs.finish_pop.Tie as tie
 
-leave-requires : tie.Need-leave-requires
-leave-requires c κs = search needs
+with-events-requires : tie.Need-with-events-requires
+with-events-requires c κs = search needs
+
+pack-requires : tie.Need-pack-requires
+pack-requires c κs = search needs
 
 ready-of-requires : tie.Need-ready-of-requires
 ready-of-requires c κs = search needs
@@ -21,4 +24,4 @@ returns-2 c = search pop-nothing
 
 pub finish-pop-spec : {M : Type 1} → statement M
 finish-pop-spec =
-    tie.close (tie.spec leave-requires ready-of-requires returns no-ready-requires returns-2)
+    tie.close (tie.spec with-events-requires pack-requires ready-of-requires returns no-ready-requires returns-2)

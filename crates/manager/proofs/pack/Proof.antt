@@ -1,4 +1,5 @@
 -- `manager::pack` meets its contract: each array. Assumes nothing.
+use Rattle.manager.proofs.Front.{joined-back}
 use borrow.Author.Needs.{needs}
 use Rattle.manager.proofs.pack.Statement.{statement}
 use Rattle.manager.proofs.pack.Tie as tie
@@ -19,7 +20,12 @@ store-of-requires : tie.Need-store-of-requires
 store-of-requires c κs = search needs
 
 returns : tie.Need-returns
-returns c = rw (c .before .before .before .before .before .before .before .before .before .clocks-of .ensures, c .before .before .before .before .before .before .before .active-of .ensures, c .before .before .before .before .before .ever-of .ensures, c .before .before .before .slots-of .ensures, c .store-of .ensures)
+returns c =
+    let s = c .before .before .before in
+    let e = s .before .before in
+    let a = e .before .before in
+    let k = a .before .before in
+    rw (k .clocks-of .ensures, a .active-of .ensures, e .ever-of .ensures, joined-back _, s .slots-of .ensures, c .store-of .ensures)
 
 pub pack-spec : {M : Type 1} → statement M
 pack-spec =

@@ -43,7 +43,9 @@ loop-less : tie.Need-loop-less Inv-loop μ-loop
 loop-less c = search needs
 
 loop-again : tie.Need-loop-again Inv-loop μ-loop
-loop-again c = (search needs, search needs, copying-next _ _ _ _ _ _ _ _ (c .before .before .before .before .loop .inv .2) (c .before .before .before .loop-test .taken) (c .before .before .before .before .loop .inv .1) (c .put-scope .ensures))
+loop-again c =
+    let v = c .before .before .before .before .loop .inv in
+    (search needs, search needs, copying-next _ _ _ _ _ _ _ _ _ _ (v .2) (c .before .before .before .loop-test .taken) (v .1) (c .put-scope .ensures))
 
 returns : tie.Need-returns Inv-loop μ-loop
 returns c = (search copying-all, (search needs, search needs, search needs))

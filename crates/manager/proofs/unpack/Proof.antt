@@ -33,10 +33,14 @@ bucket-rows-requires c κs = search needs
 
 returns : tie.Need-returns
 returns c =
-    let a = c .before .before .before .before .before .before .before .before .before .before .before .before .before .before .before .before .args in
-    let l = c .before .before .before .scope-rows .ensures .1 in
-    unpacks (a .image .now) (a .m) _ _ _ _ _ (l .0) (l .1) (l .2) (c .before .before .before .before .mode-rows .ensures .1) (c .before .before .slot-rows .ensures .1) (c .before .value-rows .ensures .1) (c .bucket-rows .ensures .1)
-    (c .before .before .before .before .before .before .before .before .before .before .before .before .before .count2 .ensures) (c .before .before .before .before .before .before .before .before .before .before .before .before .before .before .count .ensures) (c .before .before .before .before .mode-rows .ensures .0) (c .before .before .before .scope-rows .ensures .0) (c .before .before .slot-rows .ensures .0) (c .before .value-rows .ensures .0) (c .bucket-rows .ensures .0)
+    let b = c .bucket-rows .ensures in
+    let v = c .before .value-rows .ensures in
+    let e = c .before .before .slot-rows .ensures in
+    let s = c .before .before .before .scope-rows .ensures in
+    let m = c .before .before .before .before .mode-rows .ensures in
+    let k = c .before .before .before .before .before .before .before .before .before .before .before .before .before in
+    let a = k .before .before .before .args in
+    unpacks (a .image .now) (a .m) _ _ _ _ _ (s .1 .0) (s .1 .1) (s .1 .2) (m .1) (e .1) (v .1) (b .1) (k .count2 .ensures) (k .before .count .ensures) (m .0) (s .0) (e .0) (v .0) (b .0)
 
 pub unpack-spec : {M : Type 1} → statement M
 unpack-spec =

@@ -1,11 +1,12 @@
 -- `plan::active_scopes` meets its contract: the scopes before i are marked. Assumes nothing.
+use Rattle.lens.specs.Holds.{most-scopes}
 use Prim.Native.Nat.{_-_, _≤_}
 use mathlib.Core.Path.{_≡_}
 use Rattle.schedule.specs.Schedule.{isActive}
 use Rattle.scopes.specs.Scopes.{mostScopes}
 use Rattle.machine.specs.Table.{scopes}
 use Rattle.plan.specs.Plans.{Marks}
-use Rattle.plan.proofs.PlanLaws.{few-scopes, marks-none, marks-more, marks-all}
+use Rattle.plan.proofs.PlanLaws.{marks-none, marks-more, marks-all}
 use borrow.Author.Needs.{needs}
 use Rattle.plan.proofs.active_scopes.Statement.{statement}
 use Rattle.plan.proofs.active_scopes.Tie as tie
@@ -23,7 +24,9 @@ empty-requires : tie.Need-empty-requires Inv-loop μ-loop
 empty-requires c κs = search needs
 
 loop-holds : tie.Need-loop-holds Inv-loop μ-loop
-loop-holds c = let a = c .before .before .before .before .args in let n = c .before .count .ensures in (search needs, rw n (few-scopes (a .image .now) (c .before .before .before .before .pre)), n, rw (c .empty .ensures) (marks-none _))
+loop-holds c =
+    let c₁ = c .before .before .before .before in
+    let a = c₁ .args in let n = c .before .count .ensures in (search needs, rw n (most-scopes (a .image .now) (c₁ .pre)), n, rw (c .empty .ensures) (marks-none _))
 
 is-active-requires : tie.Need-is-active-requires Inv-loop μ-loop
 is-active-requires c κs = search needs
@@ -38,7 +41,9 @@ loop-less : tie.Need-loop-less Inv-loop μ-loop
 loop-less c = search needs
 
 loop-again : tie.Need-loop-again Inv-loop μ-loop
-loop-again c = let l = c .before .before .before .loop in (search needs, l .inv .1, l .inv .2, marks-more _ (l .i) (l .set .words) _ _ (search needs) (l .inv .3) (c .before .is-active .ensures) (c .mark .ensures))
+loop-again c =
+    let c₁ = c .before .before .before in
+    let l = c₁ .loop in (search needs, l .inv .1, l .inv .2, marks-more _ (l .i) (l .set .words) _ _ (search needs) (l .inv .3) (c .before .is-active .ensures) (c .mark .ensures))
 
 returns : tie.Need-returns Inv-loop μ-loop
 returns c = let l = c .before .loop in rw (← (l .inv .2)) (marks-all _ (l .i) _ (l .set .words) (search needs) (search needs) (l .inv .3))

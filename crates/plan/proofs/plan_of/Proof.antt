@@ -1,9 +1,10 @@
 -- `plan::plan_of` meets its contract. Assumes nothing.
+use Rattle.lens.specs.Holds.{most-reactors}
 use mathlib.Core.Path.{refl}
 use Prim.Native.Nat.{_≤_}
 use native.Mathlib.Omega.{arith}
 use lib.ListN.{length, length-take}
-use Rattle.plan.proofs.PlanLaws.{few-reactors, filled-long, filled-take, filled-new}
+use Rattle.plan.proofs.PlanLaws.{filled-long, filled-take, filled-new}
 use borrow.Author.Needs.{needs}
 use Rattle.plan.proofs.plan_of.Statement.{statement}
 use Rattle.plan.proofs.plan_of.Tie as tie
@@ -18,16 +19,25 @@ count-requires : tie.Need-count-requires
 count-requires c κs = search needs
 
 new-modes-requires : tie.Need-new-modes-requires
-new-modes-requires c κs = let a = c .before .before .before .before .args in (search needs, rw (c .count .ensures) (few-reactors (a .image .now) (c .before .before .before .before .pre .0)))
+new-modes-requires c κs = let a = c .before .before .before .before .args in (search needs, rw (c .count .ensures) (most-reactors (a .image .now) (c .before .before .before .before .pre .0)))
 
 cast-end : tie.Need-cast-end
 cast-end c = search needs
 
 array-share-prefix-after : tie.Need-array-share-prefix-after
-array-share-prefix-after c = let a = c .before .before .before .before .before .args in let p = c .before .before .before .before .before .pre in filled-long (a .image .now) (a .modes .now) (a .request) (p .0) (p .1 .0) (p .1 .1) _ _ (c .before .count .ensures) (c .new-modes .ensures)
+array-share-prefix-after c =
+    let c₁ = c .before .before .before .before .before in
+    let a = c₁ .args in let p = c₁ .pre in filled-long (a .image .now) (a .modes .now) (a .request) (p .0) (p .1 .0) (p .1 .1) _ _ (c .before .count .ensures) (c .new-modes .ensures)
 
 slice-aggregate-active-scopes : tie.Need-slice-aggregate-active-scopes
-slice-aggregate-active-scopes c = let a = c .before .before .before .before .before .before .args in let p = c .before .before .before .before .before .before .pre in let n : c .before .before .count .result ≤ length (c .before .new-modes .result) = filled-long (a .image .now) (a .modes .now) (a .request) (p .0) (p .1 .0) (p .1 .1) _ _ (c .before .before .count .ensures) (c .before .new-modes .ensures) in rw length-take (omega arith)
+slice-aggregate-active-scopes c =
+    let c₁ = c .before .before in
+    let c₂ = c₁ .before .before .before .before in
+    let a = c₂ .args in
+    let p = c₂ .pre in
+    let n : c₁ .count .result ≤ length (c .before .new-modes .result) = filled-long (a .image .now) (a .modes .now) (a .request) (p .0) (p .1 .0) (p .1 .1) _ _ (c₁ .count .ensures)
+    (c .before .new-modes .ensures) in
+    rw length-take (omega arith)
 
 active-scopes-requires : tie.Need-active-scopes-requires
 active-scopes-requires c κs = search needs
@@ -46,8 +56,6 @@ returns c =
       inside = rw (← target) (c .before .before .before .before .before .subtree-if .ensures);
       now = rw (← (filled-take (a .image .now) (a .modes .now) (a .request) (p .0) (p .1 .0) (p .1 .1) _ _ count modes)) (c .before .active-scopes .ensures);
       modes = filled-new (a .image .now) (a .modes .now) (a .request) (p .0) (p .1 .0) (p .1 .1) _ _ count modes;
-      counts = refl;
-      held = refl;
     }
 
 pub plan-of-spec : {M : Type 1} → statement M

@@ -6,9 +6,9 @@ use native.Mathlib.Omega.{arith}
 use borrow.Author.Needs.{needs}
 use Rattle.lists.specs.Lists.{every}
 use Rattle.tags.specs.Views.{ofGlobal}
+use Rattle.machine.specs.Heads.{controlled}
 use Rattle.slots.specs.Slots.{eventsOf, eventOf}
 use Rattle.slots.proofs.SlotLaws.{events-long}
-use Rattle.pops.specs.Pops.{controlled}
 use Rattle.pops.proofs.PopLaws.{each-pass, each-fail, each-end}
 use Rattle.pops.proofs.all_controlled.Statement.{statement}
 use Rattle.pops.proofs.all_controlled.Tie as tie
@@ -35,10 +35,22 @@ loop-less : tie.Need-loop-less Inv-loop μ-loop
 loop-less c = search needs
 
 loop-again : tie.Need-loop-again Inv-loop μ-loop
-loop-again c = let b = c .before .before .before .before in let a = b .before in let l = events-long (a .args .events .now) in (search needs, each-pass _ (eventsOf (a .args .events .now)) (a .args .waiting) (b .loop .i) (eventOf (c .before .before .slot-at .result)) (search needs) (omega (arith, a .pre)) (c .before .before .slot-at .ensures) (sym (c .before .is-controlled .ensures) ∙ c .if1 .taken) (b .loop .inv .1))
+loop-again c =
+    let b = c .before .before .before .before in
+    let a = b .before in
+    let l = events-long (a .args .events .now) in (
+      search needs,
+      each-pass _ (eventsOf (a .args .events .now)) (a .args .waiting) (b .loop .i) (eventOf (c .before .before .slot-at .result)) (search needs) (omega (arith, a .pre))
+          (c .before .before .slot-at .ensures) (sym (c .before .is-controlled .ensures) ∙ c .if1 .taken) (b .loop .inv .1),
+    )
 
 returns : tie.Need-returns Inv-loop μ-loop
-returns c = let b = c .before .before .before .before in let a = b .before in let l = events-long (a .args .events .now) in each-fail _ (eventsOf (a .args .events .now)) (a .args .waiting) (b .loop .i) (eventOf (c .before .before .slot-at .result)) (search needs) (omega (arith, a .pre)) (c .before .before .slot-at .ensures) (sym (c .before .is-controlled .ensures) ∙ c .if1 .left) (b .loop .inv .1)
+returns c =
+    let b = c .before .before .before .before in
+    let a = b .before in
+    let l = events-long (a .args .events .now) in
+    each-fail _ (eventsOf (a .args .events .now)) (a .args .waiting) (b .loop .i) (eventOf (c .before .before .slot-at .result)) (search needs) (omega (arith, a .pre))
+    (c .before .before .slot-at .ensures) (sym (c .before .is-controlled .ensures) ∙ c .if1 .left) (b .loop .inv .1)
 
 returns-2 : tie.Need-returns-2 Inv-loop μ-loop
 returns-2 c = let b = c .before in let a = b .before in each-end _ (eventsOf (a .args .events .now)) (a .args .waiting) (b .loop .i) (search needs) (b .loop .inv .1)

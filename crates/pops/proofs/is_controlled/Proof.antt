@@ -4,7 +4,7 @@ use borrow.Author.Needs.{needs}
 use borrow.Author.Tests.{eq-eqb, ne-eqb}
 use Rattle.lists.specs.Tests.{and-no}
 use Rattle.machine.specs.State.{atHead, inQueue}
-use Rattle.pops.specs.Pops.{controlled}
+use Rattle.machine.specs.Heads.{controlled}
 use Rattle.pops.proofs.is_controlled.Statement.{statement}
 use Rattle.pops.proofs.is_controlled.Tie as tie
 

@@ -1,11 +1,6 @@
 -- `pops::peek_is_control_only` meets its contract. Assumes nothing.
-use mathlib.Core.Path.{refl, sym, ap, _∙_}
-use lib.ListN.{take}
-use Rattle.machine.specs.Heads.{isAt}
-use Rattle.slots.specs.Slots.{eventsOf}
-use Rattle.scopes.specs.Scopes.{scopesOf}
-use Rattle.pops.specs.Pops.{replyOf}
-use Rattle.pops.proofs.PopLaws.{seen, seen-peek, control-nothing, control-other, control-both, control-asked}
+use mathlib.Core.Path.{_∙_}
+use Rattle.pops.proofs.PopLaws.{queue-is, seen, control-nothing, control-other, control-both, control-asked}
 use borrow.Author.Needs.{needs}
 use Rattle.pops.proofs.peek_is_control_only.Statement.{statement}
 use Rattle.pops.proofs.peek_is_control_only.Tie as tie
@@ -38,19 +33,65 @@ is-at-requires-2 : tie.Need-is-at-requires-2
 is-at-requires-2 c κs = search needs
 
 returns : tie.Need-returns
-returns c = let s = seen (scopesOf (c .before .before .before .before .before .before .before .before .before .before .before .before .before .before .before .args .scopes .now)) (c .before .before .before .before .before .before .before .before .before .before .before .before .before .count .result) (take (c .before .before .before .before .before .before .before .before .before .before .before .before .before .before .before .args .counts .waiting) (eventsOf (c .before .before .before .before .before .before .before .before .before .before .before .before .before .before .before .args .events .now))) (c .before .before .before .before .before .before .before .before .before .before .root-head .result) (c .before .before .before .before .before .before .before .before .scope-head .result) (c .before .before .before .before .before .before .before .before .before .before .before .before .heads .result) (c .before .before .before .before .before .before .before .before .before .before .before .before .before .count .result) refl (c .before .before .before .before .before .before .before .before .before .before .before .before .heads .ensures) (c .before .before .before .before .before .before .before .before .before .before .root-head .ensures) (c .before .before .before .before .before .before .before .before .scope-head .ensures) in let p = sym (ap replyOf (c .before .before .before .before .before .t .given .1)) ∙ seen-peek _ _ _ (c .before .before .before .before .before .before .before .before .before .before .root-head .result) (c .before .before .before .before .before .before .before .before .scope-head .result) s (c .before .before .before .before .before .before .before .peek-of .ensures) in rw (← (c .before .before .before .before .before .before .before .before .before .before .before .before .before .count .ensures)) (control-both _ _ _ _ p (ap (isAt _) (sym (s .local)) ∙ (sym (c .before .is-at2 .ensures) ∙ c .if2 .taken)))
+returns c =
+    let t = c .before .before .before .before .before in
+    let p = t .before .before in
+    let l = p .before in
+    let r = l .before .before in
+    let k = r .before .before in
+    let a = k .before .before .before in
+    λ s q h.
+    let w =
+    seen (a .args .image .now) s (a .args .events .now) (a .args .scopes .now) (a .args .counts) (a .pre) q h (r .root-head .result) (l .scope-head .result)
+    (k .before .count .ensures) (k .heads .ensures) (r .root-head .ensures) (l .scope-head .ensures) in
+    control-both w (p .peek-of .result) (p .peek-of .ensures) (t .t .given .1) (c .before .is-at2 .ensures) (c .if2 .taken)
 
 all-controlled-requires : tie.Need-all-controlled-requires
 all-controlled-requires c κs = search needs
 
 returns-2 : tie.Need-returns-2
-returns-2 c = let s = seen (scopesOf (c .before .before .before .before .before .before .before .before .before .before .before .before .before .before .before .before .args .scopes .now)) (c .before .before .before .before .before .before .before .before .before .before .before .before .before .before .count .result) (take (c .before .before .before .before .before .before .before .before .before .before .before .before .before .before .before .before .args .counts .waiting) (eventsOf (c .before .before .before .before .before .before .before .before .before .before .before .before .before .before .before .before .args .events .now))) (c .before .before .before .before .before .before .before .before .before .before .before .root-head .result) (c .before .before .before .before .before .before .before .before .before .scope-head .result) (c .before .before .before .before .before .before .before .before .before .before .before .before .before .heads .result) (c .before .before .before .before .before .before .before .before .before .before .before .before .before .before .count .result) refl (c .before .before .before .before .before .before .before .before .before .before .before .before .before .heads .ensures) (c .before .before .before .before .before .before .before .before .before .before .before .root-head .ensures) (c .before .before .before .before .before .before .before .before .before .scope-head .ensures) in let p = sym (ap replyOf (c .before .before .before .before .before .before .t .given .1)) ∙ seen-peek _ _ _ (c .before .before .before .before .before .before .before .before .before .before .before .root-head .result) (c .before .before .before .before .before .before .before .before .before .scope-head .result) s (c .before .before .before .before .before .before .before .before .peek-of .ensures) in rw (← (c .before .before .before .before .before .before .before .before .before .before .before .before .before .before .count .ensures)) (control-asked _ _ _ _ p (ap (isAt _) (sym (s .root)) ∙ (sym (c .before .before .before .before .is-at .ensures) ∙ c .before .before .before .if1 .taken)) (ap (isAt _) (sym (s .local)) ∙ (sym (c .before .before .is-at2 .ensures) ∙ c .before .if2 .left)) (c .all-controlled .ensures))
+returns-2 c =
+    let j = c .before .before in
+    let i = j .before .before in
+    let t = i .before .before in
+    let p = t .before .before in
+    let l = p .before in
+    let r = l .before .before in
+    let k = r .before .before in
+    let a = k .before .before .before in
+    λ s q h.
+    let w =
+    seen (a .args .image .now) s (a .args .events .now) (a .args .scopes .now) (a .args .counts) (a .pre) q h (r .root-head .result) (l .scope-head .result)
+    (k .before .count .ensures) (k .heads .ensures) (r .root-head .ensures) (l .scope-head .ensures) in
+    control-asked w (p .peek-of .result) (p .peek-of .ensures) (t .t .given .1) (i .is-at .ensures) (j .before .if1 .taken) (j .is-at2 .ensures) (c .before .if2 .left)
+    (c .all-controlled .ensures ∙ rw (queue-is s (a .args .events .now) (a .args .counts) (a .pre) q))
 
 returns-3 : tie.Need-returns-3
-returns-3 c = let s = seen (scopesOf (c .before .before .before .before .before .before .before .before .before .before .args .scopes .now)) (c .before .before .before .before .before .before .before .before .count .result) (take (c .before .before .before .before .before .before .before .before .before .before .args .counts .waiting) (eventsOf (c .before .before .before .before .before .before .before .before .before .before .args .events .now))) (c .before .before .before .before .before .root-head .result) (c .before .before .before .scope-head .result) (c .before .before .before .before .before .before .before .heads .result) (c .before .before .before .before .before .before .before .before .count .result) refl (c .before .before .before .before .before .before .before .heads .ensures) (c .before .before .before .before .before .root-head .ensures) (c .before .before .before .scope-head .ensures) in let p = sym (ap replyOf (c .enum-told .given .1)) ∙ seen-peek _ _ _ (c .before .before .before .before .before .root-head .result) (c .before .before .before .scope-head .result) s (c .before .before .peek-of .ensures) in rw (← (c .before .before .before .before .before .before .before .before .count .ensures)) (control-nothing _ _ _ p)
+returns-3 c =
+    let p = c .before .before in
+    let l = p .before in
+    let r = l .before .before in
+    let k = r .before .before in
+    let a = k .before .before .before in
+    λ s q h.
+    let w =
+    seen (a .args .image .now) s (a .args .events .now) (a .args .scopes .now) (a .args .counts) (a .pre) q h (r .root-head .result) (l .scope-head .result)
+    (k .before .count .ensures) (k .heads .ensures) (r .root-head .ensures) (l .scope-head .ensures) in
+    control-nothing w (p .peek-of .result) (p .peek-of .ensures) (c .enum-told .given .1)
 
 returns-4 : tie.Need-returns-4
-returns-4 c = let s = seen (scopesOf (c .before .before .before .before .before .before .before .before .before .before .before .before .before .args .scopes .now)) (c .before .before .before .before .before .before .before .before .before .before .before .count .result) (take (c .before .before .before .before .before .before .before .before .before .before .before .before .before .args .counts .waiting) (eventsOf (c .before .before .before .before .before .before .before .before .before .before .before .before .before .args .events .now))) (c .before .before .before .before .before .before .before .before .root-head .result) (c .before .before .before .before .before .before .scope-head .result) (c .before .before .before .before .before .before .before .before .before .before .heads .result) (c .before .before .before .before .before .before .before .before .before .before .before .count .result) refl (c .before .before .before .before .before .before .before .before .before .before .heads .ensures) (c .before .before .before .before .before .before .before .before .root-head .ensures) (c .before .before .before .before .before .before .scope-head .ensures) in let p = sym (ap replyOf (c .before .before .before .t .given .1)) ∙ seen-peek _ _ _ (c .before .before .before .before .before .before .before .before .root-head .result) (c .before .before .before .before .before .before .scope-head .result) s (c .before .before .before .before .before .peek-of .ensures) in rw (← (c .before .before .before .before .before .before .before .before .before .before .before .count .ensures)) (control-other _ _ _ _ p (ap (isAt _) (sym (s .root)) ∙ (sym (c .before .is-at .ensures) ∙ c .if1 .left)))
+returns-4 c =
+    let t = c .before .before .before in
+    let p = t .before .before in
+    let l = p .before in
+    let r = l .before .before in
+    let k = r .before .before in
+    let a = k .before .before .before in
+    λ s q h.
+    let w =
+    seen (a .args .image .now) s (a .args .events .now) (a .args .scopes .now) (a .args .counts) (a .pre) q h (r .root-head .result) (l .scope-head .result)
+    (k .before .count .ensures) (k .heads .ensures) (r .root-head .ensures) (l .scope-head .ensures) in
+    control-other w (p .peek-of .result) (p .peek-of .ensures) (t .t .given .1) (c .before .is-at .ensures) (c .if1 .left)
 
 pub peek-is-control-only-spec : {M : Type 1} → statement M
 peek-is-control-only-spec =

@@ -1,8 +1,5 @@
 -- `pops::peek_tag` meets its contract. Assumes nothing.
-use mathlib.Core.Path.{refl}
-use lib.ListN.{take}
-use Rattle.slots.specs.Slots.{eventsOf}
-use Rattle.scopes.specs.Scopes.{scopesOf}
+use Rattle.machine.specs.Machine.{perform}
 use Rattle.pops.proofs.PopLaws.{seen, seen-peek}
 use borrow.Author.Needs.{needs}
 use Rattle.pops.proofs.peek_tag.Statement.{statement}
@@ -24,7 +21,17 @@ peek-of-requires : tie.Need-peek-of-requires
 peek-of-requires c κs = search needs
 
 returns : tie.Need-returns
-returns c = let s = seen (scopesOf (c .before .before .before .before .before .before .before .before .args .scopes .now)) (c .before .before .before .before .before .before .count .result) (take (c .before .before .before .before .before .before .before .before .args .counts .waiting) (eventsOf (c .before .before .before .before .before .before .before .before .args .events .now))) (c .before .before .before .root-head .result) (c .before .scope-head .result) (c .before .before .before .before .before .heads .result) (c .before .before .before .before .before .before .count .result) refl (c .before .before .before .before .before .heads .ensures) (c .before .before .before .root-head .ensures) (c .before .scope-head .ensures) in rw (← (c .before .before .before .before .before .before .count .ensures)) (seen-peek _ _ _ (c .before .before .before .root-head .result) (c .before .scope-head .result) s (c .peek-of .ensures))
+unfolding perform
+returns c =
+    let l = c .before in
+    let r = l .before .before in
+    let k = r .before .before in
+    let a = k .before .before .before in
+    λ s q h.
+    seen-peek
+    (seen (a .args .image .now) s (a .args .events .now) (a .args .scopes .now) (a .args .counts) (a .pre) q h (r .root-head .result) (l .scope-head .result)
+    (k .before .count .ensures) (k .heads .ensures) (r .root-head .ensures) (l .scope-head .ensures))
+    (c .peek-of .ensures)
 
 pub peek-tag-spec : {M : Type 1} → statement M
 peek-tag-spec =

@@ -1,11 +1,10 @@
 -- `pops::pop_next_event` meets its contract. Assumes nothing.
-use Prim.Native.Nat.{_≤_}
-use mathlib.Core.Path.{refl, sym, ap, _∙_}
+use mathlib.Core.Path.{refl, _∙_}
 use lib.ListN.{take}
+use Rattle.tags.specs.Views.{ofGlobal}
 use Rattle.slots.specs.Slots.{eventsOf}
-use Rattle.scopes.specs.Scopes.{scopesOf, mostScopes}
-use Rattle.pops.specs.Pops.{replyOf}
-use Rattle.pops.proofs.PopLaws.{seen, seen-peek, start-room, start-takes, local-still, pops-nothing, pops-found, waits-long}
+use Rattle.scopes.specs.Scopes.{scopesOf}
+use Rattle.pops.proofs.PopLaws.{root-head, scope-head, seen, start-room, local-still, takes-then, pops-nothing, pops-found}
 use borrow.Author.Needs.{needs}
 use Rattle.pops.proofs.pop_next_event.Statement.{statement}
 use Rattle.pops.proofs.pop_next_event.Tie as tie
@@ -33,56 +32,60 @@ enum-known-t c = search needs
 
 take-head-requires : tie.Need-take-head-requires
 take-head-requires c κs =
-    let a = c .before .before .before .before .before .before .before .before .before .before .before .before .before .before in
-    let z = c .before .before .before .before .before .before .before .nothing-yet in
-    (a .pre .1 .0, ((a .pre .1 .1 .0, start-room (a .args .events .now) (a .args .keys .now) (a .args .counts) (z .result) (a .pre .1 .0) (z .ensures)), a .pre .1 .1 .1))
+    let z = c .before .before .before .before .before .before .before in
+    let a = z .before .before .before .before .before .before .before in
+    (a .pre .0, ((a .pre .1 .0, start-room (a .args .events .now) (a .args .counts) (z .nothing-yet .result) (z .nothing-yet .ensures) (a .pre .0)), a .pre .1 .1))
 
 take-scopes-requires : tie.Need-take-scopes-requires
 take-scopes-requires c κs =
-    let a = c .before .before .before .before .before .before .before .before .before .before .before .before .before .before .before .before .before .before in
-    let n = c .before .before .before .before .before .before .before .before .before .before .before .before .before .before .before .before .count .result in
-    let s =
-    seen (scopesOf (a .args .scopes .now)) n (take (a .args .counts .waiting) (eventsOf (a .args .events .now))) (c .before .before .before .before .before .before .before .before .before .before .before .before .before .before .root-head .result) (c .before .before .before .before .before .before .before .before .before .before .before .before .scope-head .result) (a .args .heads .now) n refl
-    (a .pre .1 .1 .1) (c .before .before .before .before .before .before .before .before .before .before .before .before .before .before .root-head .ensures) (c .before .before .before .before .before .before .before .before .before .before .before .before .scope-head .ensures) in
-    let z = c .before .before .before .before .before .before .before .before .before .before .before .nothing-yet in
-    let f = c .before .before .before .take-head in
-    let w = f .ensures .0 in
-    let v = rw (s .root, z .ensures) at w in
-    let few : n ≤ mostScopes = rw (c .before .before .before .before .before .before .before .before .before .before .before .before .before .before .before .before .count .ensures) (a .pre .0) in
-    (w .waits, ((w .grown .long ∙ a .pre .1 .1 .0, w .room), (f .ensures .1, local-still (scopesOf (a .args .scopes .now)) n (a .args .events .now) (a .args .counts) _ _ _ (f .last .1 .0) (f .result .gathered) (f .result .counts) v _ few (s .local))))
+    let f = c .before .before .before in
+    let l = f .before .before .before .before .before .before .before .before .before in
+    let r = l .before .before in
+    let k = r .before .before in
+    let a = k .before .before in
+    let es = take (a .args .counts .waiting) (eventsOf (a .args .events .now)) in
+    let w = f .take-head .ensures .0 in
+    let v =
+    local-still (a .args .image .now) (a .args .events .now) (a .args .scopes .now) (a .args .counts) _ (root-head es (a .pre .1 .1) (r .root-head .ensures)) w
+    (scope-head (a .args .image .now) (a .args .scopes .now) es (k .count .ensures) (a .pre .1 .1) (l .scope-head .ensures)) in
+    (w .waits, ((w .grown .long ∙ a .pre .1 .0, w .room), (f .take-head .ensures .1, v)))
 
 returns : tie.Need-returns
 returns c =
-    let a = c .before .before .before .before .before .before .before .before .before .before in
-    let n = c .before .before .before .before .before .before .before .before .count .result in
-    let s =
-    seen (scopesOf (a .args .scopes .now)) n (take (a .args .counts .waiting) (eventsOf (a .args .events .now))) (c .before .before .before .before .before .before .root-head .result) (c .before .before .before .before .scope-head .result) (a .args .heads .now) n refl
-    (a .pre .1 .1 .1) (c .before .before .before .before .before .before .root-head .ensures) (c .before .before .before .before .scope-head .ensures) in
-    let z = c .before .before .before .nothing-yet in
-    let p = sym (ap replyOf (c .enum-told .given .1)) ∙ seen-peek _ _ _ (c .before .before .before .before .before .before .root-head .result) (c .before .before .before .before .scope-head .result) s (c .before .before .peek-of .ensures) in (
-      rw (← (c .before .before .before .before .before .before .before .before .count .ensures))
-          (pops-nothing (scopesOf (a .args .scopes .now)) n (a .args .events .now) (a .args .counts) _ (a .args .keys .now) p refl refl
-          (start-takes (a .args .events .now) (a .args .keys .now) (a .args .counts) (z .result) (a .pre .1 .0) (z .ensures))),
-      a .pre .1 .1 .1,
+    let p = c .before .before in
+    let z = p .before in
+    let l = z .before in
+    let r = l .before .before in
+    let k = r .before .before in
+    let a = k .before .before in (
+      λ s q h.
+          let w =
+          seen (a .args .image .now) s (a .args .events .now) (a .args .scopes .now) (a .args .counts) (a .pre .0 .few) q h (r .root-head .result) (l .scope-head .result)
+          (k .count .ensures) (a .pre .1 .1) (r .root-head .ensures) (l .scope-head .ensures) in
+          pops-nothing (a .args .events .now) (a .args .counts) (z .nothing-yet .result) (z .nothing-yet .ensures) (a .pre .0) w (p .peek-of .result) (p .peek-of .ensures) q
+          (c .enum-told .given .1) _ refl (a .args .keys .now),
+      a .pre .1 .1,
     )
 
 returns-2 : tie.Need-returns-2
 returns-2 c =
-    let a = c .before .before .before .before .before .before .before .before .before .before .before .before .before .before .before .before .before .before .before .before .before in
-    let n = c .before .before .before .before .before .before .before .before .before .before .before .before .before .before .before .before .before .before .before .count .result in
-    let s =
-    seen (scopesOf (a .args .scopes .now)) n (take (a .args .counts .waiting) (eventsOf (a .args .events .now))) (c .before .before .before .before .before .before .before .before .before .before .before .before .before .before .before .before .before .root-head .result) (c .before .before .before .before .before .before .before .before .before .before .before .before .before .before .before .scope-head .result) (a .args .heads .now) n refl
-    (a .pre .1 .1 .1) (c .before .before .before .before .before .before .before .before .before .before .before .before .before .before .before .before .before .root-head .ensures) (c .before .before .before .before .before .before .before .before .before .before .before .before .before .before .before .scope-head .ensures) in
-    let z = c .before .before .before .before .before .before .before .before .before .before .before .before .before .before .nothing-yet in
-    let p = sym (ap replyOf (c .before .before .before .before .before .before .before .before .before .before .before .t .given .1)) ∙ seen-peek _ _ _ (c .before .before .before .before .before .before .before .before .before .before .before .before .before .before .before .before .before .root-head .result) (c .before .before .before .before .before .before .before .before .before .before .before .before .before .before .before .scope-head .result) s (c .before .before .before .before .before .before .before .before .before .before .before .before .before .peek-of .ensures) in
-    let f = c .before .before .before .before .before .before .take-head in
-    let w = f .ensures .0 in
-    let v = rw (s .root, z .ensures) at w in
-    let k = c .before .before .take-scopes in (
-      rw (← (c .before .before .before .before .before .before .before .before .before .before .before .before .before .before .before .before .before .before .before .count .ensures))
-          (pops-found (scopesOf (a .args .scopes .now)) n (a .args .events .now) (a .args .counts) _ _ (f .last .0) (f .last .1 .0) (f .result .gathered) (f .result .counts) v _ (a .args .counts .waiting)
-          (k .last .1 .0) (k .last .1 .1 .0) p (sym (waits-long (a .args .events .now) (a .args .counts) (a .pre .1 .0))) refl refl (k .ensures .0)),
-      k .ensures .1,
+    let g = c .before .before .take-scopes in
+    let f = c .before .before .before .before .before .before in
+    let t = f .before .before .before .before .before in
+    let p = t .before .before in
+    let z = p .before in
+    let l = z .before in
+    let r = l .before .before in
+    let k = r .before .before in
+    let a = k .before .before in (
+      λ s q h.
+          let w =
+          seen (a .args .image .now) s (a .args .events .now) (a .args .scopes .now) (a .args .counts) (a .pre .0 .few) q h (r .root-head .result) (l .scope-head .result)
+          (k .count .ensures) (a .pre .1 .1) (r .root-head .ensures) (l .scope-head .ensures) in
+          pops-found (a .args .events .now) (a .args .counts) (z .nothing-yet .result) (z .nothing-yet .ensures) (a .pre .0) w (p .peek-of .result) (p .peek-of .ensures) q
+          (t .t .given .1) (a .args .scopes .now) h (g .result)
+          (takes-then (f .take-head .ensures .0) (a .args .image .now) (scopesOf (a .args .scopes .now)) (ofGlobal _) (a .args .counts .waiting) (g .ensures .0)),
+      g .ensures .1,
     )
 
 pub pop-next-event-spec : {M : Type 1} → statement M

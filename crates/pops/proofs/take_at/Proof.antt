@@ -2,7 +2,7 @@
 use mathlib.Core.Path.{refl}
 use lib.ListN.{take}
 use Rattle.slots.specs.Slots.{eventsOf}
-use Rattle.pops.specs.Pops.{taken}
+use Rattle.machine.specs.Heads.{taken}
 use Rattle.tags.specs.Views.{ofQueue}
 use Rattle.queue.specs.Queue.{goesOf}
 use Rattle.pops.proofs.PopLaws.{went-few, takes-some, heads-left}
@@ -24,7 +24,7 @@ unfolding goesOf
 sub-t19 c =
     let a = c .before .before .before .before .before .before .before .before .before .before .before .before in
     let g = c .before .before .before .before .before .take-out .ensures .0 in
-    went-few _ _ (a .pre .0) (a .args .h .queue) (ofQueue (a .args .h .stamp)) _ _ (g .left) (g .went)
+    went-few (a .args .events .now) (a .args .given) (a .pre .0) (a .args .h .queue) (ofQueue (a .args .h .stamp)) _ _ (g .left) (g .went)
 
 returns : tie.Need-returns
 unfolding goesOf taken
@@ -33,11 +33,10 @@ returns c =
     let g = c .before .before .before .before .before .take-out in
     let r = g .ensures .0 in
     let k =
-    takes-some (a .args .events .now) (a .args .given .counts) (a .pre .0) (a .args .h .queue) (ofQueue (a .args .h .stamp)) (g .result .count) (g .result .ordinary)
-    (r .left) (r .went) (a .args .given .gathered) (g .result .gathered) (a .args .keys .now) (g .last .1 .1 .1 .0) (g .last .0) (g .ensures .1) (r .folds) (r .near)
-    (r .grown) (a .pre .1 .0 .1) in (
+    takes-some (a .args .events .now) (a .args .given) (a .pre .0) (a .args .h .queue) (ofQueue (a .args .h .stamp)) (g .result .count) (g .result .ordinary)
+    (r .left) (r .went) (g .result .gathered) (a .args .keys .now) (g .last .1 .1 .1 .0) (g .last .0) (g .ensures .1) (r .folds) (r .near) (r .grown) (a .pre .1 .0 .1) in (
       k,
-      heads-left _ _ _ _ _ _ _ k (a .args .h .queue) (ofQueue (a .args .h .stamp)) (take (a .args .given .counts .waiting) (eventsOf (a .args .events .now))) (g .result .lowest)
+      heads-left k (a .args .h .queue) (ofQueue (a .args .h .stamp)) (take (a .args .given .counts .waiting) (eventsOf (a .args .events .now))) (g .result .lowest)
           refl (a .pre .1 .1) (r .least) (c .before .before .before .renew .ensures),
     )
 

@@ -20,23 +20,23 @@ take-at-requires c κs = search needs
 returns : tie.Need-returns
 returns c =
     let a = c .before .before in (
-      rw (at-none _ _ (a .args .h) (c .enum-told .given .1))
-          (takes-none (a .args .events .now) (a .args .given .counts) (a .pre .0) (a .args .given .gathered) (a .args .keys .now) (a .pre .1 .0 .1)),
+      rw (at-none _ _ (a .args .h) (c .enum-told .given .1)) (takes-none (a .args .events .now) (a .args .given) (a .pre .0) (a .args .keys .now) (a .pre .1 .0 .1)),
       a .pre .1 .1,
     )
 
 returns-2 : tie.Need-returns-2
 returns-2 c =
-    let a = c .before .before .before .before .before .before .before .before .before .before in
-    let h = c .before .before .before .before .before .before .before .before .h in
-    (rw (at-there _ _ (a .args .h) _ (h .given .1) (sym (c .before .before .before .before .before .same .ensures) ∙ c .before .before .before .before .if1 .taken)) (c .take-at .ensures .0), c .take-at .ensures .1)
+    let b = c .before .before .before .before in
+    let h = b .before .before .before .before in
+    let a = h .before .before in
+    (rw (at-there _ _ (a .args .h) _ (h .h .given .1) (sym (b .before .same .ensures) ∙ b .if1 .taken)) (c .take-at .ensures .0), c .take-at .ensures .1)
 
 returns-3 : tie.Need-returns-3
 returns-3 c =
-    let a = c .before .before .before .before .before .before in
-    let h = c .before .before .before .before .h in (
-      rw (at-other _ _ (a .args .h) _ (h .given .1) (sym (c .before .same .ensures) ∙ c .if1 .left))
-          (takes-none (a .args .events .now) (a .args .given .counts) (a .pre .0) (a .args .given .gathered) (a .args .keys .now) (a .pre .1 .0 .1)),
+    let h = c .before .before .before .before in
+    let a = h .before .before in (
+      rw (at-other _ _ (a .args .h) _ (h .h .given .1) (sym (c .before .same .ensures) ∙ c .if1 .left))
+          (takes-none (a .args .events .now) (a .args .given) (a .pre .0) (a .args .keys .now) (a .pre .1 .0 .1)),
       a .pre .1 .1,
     )
 

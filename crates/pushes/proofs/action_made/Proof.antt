@@ -17,7 +17,11 @@ refused-requires : tie.Need-refused-requires
 refused-requires c κs = search needs
 
 returns : tie.Need-returns
-returns c = action-key (c .before .before .before .before .before .before .before .before .args .image .now) (scopesOf (c .before .before .before .before .before .before .before .before .args .scopes .now)) (c .before .before .before .before .before .before .before .before .args .p .action) (ofGlobal (c .before .before .before .before .before .before .before .before .args .p .tag)) (c .before .before .before .before .before .before .before .before .args .p .terminal) (c .before .before .before .before .before .before .before .before .args .keyed .set .words) (c .before .before .before .before .before .before .before .before .args .keyed .known) (flag-no (rw (c .before .before .before .before .count .ensures) at (c .before .before .both .ensures)) (c .before .if1 .taken)) (c .refused .ensures)
+returns c =
+    let c₁ = c .before .before .before .before in
+    let c₂ = c₁ .before .before .before .before in
+    action-key (c₂ .args .image .now) (scopesOf (c₂ .args .scopes .now)) (c₂ .args .p .action) (ofGlobal (c₂ .args .p .tag)) (c₂ .args .p .terminal) (c₂ .args .keyed .set .words)
+    (c₂ .args .keyed .known) (flag-no (rw (c₁ .count .ensures) at (c .before .before .both .ensures)) (c .before .if1 .taken)) (c .refused .ensures)
 
 within-requires : tie.Need-within-requires
 within-requires c κs = search needs
@@ -26,13 +30,25 @@ refused-requires-2 : tie.Need-refused-requires-2
 refused-requires-2 c κs = search needs
 
 returns-2 : tie.Need-returns-2
-returns-2 c = action-tag (c .before .before .before .before .before .before .before .before .before .before .args .image .now) (scopesOf (c .before .before .before .before .before .before .before .before .before .before .args .scopes .now)) (c .before .before .before .before .before .before .before .before .before .before .args .p .action) (ofGlobal (c .before .before .before .before .before .before .before .before .before .before .args .p .tag)) (c .before .before .before .before .before .before .before .before .before .before .args .p .terminal) (c .before .before .before .before .before .before .before .before .before .before .args .keyed .set .words) (c .before .before .before .before .before .before .before .before .before .before .args .keyed .known) (flag-yes (rw (c .before .before .before .before .before .before .count .ensures) at (c .before .before .before .before .both .ensures)) (c .before .before .before .if1 .left)) (flag-no (c .before .before .within .ensures) (c .before .if2 .taken)) (c .refused2 .ensures)
+returns-2 c =
+    let c₁ = c .before .before .before in
+    let c₂ = c₁ .before .before .before in
+    let c₃ = c₂ .before .before .before .before in
+    action-tag (c₃ .args .image .now) (scopesOf (c₃ .args .scopes .now)) (c₃ .args .p .action) (ofGlobal (c₃ .args .p .tag)) (c₃ .args .p .terminal) (c₃ .args .keyed .set .words)
+    (c₃ .args .keyed .known) (flag-yes (rw (c₂ .count .ensures) at (c₁ .before .both .ensures)) (c₁ .if1 .left)) (flag-no (c .before .before .within .ensures) (c .before .if2 .taken))
+    (c .refused2 .ensures)
 
 placed-requires : tie.Need-placed-requires
 placed-requires c κs = search needs
 
 returns-3 : tie.Need-returns-3
-returns-3 c = action-placed (c .before .before .before .before .before .before .before .before .before .before .args .image .now) (scopesOf (c .before .before .before .before .before .before .before .before .before .before .args .scopes .now)) (c .before .before .before .before .before .before .before .before .before .before .args .p .action) (ofGlobal (c .before .before .before .before .before .before .before .before .before .before .args .p .tag)) (c .before .before .before .before .before .before .before .before .before .before .args .p .terminal) (c .before .before .before .before .before .before .before .before .before .before .args .keyed .set .words) (c .before .before .before .before .before .before .before .before .before .before .args .keyed .known) (flag-yes (rw (c .before .before .before .before .before .before .count .ensures) at (c .before .before .before .before .both .ensures)) (c .before .before .before .if1 .left)) (flag-yes (c .before .before .within .ensures) (c .before .if2 .left)) (c .placed .ensures)
+returns-3 c =
+    let c₁ = c .before .before .before in
+    let c₂ = c₁ .before .before .before in
+    let c₃ = c₂ .before .before .before .before in
+    action-placed (c₃ .args .image .now) (scopesOf (c₃ .args .scopes .now)) (c₃ .args .p .action) (ofGlobal (c₃ .args .p .tag)) (c₃ .args .p .terminal) (c₃ .args .keyed .set .words)
+    (c₃ .args .keyed .known) (flag-yes (rw (c₂ .count .ensures) at (c₁ .before .both .ensures)) (c₁ .if1 .left)) (flag-yes (c .before .before .within .ensures) (c .before .if2 .left))
+    (c .placed .ensures)
 
 pub action-made-spec : {M : Type 1} → statement M
 action-made-spec =

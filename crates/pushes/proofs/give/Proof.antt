@@ -26,16 +26,31 @@ enum-known-n-2 : tie.Need-enum-known-n-2
 enum-known-n-2 c = search needs
 
 tallied-requires : tie.Need-tallied-requires
-tallied-requires c κs = omega (arith, work-small (c .before .before .before .before .before .before .before .before .before .args .events .now) (c .before .before .before .before .before .before .before .before .before .args .counts) (c .before .before .before .before .before .before .before .before .before .pre))
+tallied-requires c κs =
+    let c₁ = c .before .before .before .before .before .before .before .before .before in
+    omega (arith, work-small (c₁ .args .events .now) (c₁ .args .counts) (c₁ .pre))
 
 returns : tie.Need-returns
-returns c = give-refused (c .before .before .before .args .events .now) (c .before .before .before .args .counts) (c .before .before .before .pre) (c .before .before .before .args .made .outcome) (eventOf (c .before .before .before .args .made .slot)) (c .before .before2 .given .1)
+returns c =
+    let c₁ = c .before .before .before in
+    give-refused (c₁ .args .events .now) (c₁ .args .counts) (c₁ .pre) (c₁ .args .made .outcome) (eventOf (c₁ .args .made .slot)) (c .before .before2 .given .1)
 
 returns-2 : tie.Need-returns-2
-returns-2 c = give-full (c .before .before .before .before .before .before .before .before .before .args .events .now) (c .before .before .before .before .before .before .before .before .before .args .counts) (c .before .before .before .before .before .before .before .before .before .pre) (c .before .before .before .before .before .before .before .before .before .args .made .outcome) (eventOf (c .before .before .before .before .before .before .before .before .before .args .made .slot)) (c .before .before .before .before .before .before .before .enum-told .given .1) (c .before .before .before .accept .result) (c .before .before .before .accept .ensures .0) (c .before .before .before .accept .last .0) (c .before .before .before .accept .ensures .1) (c .before .n .given .1)
+returns-2 c =
+    let c₁ = c .before .before .before in
+    let c₂ = c₁ .before .before .before .before in
+    let c₃ = c₂ .before .before in
+    give-full (c₃ .args .events .now) (c₃ .args .counts) (c₃ .pre) (c₃ .args .made .outcome) (eventOf (c₃ .args .made .slot)) (c₂ .enum-told .given .1) (c₁ .accept .result)
+    (c₁ .accept .ensures .0) (c₁ .accept .last .0) (c₁ .accept .ensures .1) (c .before .n .given .1)
 
 returns-3 : tie.Need-returns-3
-returns-3 c = give-done (c .before .before .before .before .before .before .before .before .before .before .args .events .now) (c .before .before .before .before .before .before .before .before .before .before .args .counts) (c .before .before .before .before .before .before .before .before .before .before .pre) (c .before .before .before .before .before .before .before .before .before .before .args .made .outcome) (eventOf (c .before .before .before .before .before .before .before .before .before .before .args .made .slot)) (c .before .before .before .before .before .before .before .before .enum-told .given .1) (c .before .before .before .before .accept .result) (c .before .before .before .before .accept .ensures .0) (c .before .before .before .before .accept .last .0) (c .before .before .before .before .accept .ensures .1) (c .tallied .result) (c .before .before .n2 .given .1) (c .tallied .ensures ∙ rw (c .before .before .before .before .before .before .is-ordinary .ensures))
+returns-3 c =
+    let c₁ = c .before .before .before .before in
+    let c₂ = c₁ .before .before .before .before in
+    let c₃ = c₂ .before .before in
+    give-done (c₃ .args .events .now) (c₃ .args .counts) (c₃ .pre) (c₃ .args .made .outcome) (eventOf (c₃ .args .made .slot)) (c₂ .enum-told .given .1) (c₁ .accept .result)
+    (c₁ .accept .ensures .0) (c₁ .accept .last .0) (c₁ .accept .ensures .1) (c .tallied .result) (c .before .before .n2 .given .1)
+    (c .tallied .ensures ∙ rw (c₁ .before .before .is-ordinary .ensures))
 
 pub give-spec : {M : Type 1} → statement M
 give-spec =

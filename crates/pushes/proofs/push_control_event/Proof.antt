@@ -1,4 +1,7 @@
 -- `pushes::push_control_event` meets its contract. Assumes nothing.
+use Rattle.lists.specs.Lists.{every, foldl}
+use Rattle.machine.specs.Table.{setOf}
+use Rattle.machine.specs.Machine.{keysOk, pushRoot, perform}
 use borrow.Author.Needs.{needs}
 use Rattle.pushes.proofs.push_control_event.Statement.{statement}
 use Rattle.pushes.proofs.push_control_event.Tie as tie
@@ -13,7 +16,7 @@ give-requires : tie.Need-give-requires
 give-requires c κs = search needs
 
 returns : tie.Need-returns
-returns c = rw (c .before .before .root-made .ensures, c .before .before .before .empty .ensures) at (c .give .ensures)
+returns c = λ img s q. unfold perform pushRoot keysOk every setOf foldl in (rw (c .before .before .root-made .ensures, c .before .before .before .empty .ensures) at (c .give .ensures s q))
 
 pub push-control-event-spec : {M : Type 1} → statement M
 push-control-event-spec =

@@ -26,7 +26,10 @@ is-modal-requires : tie.Need-is-modal-requires
 is-modal-requires c κs = search needs
 
 returns-3 : tie.Need-returns-3
-returns-3 c = ap not (c .is-modal .ensures) ∙ root-plain _ _ (flag-yes (c .before .before .before .before .before .is-logical .ensures) (c .before .before .before .before .if1 .left)) (λ e. c .before .if2 .left (c .before .before .parent .ensures ∙ (rw (c .before .before .before .action-scope .ensures) e)))
+returns-3 c =
+    let c₁ = c .before .before .before in
+    ap not (c .is-modal .ensures) ∙ root-plain _ _ (flag-yes (c₁ .before .before .is-logical .ensures) (c₁ .before .if1 .left))
+    (λ e. c .before .if2 .left (c .before .before .parent .ensures ∙ (rw (c₁ .action-scope .ensures) e)))
 
 pub to-root-spec : {M : Type 1} → statement M
 to-root-spec =

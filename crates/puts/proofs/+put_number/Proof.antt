@@ -46,7 +46,9 @@ put-number-same-length : (t : ℕ) → put-number-lts.Need-same-length (claims t
 put-number-same-length t c = written-long (written-then (c .before .before .before .before .before .before .put-number .ensures) (c .before .before .put .ensures))
 
 put-number-returns-2 : (t : ℕ) → put-number-lts.Need-returns-2 (claims t) (put-number-at t) put-number.Post
-put-number-returns-2 t c = written-as (written-then (c .before .before .before .before .before .before .put-number .ensures) (c .before .before .put .ensures)) (number-more _ _ (c .before .before .before .before .before .before .before .before .if1 .left))
+put-number-returns-2 t c =
+    let c₁ = c .before .before .before .before .before .before in
+    written-as (written-then (c₁ .put-number .ensures) (c .before .before .put .ensures)) (number-more _ _ (c₁ .before .before .if1 .left))
 
 pub +put-number-spec : {M : Type 1} → statement M
 +put-number-spec = close μ-put-number λ t. put-number-lts.spec (claims t)

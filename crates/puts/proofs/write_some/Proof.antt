@@ -30,7 +30,9 @@ loop-less : tie.Need-loop-less Inv-loop μ-loop
 loop-less c = search needs
 
 loop-again : tie.Need-loop-again Inv-loop μ-loop
-loop-again c = (search needs, written-next _ _ _ (c .before .before .before .before .before .loop-test .taken) refl (c .before .before .before .before .before .before .loop .inv .1) (c .before .before .put .ensures))
+loop-again c =
+    let c₁ = c .before .before .before .before .before in
+    (search needs, written-next _ _ _ (c₁ .loop-test .taken) refl (c₁ .before .loop .inv .1) (c .before .before .put .ensures))
 
 same-length : tie.Need-same-length Inv-loop μ-loop
 same-length c = written-long (c .before .loop .inv .1)

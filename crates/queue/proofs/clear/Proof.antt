@@ -28,7 +28,14 @@ loop-less : tie.Need-loop-less Inv-loop μ-loop
 loop-less c = search needs
 
 loop-again : tie.Need-loop-again Inv-loop μ-loop
-loop-again c = let b = c .before .before .before in let a = b .before .before .args in (search needs, search needs, clear-one (a .rows .now) (a .w) (b .loop .i) (b .loop .rows) (c .put-slot .last .0) (eventOf (b .before .blank .result)) (search needs) (b .before .blank .ensures) (b .loop .inv .2) (c .put-slot .ensures))
+loop-again c =
+    let b = c .before .before .before in
+    let a = b .before .before .args in (
+      search needs,
+      search needs,
+      clear-one (a .rows .now) (a .w) (b .loop .i) (b .loop .rows) (c .put-slot .last .0) (eventOf (b .before .blank .result)) (search needs) (b .before .blank .ensures) (b .loop .inv .2)
+          (c .put-slot .ensures),
+    )
 
 returns : tie.Need-returns Inv-loop μ-loop
 returns c = let l = c .before .loop in let a = c .before .before .before .args in clear-all (a .rows .now) (a .w) (a .n) (l .i) (l .rows) (search needs) (search needs) (l .inv .2)

@@ -45,12 +45,15 @@ loop-less c = search needs
 
 loop-again : tie.Need-loop-again Inv-loop μ-loop
 loop-again c =
-    let b = c .before .before .before .before .before .before .before .before .before in
+    let c₁ = c .before .before .before .before in
+    let c₂ = c₁ .before in
+    let c₃ = c₂ .before .before .before in
+    let b = c₃ .before in
     let s = c .before .before .slot-at in (
       search needs,
       taken-goes (goesOf (b .before .args .which)) (b .before .args .rows .now) (b .before .args .n) (b .loop .i) (b .loop .w) (b .loop .ordinary) (b .loop .rows)
-          (search needs) (search needs) (b .loop .inv .1) (eventOf (s .result)) (s .ensures) (c .before .before .before .before .before .goes .result)
-          (c .before .before .before .before .before .goes .ensures (eventOf (s .result)) (rw (s .ensures) (c .before .before .before .before .before .before .due-at .ensures))) (c .one-if .result) (c .before .before .before .before .if1 .taken)
+          (search needs) (search needs) (b .loop .inv .1) (eventOf (s .result)) (s .ensures) (c₂ .goes .result)
+          (c₂ .goes .ensures (eventOf (s .result)) (rw (s .ensures) (c₂ .before .due-at .ensures))) (c .one-if .result) (c₁ .if1 .taken)
           (c .one-if .ensures .0 ∙ ap oneIf (c .before .is-ordinary .ensures)) (c .one-if .ensures .1),
     )
 

@@ -27,13 +27,27 @@ put-least-requires-2 : tie.Need-put-least-requires-2
 put-least-requires-2 c κs = search needs
 
 returns : tie.Need-returns
-returns c = let a = c .before .before .before .before .before .before .before .before .args in note-first _ (a .d .queue) (a .d .tag) (c .before .before .before .before .before .before .before .entry-of .ensures) _ (c .before .before .before .before .least-at .ensures) (c .before .before .enum-told .given .1) (c .put-least .ensures)
+returns c =
+    let c₁ = c .before .before .before .before in
+    let c₂ = c₁ .before .before .before in
+    let a = c₂ .before .args in note-first _ (a .d .queue) (a .d .tag) (c₂ .entry-of .ensures) _ (c₁ .least-at .ensures) (c .before .before .enum-told .given .1) (c .put-least .ensures)
 
 returns-2 : tie.Need-returns-2
-returns-2 c = let a = c .before .before .before .before .before .before .before .before .before .args in note-kept _ (a .d .queue) (a .d .tag) (c .before .before .before .before .before .before .before .before .entry-of .ensures) _ (c .before .before .before .before .before .least-at .ensures) (c .before .before .before .before .before .before .before .before .before .pre) (c .before .before .before .u .given .1) (flag (c .before .earlier .ensures) (c .if1 .taken))
+returns-2 c =
+    let c₁ = c .before .before .before in
+    let c₂ = c₁ .before .before .before .before .before in
+    let c₃ = c₂ .before in
+    let a = c₃ .args in
+    note-kept _ (a .d .queue) (a .d .tag) (c₂ .entry-of .ensures) _ (c₁ .before .before .least-at .ensures) (c₃ .pre) (c₁ .u .given .1) (flag (c .before .earlier .ensures) (c .if1 .taken))
 
 returns-3 : tie.Need-returns-3
-returns-3 c = let a = c .before .before .before .before .before .before .before .before .before .before .before .args in note-lesser _ (a .d .queue) (a .d .tag) (c .before .before .before .before .before .before .before .before .before .before .entry-of .ensures) _ (c .before .before .before .before .before .before .before .least-at .ensures) (c .before .before .before .before .before .u .given .1) (flag (c .before .before .before .earlier .ensures) (c .before .before .if1 .left)) (c .put-least2 .ensures)
+returns-3 c =
+    let c₁ = c .before .before .before in
+    let c₂ = c₁ .before .before .before .before in
+    let c₃ = c₂ .before .before .before in
+    let a = c₃ .before .args in
+    note-lesser _ (a .d .queue) (a .d .tag) (c₃ .entry-of .ensures) _ (c₂ .least-at .ensures) (c₁ .before .before .u .given .1) (flag (c₁ .earlier .ensures) (c .before .before .if1 .left))
+    (c .put-least2 .ensures)
 
 pub note-spec : {M : Type 1} → statement M
 note-spec =

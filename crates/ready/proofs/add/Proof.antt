@@ -6,7 +6,7 @@ use lib.ListN.{length}
 use native.Mathlib.Omega.{arith}
 use Rattle.slots.specs.Slots.{eventOf}
 use Rattle.ready.specs.Gathering.{gatheringOf}
-use Rattle.ready.proofs.GatherLaws.{added, added-near, added-grown}
+use Rattle.ready.proofs.GatherLaws.{added}
 use native.Mathlib.Omega.{arith}
 use borrow.Author.Needs.{needs}
 use Rattle.ready.proofs.add.Statement.{statement}
@@ -31,7 +31,15 @@ either-requires-3 : tie.Need-either-requires-3
 either-requires-3 c κs = search needs
 
 returns : tie.Need-returns
-returns c = let b = c .before .before .before .before .before .before .before .before .before in let a = b .args in let k = c .before .before .before .before .before .before .before .add-key in let f = k .ensures in let l : a .g .actions < length (a .keys .now) = omega (arith, b .pre .0) in (added (a .keys .now) (k .last .0) (gatheringOf (a .g) (a .keys .now)) (a .g .actions) (k .result) (eventOf (a .s)) l (f .0) (f .1) refl (c .before .before .either .ensures) (c .before .either2 .ensures ∙ ap (λ x. a .g .work || x) (c .before .before .before .is-ordinary .ensures)) (c .either3 .ensures) (c .before .before .before .before .union .ensures), (added-near (a .keys .now) (k .last .0) (gatheringOf (a .g) (a .keys .now)) (a .g .actions) (k .result) (eventOf (a .s)) l (f .0) (f .1), added-grown (a .keys .now) (k .last .0) (gatheringOf (a .g) (a .keys .now)) (a .g .actions) (k .result) (eventOf (a .s)) l (f .0) (f .1)))
+returns c =
+    let c₁ = c .before .before .before in
+    let c₂ = c₁ .before .before .before .before in
+    let b = c₂ .before .before in
+    let a = b .args in
+    let k = c₂ .add-key in
+    let l : a .g .actions < length (a .keys .now) = omega (arith, b .pre .0) in
+    added (a .keys .now) (k .last .0) (gatheringOf (a .g) (a .keys .now)) (a .g .actions) (k .result) (eventOf (a .s)) l (k .ensures .0) (k .ensures .1) refl
+    (c .before .before .either .ensures) (c .before .either2 .ensures ∙ ap (λ x. a .g .work || x) (c₁ .is-ordinary .ensures)) (c .either3 .ensures) (c₁ .before .union .ensures)
 
 pub add-spec : {M : Type 1} → statement M
 add-spec =

@@ -50,7 +50,10 @@ loop-less : tie.Need-loop-less Inv-loop μ-loop
 loop-less c = search needs
 
 loop-again : tie.Need-loop-again Inv-loop μ-loop
-loop-again c = (search needs, keys-more _ _ _ (omega (arith, fill-few _ _ (c .before .before .before .two-bytes .ensures) (c .before .before .before .before .before .pre .1), c .before .before .before .before .before .pre .0)) (c .before .before .loop .inv .1) (c .two-bytes2 .ensures))
+loop-again c =
+    let c₁ = c .before .before .before in
+    let c₂ = c₁ .before .before in
+    (search needs, keys-more _ _ _ (omega (arith, fill-few _ _ (c₁ .two-bytes .ensures) (c₂ .pre .1), c₂ .pre .0)) (c .before .before .loop .inv .1) (c .two-bytes2 .ensures))
 
 returns : tie.Need-returns Inv-loop μ-loop
 returns c =

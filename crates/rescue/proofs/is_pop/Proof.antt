@@ -64,7 +64,10 @@ shared-slice-read-result : tie.Need-shared-slice-read-result
 shared-slice-read-result c = search needs
 
 returns-7 : tie.Need-returns-7
-returns-7 c = λ t. pop-size _ _ (search needs) (eqb-true _ _ t) (c .before .if6 .left) (c .before .before .before .if5 .left) (c .before .before .before .before .before .if4 .left) (c .before .before .before .before .before .before .before .if3 .left) (c .before .before .before .before .before .before .before .before .before .if2 .left)
+returns-7 c =
+    let c₁ = c .before .before .before in
+    let c₂ = c₁ .before .before .before .before in
+    λ t. pop-size _ _ (search needs) (eqb-true _ _ t) (c .before .if6 .left) (c₁ .if5 .left) (c₁ .before .before .if4 .left) (c₂ .if3 .left) (c₂ .before .before .if2 .left)
 
 pub is-pop-spec : {M : Type 1} → statement M
 is-pop-spec =

@@ -21,7 +21,9 @@ same-length : tie.Need-same-length
 same-length c = search needs
 
 returns-2 : tie.Need-returns-2
-returns-2 c = written-as (written-then (c .before .before .before .before .before .before .put-number .ensures) (c .before .before .put-number2 .ensures)) (run-some _ _ (c .before .before .before .before .before .before .before .before .if1 .left))
+returns-2 c =
+    let c₁ = c .before .before .before .before .before .before in
+    written-as (written-then (c₁ .put-number .ensures) (c .before .before .put-number2 .ensures)) (run-some _ _ (c₁ .before .before .if1 .left))
 
 pub put-run-spec : {M : Type 1} → statement M
 put-run-spec =

@@ -2,7 +2,7 @@
 use mathlib.Core.Path.{refl, sym}
 use lib.Seq.{length-take-le}
 use Rattle.lists.specs.Tests.{flag-no, flag-yes}
-use Rattle.rescue.proofs.WholeLaws.{saved-refused, saved-no-room, has-room, end-inside, end-output, written-few, saved-all}
+use Rattle.rescue.proofs.WholeLaws.{begun, saved-refused, saved-no-room, end-inside, end-output, written-few, saved-all}
 use borrow.Author.Needs.{needs}
 use Rattle.rescue.proofs.rescue.Statement.{statement}
 use Rattle.rescue.proofs.rescue.Tie as tie
@@ -20,31 +20,65 @@ roomy-requires : tie.Need-roomy-requires
 roomy-requires c κs = search needs
 
 returns : tie.Need-returns
-returns c = saved-no-room (c .before .before .before .before .before .before .before .before .args .day .now) (c .before .before .before .before .before .before .before .before .args .out .now) (c .before .before .before .before .before .before .before .before .args .list .now) (c .before .before .before .before .«open» .ensures) (c .before .before .enum-told .given .1) (c .before .roomy .ensures) (flag-no refl (c .if1 .taken))
+returns c =
+    let c₁ = c .before .before .before .before in
+    let a = c₁ .before .before .before .before .args in
+    saved-no-room (a .day .now) (a .out .now) (a .list .now) (c₁ .«open» .ensures) (c .before .before .enum-told .given .1) (c .before .roomy .ensures) (flag-no refl (c .if1 .taken))
 
 image-end-requires : tie.Need-image-end-requires
 image-end-requires c κs = search needs
 
 slice-aggregate-write-text : tie.Need-slice-aggregate-write-text
-slice-aggregate-write-text c = sym (length-take-le _ _ (end-inside (c .before .before .before .before .before .before .before .before .before .before .before .args .day .now) (c .before .before .before .before .before .before .before .before .before .before .before .args .out .now) (c .before .before .before .before .before .before .before .before .before .before .before .args .list .now) (c .before .before .before .before .before .before .before .«open» .ensures) (c .before .before .before .before .before .enum-told .given .1) (has-room (c .before .before .before .before .before .before .before .before .before .before .before .args .day .now) (c .before .before .before .before .before .before .before .before .before .before .before .args .out .now) (c .before .before .before .before .before .before .before .before .before .before .before .args .list .now) (c .before .before .before .before .before .before .before .«open» .ensures) (c .before .before .before .before .before .enum-told .given .1) (c .before .before .before .before .roomy .ensures) (flag-yes refl (c .before .before .before .if1 .left))) (c .before .before .image-end .ensures)))
+slice-aggregate-write-text c =
+    let c₁ = c .before .before .before in
+    let c₂ = c₁ .before .before .before .before in
+    let a = c₂ .before .before .before .before .args in
+    let s = begun (a .day .now) (a .out .now) (a .list .now) (c₂ .«open» .ensures) (c₁ .before .before .enum-told .given .1) (c₁ .before .roomy .ensures) (flag-yes refl (c₁ .if1 .left)) in
+    sym (length-take-le _ _ (end-inside s (c .before .before .image-end .ensures)))
 
 write-text-requires : tie.Need-write-text-requires
 write-text-requires c κs = search needs
 
 sub-rescue-piece : tie.Need-sub-rescue-piece
-sub-rescue-piece c = end-inside (c .before .before .before .before .before .before .before .before .before .before .before .before .before .before .args .day .now) (c .before .before .before .before .before .before .before .before .before .before .before .before .before .before .args .out .now) (c .before .before .before .before .before .before .before .before .before .before .before .before .before .before .args .list .now) (c .before .before .before .before .before .before .before .before .before .before .«open» .ensures) (c .before .before .before .before .before .before .before .before .enum-told .given .1) (has-room (c .before .before .before .before .before .before .before .before .before .before .before .before .before .before .args .day .now) (c .before .before .before .before .before .before .before .before .before .before .before .before .before .before .args .out .now) (c .before .before .before .before .before .before .before .before .before .before .before .before .before .before .args .list .now) (c .before .before .before .before .before .before .before .before .before .before .«open» .ensures) (c .before .before .before .before .before .before .before .before .enum-told .given .1) (c .before .before .before .before .before .before .before .roomy .ensures) (flag-yes refl (c .before .before .before .before .before .before .if1 .left))) (c .before .before .before .before .before .image-end .ensures)
+sub-rescue-piece c =
+    let e = c .before .before .before .before .before in
+    let c₁ = e .before in
+    let c₂ = c₁ .before .before .before .before in
+    let a = c₂ .before .before .before .before .args in
+    let s = begun (a .day .now) (a .out .now) (a .list .now) (c₂ .«open» .ensures) (c₁ .before .before .enum-told .given .1) (c₁ .before .roomy .ensures) (flag-yes refl (c₁ .if1 .left)) in
+    end-inside s (e .image-end .ensures)
 
 part-rescue-piece-start : tie.Need-part-rescue-piece-start
-part-rescue-piece-start c = end-inside (c .before .before .before .before .before .before .before .before .before .before .before .before .before .before .args .day .now) (c .before .before .before .before .before .before .before .before .before .before .before .before .before .before .args .out .now) (c .before .before .before .before .before .before .before .before .before .before .before .before .before .before .args .list .now) (c .before .before .before .before .before .before .before .before .before .before .«open» .ensures) (c .before .before .before .before .before .before .before .before .enum-told .given .1) (has-room (c .before .before .before .before .before .before .before .before .before .before .before .before .before .before .args .day .now) (c .before .before .before .before .before .before .before .before .before .before .before .before .before .before .args .out .now) (c .before .before .before .before .before .before .before .before .before .before .before .before .before .before .args .list .now) (c .before .before .before .before .before .before .before .before .before .before .«open» .ensures) (c .before .before .before .before .before .before .before .before .enum-told .given .1) (c .before .before .before .before .before .before .before .roomy .ensures) (flag-yes refl (c .before .before .before .before .before .before .if1 .left))) (c .before .before .before .before .before .image-end .ensures)
+part-rescue-piece-start c =
+    let e = c .before .before .before .before .before in
+    let c₁ = e .before in
+    let c₂ = c₁ .before .before .before .before in
+    let a = c₂ .before .before .before .before .args in
+    let s = begun (a .day .now) (a .out .now) (a .list .now) (c₂ .«open» .ensures) (c₁ .before .before .enum-told .given .1) (c₁ .before .roomy .ensures) (flag-yes refl (c₁ .if1 .left)) in
+    end-inside s (e .image-end .ensures)
 
 part-rescue-piece-end : tie.Need-part-rescue-piece-end
 part-rescue-piece-end c = search needs
 
 sub-rescue-piece-2 : tie.Need-sub-rescue-piece-2
-sub-rescue-piece-2 c = end-output (c .before .before .before .before .before .before .before .before .before .before .before .before .before .before .before .args .day .now) (c .before .before .before .before .before .before .before .before .before .before .before .before .before .before .before .args .out .now) (c .before .before .before .before .before .before .before .before .before .before .before .before .before .before .before .args .list .now) (c .before .before .before .before .before .before .before .before .before .before .before .«open» .ensures) (c .before .before .before .before .before .before .before .before .before .enum-told .given .1) (has-room (c .before .before .before .before .before .before .before .before .before .before .before .before .before .before .before .args .day .now) (c .before .before .before .before .before .before .before .before .before .before .before .before .before .before .before .args .out .now) (c .before .before .before .before .before .before .before .before .before .before .before .before .before .before .before .args .list .now) (c .before .before .before .before .before .before .before .before .before .before .before .«open» .ensures) (c .before .before .before .before .before .before .before .before .before .enum-told .given .1) (c .before .before .before .before .before .before .before .before .roomy .ensures) (flag-yes refl (c .before .before .before .before .before .before .before .if1 .left))) (c .before .before .before .before .before .before .image-end .ensures) (c .before .before .before .write-text .ensures)
+sub-rescue-piece-2 c =
+    let w = c .before .before .before in
+    let e = w .before .before .before in
+    let c₁ = e .before in
+    let c₂ = c₁ .before .before .before .before in
+    let a = c₂ .before .before .before .before .args in
+    let s = begun (a .day .now) (a .out .now) (a .list .now) (c₂ .«open» .ensures) (c₁ .before .before .enum-told .given .1) (c₁ .before .roomy .ensures) (flag-yes refl (c₁ .if1 .left)) in
+    end-output s (e .image-end .ensures) (w .write-text .ensures)
 
 part-rescue-piece-start-2 : tie.Need-part-rescue-piece-start-2
-part-rescue-piece-start-2 c = end-output (c .before .before .before .before .before .before .before .before .before .before .before .before .before .before .before .args .day .now) (c .before .before .before .before .before .before .before .before .before .before .before .before .before .before .before .args .out .now) (c .before .before .before .before .before .before .before .before .before .before .before .before .before .before .before .args .list .now) (c .before .before .before .before .before .before .before .before .before .before .before .«open» .ensures) (c .before .before .before .before .before .before .before .before .before .enum-told .given .1) (has-room (c .before .before .before .before .before .before .before .before .before .before .before .before .before .before .before .args .day .now) (c .before .before .before .before .before .before .before .before .before .before .before .before .before .before .before .args .out .now) (c .before .before .before .before .before .before .before .before .before .before .before .before .before .before .before .args .list .now) (c .before .before .before .before .before .before .before .before .before .before .before .«open» .ensures) (c .before .before .before .before .before .before .before .before .before .enum-told .given .1) (c .before .before .before .before .before .before .before .before .roomy .ensures) (flag-yes refl (c .before .before .before .before .before .before .before .if1 .left))) (c .before .before .before .before .before .before .image-end .ensures) (c .before .before .before .write-text .ensures)
+part-rescue-piece-start-2 c =
+    let w = c .before .before .before in
+    let e = w .before .before .before in
+    let c₁ = e .before in
+    let c₂ = c₁ .before .before .before .before in
+    let a = c₂ .before .before .before .before .args in
+    let s = begun (a .day .now) (a .out .now) (a .list .now) (c₂ .«open» .ensures) (c₁ .before .before .enum-told .given .1) (c₁ .before .roomy .ensures) (flag-yes refl (c₁ .if1 .left)) in
+    end-output s (e .image-end .ensures) (w .write-text .ensures)
 
 part-rescue-piece-end-2 : tie.Need-part-rescue-piece-end-2
 part-rescue-piece-end-2 c = search needs
@@ -53,10 +87,22 @@ rescue-piece-requires : tie.Need-rescue-piece-requires
 rescue-piece-requires c κs = search needs
 
 add-t14 : tie.Need-add-t14
-add-t14 c = let l = written-few (c .before .before .before .before .before .before .before .before .before .before .before .before .before .before .before .before .before .before .before .before .before .before .before .args .day .now) (c .before .before .before .before .before .before .before .before .before .before .before .before .before .before .before .before .before .before .before .before .before .before .before .args .out .now) (c .before .before .before .before .before .before .before .before .before .before .before .before .before .before .before .before .before .before .before .before .before .before .before .args .list .now) (c .before .before .before .before .before .before .before .before .before .before .before .before .before .before .before .before .before .before .before .«open» .ensures) (c .before .before .before .before .before .before .before .before .before .before .before .before .before .before .before .before .before .enum-told .given .1) (has-room (c .before .before .before .before .before .before .before .before .before .before .before .before .before .before .before .before .before .before .before .before .before .before .before .args .day .now) (c .before .before .before .before .before .before .before .before .before .before .before .before .before .before .before .before .before .before .before .before .before .before .before .args .out .now) (c .before .before .before .before .before .before .before .before .before .before .before .before .before .before .before .before .before .before .before .before .before .before .before .args .list .now) (c .before .before .before .before .before .before .before .before .before .before .before .before .before .before .before .before .before .before .before .«open» .ensures) (c .before .before .before .before .before .before .before .before .before .before .before .before .before .before .before .before .before .enum-told .given .1) (c .before .before .before .before .before .before .before .before .before .before .before .before .before .before .before .before .roomy .ensures) (flag-yes refl (c .before .before .before .before .before .before .before .before .before .before .before .before .before .before .before .if1 .left))) (c .before .before .before .before .before .before .before .before .before .before .before .before .before .before .image-end .ensures) (c .before .before .before .before .before .before .before .before .before .before .before .write-text .ensures) (c .before .before .before .before .before .rescue-piece .ensures) in search needs
+add-t14 c =
+    let p = c .before .before .before .before .before in
+    let w = p .before .before .before .before .before .before in
+    let e = w .before .before .before in
+    let c₁ = e .before in
+    let c₂ = c₁ .before .before .before .before in
+    let a = c₂ .before .before .before .before .args in
+    let s = begun (a .day .now) (a .out .now) (a .list .now) (c₂ .«open» .ensures) (c₁ .before .before .enum-told .given .1) (c₁ .before .roomy .ensures) (flag-yes refl (c₁ .if1 .left)) in
+    let l = written-few s (e .image-end .ensures) (w .write-text .ensures) (p .rescue-piece .ensures) in
+    search needs
 
 returns-2 : tie.Need-returns-2
-returns-2 c = saved-refused (c .before .before .before .before .before .before .before .args .day .now) (c .before .before .before .before .before .before .before .args .out .now) (c .before .before .before .before .before .before .before .args .list .now) (c .before .before .before .«open» .ensures) (c .before .why .given .1)
+returns-2 c =
+    let c₁ = c .before .before .before in
+    let c₂ = c₁ .before .before .before .before in
+    saved-refused (c₂ .args .day .now) (c₂ .args .out .now) (c₂ .args .list .now) (c₁ .«open» .ensures) (c .before .why .given .1)
 
 same-length : tie.Need-same-length
 same-length c = search needs
@@ -65,7 +111,15 @@ same-length-2 : tie.Need-same-length-2
 same-length-2 c = search needs
 
 returns-3 : tie.Need-returns-3
-returns-3 c = saved-all (c .before .before .before .before .before .before .before .before .before .before .before .before .before .before .before .before .before .before .before .before .before .before .before .args .day .now) (c .before .before .before .before .before .before .before .before .before .before .before .before .before .before .before .before .before .before .before .before .before .before .before .args .out .now) (c .before .before .before .before .before .before .before .before .before .before .before .before .before .before .before .before .before .before .before .before .before .before .before .args .list .now) (c .before .before .before .before .before .before .before .before .before .before .before .before .before .before .before .before .before .before .before .«open» .ensures) (c .before .before .before .before .before .before .before .before .before .before .before .before .before .before .before .before .before .enum-told .given .1) (has-room (c .before .before .before .before .before .before .before .before .before .before .before .before .before .before .before .before .before .before .before .before .before .before .before .args .day .now) (c .before .before .before .before .before .before .before .before .before .before .before .before .before .before .before .before .before .before .before .before .before .before .before .args .out .now) (c .before .before .before .before .before .before .before .before .before .before .before .before .before .before .before .before .before .before .before .before .before .before .before .args .list .now) (c .before .before .before .before .before .before .before .before .before .before .before .before .before .before .before .before .before .before .before .«open» .ensures) (c .before .before .before .before .before .before .before .before .before .before .before .before .before .before .before .before .before .enum-told .given .1) (c .before .before .before .before .before .before .before .before .before .before .before .before .before .before .before .before .roomy .ensures) (flag-yes refl (c .before .before .before .before .before .before .before .before .before .before .before .before .before .before .before .if1 .left))) (c .before .before .before .before .before .before .before .before .before .before .before .before .before .before .image-end .ensures) (c .before .before .before .before .before .before .before .before .before .before .before .write-text .ensures) (c .before .before .before .before .before .rescue-piece .ensures)
+returns-3 c =
+    let p = c .before .before .before .before .before in
+    let w = p .before .before .before .before .before .before in
+    let e = w .before .before .before in
+    let c₁ = e .before in
+    let c₂ = c₁ .before .before .before .before in
+    let a = c₂ .before .before .before .before .args in
+    let s = begun (a .day .now) (a .out .now) (a .list .now) (c₂ .«open» .ensures) (c₁ .before .before .enum-told .given .1) (c₁ .before .roomy .ensures) (flag-yes refl (c₁ .if1 .left)) in
+    saved-all s (e .image-end .ensures) (w .write-text .ensures) (p .rescue-piece .ensures)
 
 pub rescue-spec : {M : Type 1} → statement M
 rescue-spec =

@@ -28,7 +28,9 @@ sub-result-2 : tie.Need-sub-result-2
 sub-result-2 c = search needs
 
 returns-5 : tie.Need-returns-5
-returns-5 c = room-by-place _ _ _ _ (search needs) (c .before .before .before .before .before .before .before .if1 .left) (c .before .before .before .before .before .before .if2 .left) (c .before .before .before .before .before .if3 .left) (c .before .before .if4 .left)
+returns-5 c =
+    let c₁ = c .before .before .before .before .before in
+    room-by-place _ _ _ _ (search needs) (c₁ .before .before .if1 .left) (c₁ .before .if2 .left) (c₁ .if3 .left) (c .before .before .if4 .left)
 
 pub roomy-spec : {M : Type 1} → statement M
 roomy-spec =

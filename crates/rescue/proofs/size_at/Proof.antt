@@ -54,7 +54,10 @@ add-result : tie.Need-add-result
 add-result c = search needs
 
 returns-3 : tie.Need-returns-3
-returns-3 c = body-yes _ _ (at-length _ _ (c .before .before .before .before .before .n .given .1) (c .before .before .before .before .before .before .before .length-of .ensures)) (c .before .before .before .if2 .left) (c .before .is-formed .ensures) (c .if3 .taken)
+returns-3 c =
+    let c₁ = c .before .before .before in
+    let c₂ = c₁ .before .before .before .before in
+    body-yes _ _ (at-length _ _ (c₁ .before .before .n .given .1) (c₂ .length-of .ensures)) (c₁ .if2 .left) (c .before .is-formed .ensures) (c .if3 .taken)
 
 enum-told : tie.Need-enum-told
 enum-told c = search needs
@@ -63,7 +66,10 @@ enum-told-2 : tie.Need-enum-told-2
 enum-told-2 c = search needs
 
 returns-4 : tie.Need-returns-4
-returns-4 c = body-no _ _ (at-length _ _ (c .before .before .before .before .before .n .given .1) (c .before .before .before .before .before .before .before .length-of .ensures)) (c .before .before .before .if2 .left) (c .before .is-formed .ensures) (c .if3 .left)
+returns-4 c =
+    let c₁ = c .before .before .before in
+    let c₂ = c₁ .before .before .before .before in
+    body-no _ _ (at-length _ _ (c₁ .before .before .n .given .1) (c₂ .length-of .ensures)) (c₁ .if2 .left) (c .before .is-formed .ensures) (c .if3 .left)
 
 returns-5 : tie.Need-returns-5
 returns-5 c = size-broken _ _ (at-length _ _ (c .enum-told .given .1) (c .before .before .length-of .ensures))

@@ -29,19 +29,34 @@ hop-requires : tie.Need-hop-requires Inv-loop μ-loop
 hop-requires c κs = c .before .before .roomy-end .ensures .room (omega (arith, c .loop-test .taken))
 
 size-at-requires : tie.Need-size-at-requires Inv-loop μ-loop
-size-at-requires c κs = let r = c .before .before .before .before .roomy-end .ensures in let p = c .before .before .before .before .before .before .pre in let t = c .if1 .taken in omega (arith, r .inside, p .1, t)
+size-at-requires c κs =
+    let c₁ = c .before .before .before .before in
+    let r = c₁ .roomy-end .ensures in let p = c₁ .before .before .pre in let t = c .if1 .taken in omega (arith, r .inside, p .1, t)
 
 returns : tie.Need-returns Inv-loop μ-loop
-returns c = let r = c .before .before .before .before .before .before .roomy-end .ensures in let t = c .before .before .if1 .taken in record { passed = passed-then (c .before .before .before .before .before .loop .inv) (c .before .before .before .hop .ensures); inside = omega (arith, r .inside, t); stands = λ g. size-some _ _ (c .before .size-at .ensures) (λ e. omega (arith, e, c .if2 .taken)) }
+returns c =
+    let c₁ = c .before .before .before in
+    let c₂ = c₁ .before .before .before in
+    let r = c₂ .roomy-end .ensures in
+    let t = c .before .before .if1 .taken in
+    record {
+      passed = passed-then (c₁ .before .before .loop .inv) (c₁ .hop .ensures);
+      inside = omega (arith, r .inside, t);
+      stands = λ g. size-some _ _ (c .before .size-at .ensures) (λ e. omega (arith, e, c .if2 .taken));
+    }
 
 add-at : tie.Need-add-at Inv-loop μ-loop
-add-at c = let r = c .before .before .before .before .before .before .roomy-end .ensures .inside in let p = c .before .before .before .before .before .before .before .before .pre .1 in let t = c .before .before .if1 .taken in search needs
+add-at c =
+    let c₁ = c .before .before .before .before .before .before in
+    let r = c₁ .roomy-end .ensures .inside in let p = c₁ .before .before .pre .1 in let t = c .before .before .if1 .taken in search needs
 
 loop-less : tie.Need-loop-less Inv-loop μ-loop
 loop-less c = let h = c .before .before .before .hop .ensures .forward in omega (arith, h, c .before .before .if1 .taken, c .before .before .before .before .loop-test .taken)
 
 loop-again : tie.Need-loop-again Inv-loop μ-loop
-loop-again c = passed-one (passed-then (c .before .before .before .before .before .loop .inv) (c .before .before .before .hop .ensures)) (none-size _ _ (sym (c .before .size-at .ensures) ∙ omega (arith, c .if2 .left)))
+loop-again c =
+    let c₁ = c .before .before .before in
+    passed-one (passed-then (c₁ .before .before .loop .inv) (c₁ .hop .ensures)) (none-size _ _ (sym (c .before .size-at .ensures) ∙ omega (arith, c .if2 .left)))
 
 loop-less-2 : tie.Need-loop-less-2 Inv-loop μ-loop
 loop-less-2 c = let h = c .before .hop .ensures .forward in omega (arith, h, c .if1 .left, c .before .before .loop-test .taken)

@@ -33,13 +33,17 @@ loop-less : tie.Need-loop-less Inv-loop μ-loop
 loop-less c = omega (arith, c .if1 .left, c .before .before .loop-test .taken)
 
 loop-again : tie.Need-loop-again Inv-loop μ-loop
-loop-again c = stretch-next _ _ (c .before .before .before .before .before .pre .1) (c .before .before .before .loop .inv) (c .before .next-size .ensures) (c .if1 .left) (c .before .before .loop-test .taken)
+loop-again c =
+    let c₁ = c .before .before .before in
+    stretch-next _ _ (c₁ .before .before .pre .1) (c₁ .loop .inv) (c .before .next-size .ensures) (c .if1 .left) (c .before .before .loop-test .taken)
 
 returns : tie.Need-returns Inv-loop μ-loop
 returns c = (c .before .loop .inv, λ l h. omega (arith, l, c .loop-test .left))
 
 returns-2 : tie.Need-returns-2 Inv-loop μ-loop
-returns-2 c = (c .before .before .before .loop .inv, λ l h. stretch-goes _ _ (c .before .before .before .before .before .pre .1) (c .before .before .before .loop .inv) (sym (c .before .next-size .ensures) ∙ c .if1 .taken) h)
+returns-2 c =
+    let c₁ = c .before .before .before in
+    (c₁ .loop .inv, λ l h. stretch-goes _ _ (c₁ .before .before .pre .1) (c₁ .loop .inv) (sym (c .before .next-size .ensures) ∙ c .if1 .taken) h)
 
 pub stretch-spec : {M : Type 1} → statement M
 stretch-spec =

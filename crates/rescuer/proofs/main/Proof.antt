@@ -56,10 +56,20 @@ image-end-requires : tie.Need-image-end-requires
 image-end-requires c κs = search needs
 
 array-share-prefix-input-3 : tie.Need-array-share-prefix-input-3
-array-share-prefix-input-3 c = let h = image-inside (c .before .before .before .before .before .before .before .before .fill .last .0) (c .before .before .before .before .before .before .before .before .fill .result .total) (c .image-end .result) (c .image-end .ensures) (sym (c .before .before .before .before .«open» .ensures) ∙ c .before .before .enum-told .given .1) in omega (arith, h, c .before .before .before .before .before .before .before .before .fill .ensures .0)
+array-share-prefix-input-3 c =
+    let c₁ = c .before .before .before .before in
+    let f = c₁ .before .before .before .before .fill in
+    let e = c .image-end in
+    let h = image-inside (f .last .0) (f .result .total) (e .result) (e .ensures) (sym (c₁ .«open» .ensures) ∙ c .before .before .enum-told .given .1) in
+    omega (arith, h, f .ensures .0)
 
 slice-aggregate-write-all : tie.Need-slice-aggregate-write-all
-slice-aggregate-write-all c = let h = image-inside (c .before .before .before .before .before .before .before .before .before .fill .last .0) (c .before .before .before .before .before .before .before .before .before .fill .result .total) (c .before .image-end .result) (c .before .image-end .ensures) (sym (c .before .before .before .before .before .«open» .ensures) ∙ c .before .before .before .enum-told .given .1) in sym (length-take-le _ _ (omega (arith, h, c .before .before .before .before .before .before .before .before .before .fill .ensures .0)))
+slice-aggregate-write-all c =
+    let c₁ = c .before .before .before in
+    let f = c₁ .before .before .before .before .before .before .fill in
+    let e = c .before .image-end in
+    let h = image-inside (f .last .0) (f .result .total) (e .result) (e .ensures) (sym (c₁ .before .before .«open» .ensures) ∙ c₁ .enum-told .given .1) in
+    sym (length-take-le _ _ (omega (arith, h, f .ensures .0)))
 
 write-all-requires : tie.Need-write-all-requires
 write-all-requires c κs = search needs
@@ -68,7 +78,13 @@ slice-aggregate-run : tie.Need-slice-aggregate-run
 slice-aggregate-run c = search needs
 
 run-requires : tie.Need-run-requires
-run-requires c κs = let f = c .before .before .before .before .before .before .before .before .before .before .before .before .fill .ensures in let b = c .before .before .before .before .before .before .before .before .before .before .before .before .before .before .large-buffer .ensures in (f .1 ∙ sym b, image-inside _ _ _ (c .before .before .before .before .image-end .ensures) (sym (c .before .before .before .before .before .before .before .before .«open» .ensures) ∙ c .before .before .before .before .before .before .enum-told .given .1), omega (arith, f .0, f .1, b))
+run-requires c κs =
+    let c₁ = c .before .before .before .before in
+    let c₂ = c₁ .before .before .before .before in
+    let c₃ = c₂ .before .before .before .before in
+    let f = c₃ .fill .ensures in
+    let b = c₃ .before .before .large-buffer .ensures in
+    (f .1 ∙ sym b, image-inside _ _ _ (c₁ .image-end .ensures) (sym (c₂ .«open» .ensures) ∙ c₁ .before .before .enum-told .given .1), omega (arith, f .0, f .1, b))
 
 slice-aggregate-say-2 : tie.Need-slice-aggregate-say-2
 slice-aggregate-say-2 c = search needs

@@ -16,10 +16,12 @@ part-end : (l : List ℕ) (from total n : ℕ) → from ≤ total → n ≤ leng
 part-end l from total n h k = let t = length-take (total - from) l in omega (arith, h, k, t)
 
 abbrev Inv-loop : tie.InvT-loop
-Inv-loop input₀ start output₀ list₀ there₀ from₀ pending₀ records₀ dropped₀ runs₀ turns₀ t19 t20 t21 input output list there from pending records dropped runs turns = (65536 ≡ length input) × (65536 ≡ length output) × (196624 ≡ length list) × (from ≤ there .total) × (there .total ≤ 65536)
+Inv-loop input₀ start output₀ list₀ there₀ from₀ pending₀ sums₀ turns₀ t17 input output list there from pending sums turns =
+    (65536 ≡ length input) × (65536 ≡ length output) × (196624 ≡ length list) × (from ≤ there .total) × (there .total ≤ 65536)
 
 abbrev μ-loop : tie.MeasureT-loop
-μ-loop input₀ start output₀ list₀ there₀ from₀ pending₀ records₀ dropped₀ runs₀ turns₀ t19 t20 t21 input output list there from pending records dropped runs turns = turns
+μ-loop input₀ start output₀ list₀ there₀ from₀ pending₀ sums₀ turns₀ t17 input output list there from pending sums turns =
+    turns
 
 large-buffer-requires : tie.Need-large-buffer-requires Inv-loop μ-loop
 large-buffer-requires c κs = search needs
@@ -63,17 +65,17 @@ rescue-piece-requires c κs = search needs
 array-share-prefix-output : tie.Need-array-share-prefix-output Inv-loop μ-loop
 array-share-prefix-output c = (piece-bounds _ _ _ _ _ (c .before .before .before .rescue-piece .ensures)) .written
 
-slice-aggregate-write-all : tie.Need-slice-aggregate-write-all Inv-loop μ-loop
-slice-aggregate-write-all c = sym (length-take-le _ _ ((piece-bounds _ _ _ _ _ (c .before .before .before .before .rescue-piece .ensures)) .written))
+slice-aggregate-put-out : tie.Need-slice-aggregate-put-out Inv-loop μ-loop
+slice-aggregate-put-out c = sym (length-take-le _ _ ((piece-bounds _ _ _ _ _ (c .before .before .before .before .rescue-piece .ensures)) .written))
 
-write-all-requires : tie.Need-write-all-requires Inv-loop μ-loop
-write-all-requires c κs = search needs
+array-share-prefix-list : tie.Need-array-share-prefix-list Inv-loop μ-loop
+array-share-prefix-list c = (piece-bounds _ _ _ _ _ (c .before .before .before .before .rescue-piece .ensures)) .listed
 
-slice-aggregate-say-2 : tie.Need-slice-aggregate-say-2 Inv-loop μ-loop
-slice-aggregate-say-2 c = search needs
+slice-aggregate-put-out-2 : tie.Need-slice-aggregate-put-out-2 Inv-loop μ-loop
+slice-aggregate-put-out-2 c = sym (length-take-le _ _ ((piece-bounds _ _ _ _ _ (c .before .before .before .before .before .rescue-piece .ensures)) .listed))
 
-say-requires-2 : tie.Need-say-requires-2 Inv-loop μ-loop
-say-requires-2 c κs = search needs
+put-out-requires : tie.Need-put-out-requires Inv-loop μ-loop
+put-out-requires c κs = search needs
 
 same-length-2 : tie.Need-same-length-2 Inv-loop μ-loop
 same-length-2 c = search needs
@@ -81,68 +83,60 @@ same-length-2 c = search needs
 returns-2 : tie.Need-returns-2 Inv-loop μ-loop
 returns-2 c = search needs
 
-array-share-prefix-list : tie.Need-array-share-prefix-list Inv-loop μ-loop
-array-share-prefix-list c = (piece-bounds _ _ _ _ _ (c .before .before .before .before .before .before .rescue-piece .ensures)) .listed
+sub-summed : tie.Need-sub-summed Inv-loop μ-loop
+sub-summed c = (piece-bounds _ _ _ _ _ (c .before .before .before .before .before .before .before .before .rescue-piece .ensures)) .few
 
-slice-aggregate-say-runs : tie.Need-slice-aggregate-say-runs Inv-loop μ-loop
-slice-aggregate-say-runs c = sym (length-take-le _ _ ((piece-bounds _ _ _ _ _ (c .before .before .before .before .before .before .before .rescue-piece .ensures)) .listed))
-
-say-runs-requires : tie.Need-say-runs-requires Inv-loop μ-loop
-say-runs-requires c κs = search needs
-
-slice-aggregate-say-3 : tie.Need-slice-aggregate-say-3 Inv-loop μ-loop
-slice-aggregate-say-3 c = search needs
-
-say-requires-3 : tie.Need-say-requires-3 Inv-loop μ-loop
-say-requires-3 c κs = search needs
-
-same-length-3 : tie.Need-same-length-3 Inv-loop μ-loop
-same-length-3 c = search needs
-
-returns-3 : tie.Need-returns-3 Inv-loop μ-loop
-returns-3 c = search needs
-
-added-requires : tie.Need-added-requires Inv-loop μ-loop
-added-requires c κs = search needs
-
-sub-added : tie.Need-sub-added Inv-loop μ-loop
-sub-added c = (piece-bounds _ _ _ _ _ (c .before .before .before .before .before .before .before .before .before .before .before .rescue-piece .ensures)) .few
-
-added-requires-2 : tie.Need-added-requires-2 Inv-loop μ-loop
-added-requires-2 c κs = search needs
-
-added-requires-3 : tie.Need-added-requires-3 Inv-loop μ-loop
-added-requires-3 c κs = search needs
+summed-requires : tie.Need-summed-requires Inv-loop μ-loop
+summed-requires c κs = search needs
 
 say-sums-requires : tie.Need-say-sums-requires Inv-loop μ-loop
 say-sums-requires c κs = search needs
 
-same-length-4 : tie.Need-same-length-4 Inv-loop μ-loop
-same-length-4 c = sym (c .before .before .before .before .before .before .before .before .before .before .before .before .before .before .before .before .before .before .before .before .before .before .loop .inv .0) ∙ sym (c .before .before .before .before .before .before .before .before .before .before .before .before .before .before .before .before .before .before .before .before .before .before .before .before .before .pre .0)
+same-length-3 : tie.Need-same-length-3 Inv-loop μ-loop
+same-length-3 c =
+    let l = c .before .before .before .before .before .before .before .before .before .before .before .before .before .before .before .before .before .before in
+    sym (l .loop .inv .0) ∙ sym (l .before .before .before .pre .0)
 
-returns-4 : tie.Need-returns-4 Inv-loop μ-loop
-returns-4 c = search needs
+returns-3 : tie.Need-returns-3 Inv-loop μ-loop
+returns-3 c = search needs
 
 add-shift : tie.Need-add-shift Inv-loop μ-loop
-add-shift c = let b = piece-bounds _ _ _ _ _ (c .before .before .before .before .before .before .before .before .before .before .before .before .before .before .before .before .rescue-piece .ensures) in let h = c .before .before .before .before .before .before .before .before .before .before .before .before .before .before .before .before .before .before .before .before .before .before .before .loop .inv in let g = part-end _ _ _ (c .before .before .before .before .before .before .before .before .before .before .before .before .before .before .before .before .rescue-piece .result .used) (h .3) (b .inside) in omega (arith, g, h .4)
+add-shift c =
+    let p = c .before .before .before .before .before .before .before .before .before .before .before .before in
+    let h = p .before .before .before .before .before .before .before .loop .inv in
+    let g = part-end _ _ _ (p .rescue-piece .result .used) (h .3) ((piece-bounds _ _ _ _ _ (p .rescue-piece .ensures)) .inside) in
+    omega (arith, g, h .4)
 
 shift-requires : tie.Need-shift-requires Inv-loop μ-loop
-shift-requires c κs = let b = piece-bounds _ _ _ _ _ (c .before .before .before .before .before .before .before .before .before .before .before .before .before .before .before .before .rescue-piece .ensures) in let h = c .before .before .before .before .before .before .before .before .before .before .before .before .before .before .before .before .before .before .before .before .before .before .before .loop .inv in (part-end _ _ _ (c .before .before .before .before .before .before .before .before .before .before .before .before .before .before .before .before .rescue-piece .result .used) (h .3) (b .inside), omega (arith, h .0, h .4))
+shift-requires c κs =
+    let p = c .before .before .before .before .before .before .before .before .before .before .before .before in
+    let h = p .before .before .before .before .before .before .before .loop .inv in
+    (part-end _ _ _ (p .rescue-piece .result .used) (h .3) ((piece-bounds _ _ _ _ _ (p .rescue-piece .ensures)) .inside), omega (arith, h .0, h .4))
 
 fill-requires : tie.Need-fill-requires Inv-loop μ-loop
 fill-requires c κs = written-room (c .before .before .before .shift .ensures)
 
 loop-less : tie.Need-loop-less Inv-loop μ-loop
-loop-less c = let t = c .before .before .before .before .before .before .before .before .before .before .before .before .before .before .before .before .before .before .before .before .before .before .before .before .before .before .before .before .before .loop-test .taken in omega (arith, t)
+loop-less c =
+    let p = c .before .before .before .before .before .before .before .before .before .before .before .before .before .before .before .before .before .before .before in
+    let t = p .before .before .before .before .before .before .loop-test .taken in
+    omega (arith, t)
 
 loop-again : tie.Need-loop-again Inv-loop μ-loop
-loop-again c = let b = piece-bounds _ _ _ _ _ (c .before .before .before .before .before .before .before .before .before .before .before .before .before .before .before .before .before .before .before .before .before .before .before .rescue-piece .ensures) in let h = c .before .before .before .before .before .before .before .before .before .before .before .before .before .before .before .before .before .before .before .before .before .before .before .before .before .before .before .before .before .before .loop .inv in let w = c .before .before .before .before .before .before .shift .ensures in let f = c .before .before .fill .ensures in (h .0 ∙ (sym (written-long w) ∙ sym (f .1)), h .1 ∙ sym (b .output-long), h .2 ∙ sym (b .list-long), omega arith, omega (arith, f .0, f .1, written-long w, h .0))
+loop-again c =
+    let s = c .before .before .before .before .before .before in
+    let p = s .before .before .before .before .before .before .before .before .before .before .before .before .before in
+    let b = piece-bounds _ _ _ _ _ (p .rescue-piece .ensures) in
+    let h = p .before .before .before .before .before .before .before .loop .inv in
+    let w = s .shift .ensures in
+    let f = c .before .before .fill .ensures in
+    (h .0 ∙ (sym (written-long w) ∙ sym (f .1)), h .1 ∙ sym (b .output-long), h .2 ∙ sym (b .list-long), omega arith, omega (arith, f .0, f .1, written-long w, h .0))
 
-same-length-5 : tie.Need-same-length-5 Inv-loop μ-loop
-same-length-5 c = search needs
+same-length-4 : tie.Need-same-length-4 Inv-loop μ-loop
+same-length-4 c = search needs
 
-returns-5 : tie.Need-returns-5 Inv-loop μ-loop
-returns-5 c = search needs
+returns-4 : tie.Need-returns-4 Inv-loop μ-loop
+returns-4 c = search needs
 
 pub run-spec : {M : Type 1} → statement M
 run-spec =
@@ -164,30 +158,21 @@ run-spec =
     slice-aggregate-rescue-piece-2
     rescue-piece-requires
     array-share-prefix-output
-    slice-aggregate-write-all
-    write-all-requires
-    slice-aggregate-say-2
-    say-requires-2
+    slice-aggregate-put-out
+    array-share-prefix-list
+    slice-aggregate-put-out-2
+    put-out-requires
     same-length-2
     returns-2
-    array-share-prefix-list
-    slice-aggregate-say-runs
-    say-runs-requires
-    slice-aggregate-say-3
-    say-requires-3
+    sub-summed
+    summed-requires
+    say-sums-requires
     same-length-3
     returns-3
-    added-requires
-    sub-added
-    added-requires-2
-    added-requires-3
-    say-sums-requires
-    same-length-4
-    returns-4
     add-shift
     shift-requires
     fill-requires
     loop-less
     loop-again
-    same-length-5
-    returns-5)
+    same-length-4
+    returns-4)

@@ -52,7 +52,9 @@ slice-aggregate-write-text-2 : tie.Need-slice-aggregate-write-text-2 Inv-loop μ
 slice-aggregate-write-text-2 c = search needs
 
 write-text-requires : tie.Need-write-text-requires Inv-loop μ-loop
-write-text-requires c κs = let h = c .before .before .before .before .before .before .loop .inv in ⊎-elim (λ l. omega (arith, l .4)) (λ l. omega (arith, l .1, h .0, h .1)) (c .before .before .before .before .if1 .came)
+write-text-requires c κs =
+    let c₁ = c .before .before .before .before in
+    let h = c₁ .before .before .loop .inv in ⊎-elim (λ l. omega (arith, l .4)) (λ l. omega (arith, l .1, h .0, h .1)) (c₁ .if1 .came)
 
 slice-aggregate-write-decimal : tie.Need-slice-aggregate-write-decimal Inv-loop μ-loop
 slice-aggregate-write-decimal c = search needs

@@ -4,7 +4,7 @@ use mathlib.Core.Path.{_≡_}
 use Rattle.lists.specs.Lists.{foldl, from}
 use Rattle.store_calls.specs.Lent.{storeOf}
 use Rattle.machine.specs.Table.{actions}
-use Rattle.plan.specs.Lent.{Holds}
+use Rattle.lens.specs.Parts.{Keeps}
 use Rattle.resets.specs.Resetting.{clearStep}
 use Rattle.resets.proofs.ResetLaws.{fold-start, fold-next, fold-end}
 use borrow.Author.Needs.{needs}
@@ -12,7 +12,10 @@ use Rattle.resets.proofs.clear_actions.Statement.{statement}
 use Rattle.resets.proofs.clear_actions.Tie as tie
 
 abbrev Inv-loop : tie.InvT-loop
-Inv-loop image values₀ buckets₀ inside n left₀ a₀ values buckets left a = (a ≤ n) × (n ≡ actions image) × Holds values buckets left × (foldl (clearStep image (inside .words)) (storeOf values₀ buckets₀ left₀) (from 0 n) ≡ foldl (clearStep image (inside .words)) (storeOf values buckets left) (from a (n - a)))
+Inv-loop image values₀ buckets₀ inside n left₀ a₀ values buckets left a =
+    (a ≤ n) × (n ≡ actions image) × Keeps values buckets left ×
+    (foldl (clearStep image (inside .words)) (storeOf values₀ buckets₀ left₀) (from 0 n) ≡
+    foldl (clearStep image (inside .words)) (storeOf values buckets left) (from a (n - a)))
 
 abbrev μ-loop : tie.MeasureT-loop
 μ-loop image values₀ buckets₀ inside n left₀ a₀ values buckets left a = n - a
@@ -33,10 +36,16 @@ loop-less : tie.Need-loop-less Inv-loop μ-loop
 loop-less c = search needs
 
 loop-again : tie.Need-loop-again Inv-loop μ-loop
-loop-again c = let l = c .before .before .before .before .loop in (search needs, l .inv .1, c .clear-if .ensures .0, fold-next (clearStep (c .before .before .before .before .before .before .before .args .image .now) (c .before .before .before .before .before .before .before .args .inside .words)) _ (l .a) (c .before .before .before .loop-test .taken) (l .inv .3) (c .clear-if .ensures .1))
+loop-again c =
+    let c₁ = c .before .before .before in
+    let c₂ = c₁ .before .before .before .before in
+    let l = c₁ .before .loop in
+    (search needs, l .inv .1, c .clear-if .ensures .0, fold-next (clearStep (c₂ .args .image .now) (c₂ .args .inside .words)) _ (l .a) (c₁ .loop-test .taken) (l .inv .3) (c .clear-if .ensures .1))
 
 returns : tie.Need-returns Inv-loop μ-loop
-returns c = let l = c .before .loop in (l .inv .2, rw (← (l .inv .1)) (fold-end (clearStep (c .before .before .before .before .args .image .now) (c .before .before .before .before .args .inside .words)) _ (l .a) (c .loop-test .left) (l .inv .3)))
+returns c =
+    let c₁ = c .before .before .before .before in
+    let l = c .before .loop in (l .inv .2, rw (← (l .inv .1)) (fold-end (clearStep (c₁ .args .image .now) (c₁ .args .inside .words)) _ (l .a) (c .loop-test .left) (l .inv .3)))
 
 pub clear-actions-spec : {M : Type 1} → statement M
 clear-actions-spec =

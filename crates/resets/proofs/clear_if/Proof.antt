@@ -11,10 +11,15 @@ clear-requires : tie.Need-clear-requires
 clear-requires c κs = search needs
 
 returns : tie.Need-returns
-returns c = clear-yes (c .before .before .before .before .before .before .args .image .now) (c .before .before .before .before .before .before .args .inside .words) _ _ _ (c .before .before .before .before .before .before .pre) (c .before .before .before .before .before .before .args .a) _ _ _ (c .before .before .before .before .is-cleared .ensures) (c .before .before .before .if1 .taken) (c .clear .ensures)
+returns c =
+    let c₁ = c .before .before .before in
+    let c₂ = c₁ .before .before .before in
+    clear-yes (c₂ .args .image .now) (c₂ .args .inside .words) _ _ _ (c₂ .pre) (c₂ .args .a) _ _ _ (c₁ .before .is-cleared .ensures) (c₁ .if1 .taken) (c .clear .ensures)
 
 returns-2 : tie.Need-returns-2
-returns-2 c = (c .before .before .before .pre, clear-no (c .before .before .before .args .image .now) (c .before .before .before .args .inside .words) _ _ _ (c .before .before .before .pre) (c .before .before .before .args .a) (c .before .is-cleared .ensures) (c .if1 .left))
+returns-2 c =
+    let c₁ = c .before .before .before in
+    (c₁ .pre, clear-no (c₁ .args .image .now) (c₁ .args .inside .words) _ _ _ (c₁ .pre) (c₁ .args .a) (c .before .is-cleared .ensures) (c .if1 .left))
 
 pub clear-if-spec : {M : Type 1} → statement M
 clear-if-spec = tie.close (tie.spec is-cleared-requires clear-requires returns returns-2)

@@ -11,11 +11,18 @@ remove-requires c κs = search needs
 
 sub-work : tie.Need-sub-work
 unfolding goesOf
-sub-work c = gone-fits (λ e. has (c .before .before .before .before .args .inside .words) (e .queue)) (c .before .before .before .before .args .events .now) (c .before .before .before .before .args .counts) (c .before .before .before .before .pre) (c .before .before .remove .ensures .1 .0)
+sub-work c =
+    let c₁ = c .before .before .before .before in
+    gone-fits (λ e. has (c₁ .args .inside .words) (e .queue)) (c₁ .args .events .now) (c₁ .args .counts) (c₁ .pre) (c .before .before .remove .ensures .1 .0)
 
 returns : tie.Need-returns
 unfolding goesOf
-returns c = let r = c .before .before .remove .ensures in (gone-waits (λ e. has (c .before .before .before .before .args .inside .words) (e .queue)) (c .before .before .before .before .args .events .now) (c .before .before .before .before .args .counts) (c .before .before .before .before .pre) _ (r .0) (r .1 .0) (r .1 .1), gone-step (λ e. has (c .before .before .before .before .args .inside .words) (e .queue)) (c .before .before .before .before .args .events .now) (c .before .before .before .before .args .counts) (c .before .before .before .before .pre) _ (r .0) (r .1 .0) (r .1 .1))
+returns c =
+    let c₁ = c .before .before .before .before in
+    let r = c .before .before .remove .ensures in (
+      gone-waits (λ e. has (c₁ .args .inside .words) (e .queue)) (c₁ .args .events .now) (c₁ .args .counts) (c₁ .pre) _ (r .0) (r .1 .0) (r .1 .1),
+      gone-step (λ e. has (c₁ .args .inside .words) (e .queue)) (c₁ .args .events .now) (c₁ .args .counts) (c₁ .pre) _ (r .0) (r .1 .0) (r .1 .1),
+    )
 
 pub drop-events-spec : {M : Type 1} → statement M
 drop-events-spec = tie.close (tie.spec remove-requires sub-work returns)

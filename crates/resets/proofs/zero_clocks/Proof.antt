@@ -1,11 +1,11 @@
 -- `resets::zero_clocks` meets its contract: the scopes before i are done. Assumes nothing.
+use Rattle.lens.specs.Holds.{most-scopes}
 use Prim.Native.Nat.{_-_, _≤_}
 use mathlib.Core.Path.{_≡_}
 use lib.ListN.{take}
 use Rattle.machine.specs.Table.{scopes as scopesIn}
 use Rattle.scopes.specs.Scopes.{scopesOf}
 use Rattle.lens.specs.Lens.{Scoped}
-use Rattle.plan.proofs.PlanLaws.{few-scopes}
 use Rattle.resets.proofs.ResetLaws.{partlyAll, taken-long, sofar-start, sofar-more, sofar-end}
 use borrow.Author.Needs.{needs}
 use Rattle.resets.proofs.zero_clocks.Statement.{statement}
@@ -21,7 +21,13 @@ count-requires : tie.Need-count-requires Inv-loop μ-loop
 count-requires c κs = search needs
 
 loop-holds : tie.Need-loop-holds Inv-loop μ-loop
-loop-holds c = (search needs, c .count .ensures, sofar-start (c .before .before .args .inside .words) (scopesIn (c .before .before .args .image .now)) (take (scopesIn (c .before .before .args .image .now)) (scopesOf (c .before .before .args .scopes .now))) (taken-long (c .before .before .args .image .now) (c .before .before .args .scopes .now) (c .before .before .pre .0)) (few-scopes (c .before .before .args .image .now) (c .before .before .pre .0)) _ (c .before .before .pre .1))
+loop-holds c =
+    let c₁ = c .before .before in (
+      search needs,
+      c .count .ensures,
+      sofar-start (c₁ .args .inside .words) (scopesIn (c₁ .args .image .now)) (take (scopesIn (c₁ .args .image .now)) (scopesOf (c₁ .args .scopes .now)))
+          (taken-long (c₁ .args .image .now) (c₁ .args .scopes .now) (c₁ .pre .0)) (most-scopes (c₁ .args .image .now) (c₁ .pre .0)) _ (c₁ .pre .1),
+    )
 
 zero-if-requires : tie.Need-zero-if-requires Inv-loop μ-loop
 zero-if-requires c κs = c .before .before .loop .inv .2 .whole
@@ -33,10 +39,27 @@ loop-less : tie.Need-loop-less Inv-loop μ-loop
 loop-less c = search needs
 
 loop-again : tie.Need-loop-again Inv-loop μ-loop
-loop-again c = let l = c .before .before .before .loop in let e = l .inv .1 in let h = c .before .before .loop-test .taken in (search needs, e, sofar-more (c .before .before .before .before .before .before .args .inside .words) (scopesIn (c .before .before .before .before .before .before .args .image .now)) (take (scopesIn (c .before .before .before .before .before .before .args .image .now)) (scopesOf (c .before .before .before .before .before .before .args .scopes .now))) (taken-long (c .before .before .before .before .before .before .args .image .now) (c .before .before .before .before .before .before .args .scopes .now) (c .before .before .before .before .before .before .pre .0)) (few-scopes (c .before .before .before .before .before .before .args .image .now) (c .before .before .before .before .before .before .pre .0)) (l .i) (l .scopes) _ (rw (← e) h) (l .inv .2) (c .zero-if .ensures))
+loop-again c =
+    let c₁ = c .before .before .before in
+    let c₂ = c₁ .before .before .before in
+    let l = c₁ .loop in
+    let e = l .inv .1 in
+    let h = c .before .before .loop-test .taken in (
+      search needs,
+      e,
+      sofar-more (c₂ .args .inside .words) (scopesIn (c₂ .args .image .now)) (take (scopesIn (c₂ .args .image .now)) (scopesOf (c₂ .args .scopes .now)))
+          (taken-long (c₂ .args .image .now) (c₂ .args .scopes .now) (c₂ .pre .0)) (most-scopes (c₂ .args .image .now) (c₂ .pre .0)) (l .i) (l .scopes) _ (rw (← e) h) (l .inv .2)
+          (c .zero-if .ensures),
+    )
 
 returns : tie.Need-returns Inv-loop μ-loop
-returns c = let l = c .before .loop in let e = l .inv .1 in sofar-end (c .before .before .before .before .args .inside .words) (scopesIn (c .before .before .before .before .args .image .now)) (take (scopesIn (c .before .before .before .before .args .image .now)) (scopesOf (c .before .before .before .before .args .scopes .now))) (taken-long (c .before .before .before .before .args .image .now) (c .before .before .before .before .args .scopes .now) (c .before .before .before .before .pre .0)) (few-scopes (c .before .before .before .before .args .image .now) (c .before .before .before .before .pre .0)) (l .i) (l .scopes) (rw (← e) (l .inv .0)) (rw (← e) (c .loop-test .left)) (l .inv .2)
+returns c =
+    let c₁ = c .before .before .before .before in
+    let l = c .before .loop in
+    let e = l .inv .1 in
+    sofar-end (c₁ .args .inside .words) (scopesIn (c₁ .args .image .now)) (take (scopesIn (c₁ .args .image .now)) (scopesOf (c₁ .args .scopes .now)))
+    (taken-long (c₁ .args .image .now) (c₁ .args .scopes .now) (c₁ .pre .0)) (most-scopes (c₁ .args .image .now) (c₁ .pre .0)) (l .i) (l .scopes) (rw (← e) (l .inv .0))
+    (rw (← e) (c .loop-test .left)) (l .inv .2)
 
 pub zero-clocks-spec : {M : Type 1} → statement M
 zero-clocks-spec =

@@ -9,7 +9,9 @@ contains-requires : tie.Need-contains-requires
 contains-requires c κs = search needs
 
 returns : tie.Need-returns
-returns c = zero-skip (c .before .before .args .inside .words) (c .before .before .args .scopes .now) (c .before .before .args .i) (c .before .before .pre) (flag-no (c .before .contains .ensures) (c .if1 .taken))
+returns c =
+    let c₁ = c .before .before in
+    zero-skip (c₁ .args .inside .words) (c₁ .args .scopes .now) (c₁ .args .i) (c₁ .pre) (flag-no (c .before .contains .ensures) (c .if1 .taken))
 
 scope-at-requires : tie.Need-scope-at-requires
 scope-at-requires c κs = search needs
@@ -21,7 +23,12 @@ put-scope-requires : tie.Need-put-scope-requires
 put-scope-requires c κs = search needs
 
 returns-2 : tie.Need-returns-2
-returns-2 c = zero-put (c .before .before .before .before .before .before .before .args .inside .words) (c .before .before .before .before .before .before .before .args .scopes .now) (c .before .before .before .before .before .before .before .args .i) _ (flag-yes (c .before .before .before .before .before .before .contains .ensures) (c .before .before .before .before .before .if1 .left)) (c .before .before .before .scope-at .ensures) (c .before .before .zeroed .ensures) (c .put-scope .ensures)
+returns-2 c =
+    let c₁ = c .before .before .before in
+    let c₂ = c₁ .before .before .before in
+    let c₃ = c₂ .before in
+    zero-put (c₃ .args .inside .words) (c₃ .args .scopes .now) (c₃ .args .i) _ (flag-yes (c₂ .contains .ensures) (c₁ .before .before .if1 .left)) (c₁ .scope-at .ensures)
+    (c .before .before .zeroed .ensures) (c .put-scope .ensures)
 
 pub zero-if-spec : {M : Type 1} → statement M
 zero-if-spec =

@@ -29,7 +29,9 @@ number-requires-2 : tie.Need-number-requires-2
 number-requires-2 c κs = search needs
 
 returns-2 : tie.Need-returns-2
-returns-2 c = field-second _ _ _ _ (c .before .before .before .before .before .fields-at .ensures .0) (c .before .before .before .if2 .taken) (c .before .before .field-place2 .ensures) (c .number2 .ensures .0)
+returns-2 c =
+    let c₁ = c .before .before .before in
+    field-second _ _ _ _ (c₁ .before .before .fields-at .ensures .0) (c₁ .if2 .taken) (c .before .before .field-place2 .ensures) (c .number2 .ensures .0)
 
 add-field-place : tie.Need-add-field-place
 add-field-place c = search needs
@@ -44,7 +46,9 @@ number-requires-3 : tie.Need-number-requires-3
 number-requires-3 c κs = search needs
 
 returns-3 : tie.Need-returns-3
-returns-3 c = field-third _ _ _ _ (c .before .before .before .before .before .before .fields-at .ensures .0) (c .before .before .before .before .before .if1 .left) (c .before .before .before .before .if2 .left) (c .before .before .field-place3 .ensures) (c .number3 .ensures .0)
+returns-3 c =
+    let c₁ = c .before .before .before .before in
+    field-third _ _ _ _ (c₁ .before .before .fields-at .ensures .0) (c₁ .before .if1 .left) (c₁ .if2 .left) (c .before .before .field-place3 .ensures) (c .number3 .ensures .0)
 
 pub field-of-spec : {M : Type 1} → statement M
 field-of-spec =

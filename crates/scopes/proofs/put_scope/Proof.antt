@@ -88,7 +88,12 @@ element-write-rows-7 : tie.Need-element-write-rows-7
 element-write-rows-7 c = search needs
 
 returns-2 : tie.Need-returns-2
-returns-2 c = let b = c .before .before .before .before .before .before .before .before .before in let p : Proper (scopeOf (b .args .s)) = record { global = search needs; local = search needs; suspended = search needs } in put-there (b .args .rows .now) (b .args .k) (scopeOf (b .args .s)) (b .pre) (c .before .before .before .marks-word .ensures) p (search needs) refl
+returns-2 c =
+    let c₁ = c .before .before .before in
+    let c₂ = c₁ .before .before .before .before .before in
+    let b = c₂ .before in
+    let p : Proper (scopeOf (b .args .s)) = record { global = search needs; local = search needs; suspended = search needs } in
+    put-there (b .args .rows .now) (b .args .k) (scopeOf (b .args .s)) (b .pre) (c₁ .marks-word .ensures) p (search needs) refl
 
 pub put-scope-spec : {M : Type 1} → statement M
 put-scope-spec =

@@ -79,7 +79,11 @@ element-write-rows-6 : tie.Need-element-write-rows-6
 element-write-rows-6 c = search needs
 
 returns-2 : tie.Need-returns-2
-returns-2 c = let a = c .before .before .before .before .before .args in let p : Proper (eventOf (a .s)) = record { queue = search needs; microstep = search needs; action = search needs; stored = search needs; reactions = search needs } in put-there (a .rows .now) (a .k) (eventOf (a .s)) (c .before .before .before .before .before .pre) (c .before .head-word .ensures) (c .steps-word .ensures) p (search needs) refl
+returns-2 c =
+    let c₁ = c .before .before .before .before .before in
+    let a = c₁ .args in
+    let p : Proper (eventOf (a .s)) = record { queue = search needs; microstep = search needs; action = search needs; stored = search needs; reactions = search needs } in
+    put-there (a .rows .now) (a .k) (eventOf (a .s)) (c₁ .pre) (c .before .head-word .ensures) (c .steps-word .ensures) p (search needs) refl
 
 pub put-slot-spec : {M : Type 1} → statement M
 put-slot-spec =

@@ -5,7 +5,7 @@ use Rattle.starts.proofs.accept.Statement.{statement}
 use Rattle.starts.proofs.accept.Tie as tie
 
 more-work-requires : tie.Need-more-work-requires
-more-work-requires c κs = work-fits (c .args .events .now) (c .args .counts) (c .pre)
+more-work-requires c κs = work-fits _ _ (c .before .before .pre)
 
 accept-requires : tie.Need-accept-requires
 accept-requires c κs = search needs
@@ -18,15 +18,13 @@ enum-known-a-2 c = search needs
 
 returns : tie.Need-returns
 returns c =
-    let start = c .before .before .before .before .before .before in
-    let q = c .before .before .before .accept in
-    accept-count (start .args .events .now) (start .args .counts) (start .pre) _ _ (q .ensures .1) (q .ensures .0) (c .before .a .given .1) (c .before .before .before .before .before .more-work .ensures)
+    let q = c .before .before .before .accept .ensures in
+    accept-count _ _ (c .before .before .before .before .before .before .before .before .pre) _ _ (q .1) (q .0) (c .before .a .given .1) (c .before .before .before .before .before .more-work .ensures)
 
 returns-2 : tie.Need-returns-2
 returns-2 c =
-    let start = c .before .before .before .before .before .before in
-    let q = c .before .before .before .accept in
-    accept-refused (start .args .events .now) (start .args .counts) (start .pre) _ _ (q .ensures .1) (q .ensures .0) (c .before .a2 .given .1)
+    let q = c .before .before .before .accept .ensures in
+    accept-refused _ _ (c .before .before .before .before .before .before .before .before .pre) _ _ (q .1) (q .0) _ (c .before .a2 .given .1)
 
 pub accept-spec : {M : Type 1} → statement M
 accept-spec =

@@ -1,7 +1,7 @@
 -- `starts::accept_startup` meets its contract. Assumes nothing.
 use mathlib.Core.Path.{refl}
-use Rattle.starts.proofs.StartLaws.{event-yes, event-no}
 use Rattle.plan.proofs.PlanLaws.{row-has}
+use Rattle.starts.proofs.StartLaws.{event-made, event-none}
 use borrow.Author.Needs.{needs}
 use Rattle.starts.proofs.accept_startup.Statement.{statement}
 use Rattle.starts.proofs.accept_startup.Tie as tie
@@ -19,10 +19,14 @@ accept-requires : tie.Need-accept-requires
 accept-requires c κs = search needs
 
 returns : tie.Need-returns
-returns c = (c .accept .ensures .0, λ t. event-yes _ _ _ _ (c .before .before .before .before .before .before .before .before .before .args .i) (row-has _ refl (c .before .before .before .before .before .contains .ensures) (c .before .before .before .before .if1 .taken)) (c .before .before .before .startups .ensures) (c .before .before .plain .ensures) (c .accept .ensures .1 t))
+returns c =
+    let event = c .before .before .before .before in
+    let test = event .before .before in
+    let e = row-has _ refl (test .before .contains .ensures) (test .if1 .taken) in
+    event-made _ _ _ _ _ _ e (event .before .startups .ensures) (event .plain .ensures) (c .accept .ensures)
 
 returns-2 : tie.Need-returns-2
-returns-2 c = (c .before .before .before .before .before .pre, λ t. event-no _ _ _ _ (c .before .before .before .before .before .args .i) (row-has _ refl (c .before .contains .ensures) (c .if1 .left)))
+returns-2 c = event-none _ _ _ _ (row-has _ refl (c .before .contains .ensures) (c .if1 .left))
 
 pub accept-startup-spec : {M : Type 1} → statement M
 accept-startup-spec =

@@ -1,45 +1,54 @@
--- `starts::accept_startups` meets its contract: the walk so far, and what is left of it. Assumes nothing.
-use Prim.Native.Nat.{_-_, _≤_}
-use mathlib.Core.Path.{_≡_}
-use Rattle.lists.specs.Lists.{from}
-use Rattle.lists.specs.Walk.{walk}
-use Rattle.tags.specs.Views.{ofGlobal}
-use Rattle.machine.specs.Table.{scopes}
-use Rattle.machine.specs.State.{State}
-use Rattle.lens.specs.Lens.{Waits}
-use Rattle.plan.specs.Lent.{queueIn}
+-- `starts::accept_startups` meets its contract: the walk so far. Assumes nothing.
+use Prim.Native.Nat.{_-_}
 use Rattle.starts.specs.Starting.{eventStep}
-use Rattle.starts.proofs.StartLaws.{left, carried-start, carried-next, carried-end}
+use Rattle.starts.proofs.StartLaws.{room, Walked, walked-none, walked-next, walked-refused, walked-end}
 use borrow.Author.Needs.{needs}
 use Rattle.starts.proofs.accept_startups.Statement.{statement}
 use Rattle.starts.proofs.accept_startups.Tie as tie
 
 abbrev Inv-loop : tie.InvT-loop
-Inv-loop image events₀ f n past₀ i₀ events past i = (i ≤ n) × (n ≡ scopes image) × Waits events (past .counts) × ((t : State) → walk (eventStep image (f .first .words) (ofGlobal (f .there))) (queueIn t events₀ (past₀ .counts)) (from 0 n) ≡ left (eventStep image (f .first .words) (ofGlobal (f .there))) n (past .outcome) (queueIn t events (past .counts)) i)
+Inv-loop image scopes events₀ values₀ buckets₀ f n current₀ i₀ events values buckets current i =
+    Walked (eventStep image f) n image (room scopes events₀ values₀ buckets₀ current₀) i (room scopes events values buckets current)
 
 abbrev μ-loop : tie.MeasureT-loop
-μ-loop image events₀ f n past₀ i₀ events past i = n - i
+μ-loop image scopes events₀ values₀ buckets₀ f n current₀ i₀ events values buckets current i = n - i
 
 count-requires : tie.Need-count-requires Inv-loop μ-loop
 count-requires c κs = search needs
 
 loop-holds : tie.Need-loop-holds Inv-loop μ-loop
-loop-holds c = (search needs, c .count .ensures, c .before .before .pre, λ t. carried-start (eventStep (c .before .before .args .image .now) (c .before .before .args .f .first .words) (ofGlobal (c .before .before .args .f .there))) _ _)
+loop-holds c = walked-none (c .before .before .pre)
 
-accept-next-requires : tie.Need-accept-next-requires Inv-loop μ-loop
-accept-next-requires c κs = c .before .before .loop .inv .2
+accept-startup-requires : tie.Need-accept-startup-requires Inv-loop μ-loop
+accept-startup-requires c κs = c .before .before .before .before .loop .inv .holds
 
 add-i : tie.Need-add-i Inv-loop μ-loop
 add-i c = search needs
+
+enum-told : tie.Need-enum-told Inv-loop μ-loop
+enum-told c = search needs
 
 loop-less : tie.Need-loop-less Inv-loop μ-loop
 loop-less c = search needs
 
 loop-again : tie.Need-loop-again Inv-loop μ-loop
-loop-again c = let l = c .before .before .before .loop in let r = c .accept-next .result in (search needs, l .inv .1, c .accept-next .ensures .0, λ t. carried-next (eventStep (c .before .before .before .before .before .before .args .image .now) (c .before .before .before .before .before .before .args .f .first .words) (ofGlobal (c .before .before .before .before .before .before .args .f .there))) _ (l .past .outcome) (r .outcome) (queueIn t (l .events) (l .past .counts)) (queueIn t _ (r .counts)) (l .i) (c .before .before .loop-test .taken) (l .inv .3 t) (c .accept-next .ensures .1 t))
+loop-again c =
+    let call = c .before .before .before in
+    let test = call .before .before .before .before in
+    walked-next (test .before .loop .inv) (test .loop-test .taken) _ _ (call .accept-startup .ensures) (c .enum-told .given .1)
+
+enum-told-2 : tie.Need-enum-told-2 Inv-loop μ-loop
+enum-told-2 c = search needs
 
 returns : tie.Need-returns Inv-loop μ-loop
-returns c = let l = c .before .loop in (l .inv .2, λ t. rw (← (l .inv .1)) (carried-end (eventStep (c .before .before .before .before .args .image .now) (c .before .before .before .before .args .f .first .words) (ofGlobal (c .before .before .before .before .args .f .there))) _ (l .past .outcome) (queueIn t (l .events) (l .past .counts)) (l .i) (c .loop-test .left) (l .inv .3 t)))
+returns c =
+    let call = c .before .before .before in
+    let test = call .before .before .before .before in
+    let n = test .before .before .count .ensures in
+    walked-refused (test .before .loop .inv) (test .loop-test .taken) _ _ (call .accept-startup .ensures) n (c .enum-told2 .given .1)
+
+returns-2 : tie.Need-returns-2 Inv-loop μ-loop
+returns-2 c = walked-end (c .before .loop .inv) (c .loop-test .left) (c .before .before .count .ensures)
 
 pub accept-startups-spec : {M : Type 1} → statement M
 accept-startups-spec =
@@ -49,8 +58,11 @@ accept-startups-spec =
     μ-loop
     count-requires
     loop-holds
-    accept-next-requires
+    accept-startup-requires
     add-i
+    enum-told
     loop-less
     loop-again
-    returns)
+    enum-told-2
+    returns
+    returns-2)

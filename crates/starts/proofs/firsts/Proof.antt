@@ -1,19 +1,20 @@
 -- `starts::firsts` meets its contract: the scopes before i are marked. Assumes nothing.
-use Prim.Native.Nat.{_-_, _≤_}
-use mathlib.Core.Path.{_≡_, ap, _∙_}
+use Prim.Native.Nat.{_-_, _≤_, _<_}
+use mathlib.Core.Path.{ap, _∙_}
 use mathlib.Core.Bool.{not, _&&_}
+use native.Mathlib.Omega.{arith}
 use Rattle.key_set.specs.Sets.{has}
 use Rattle.scopes.specs.Scopes.{mostScopes}
-use Rattle.machine.specs.Table.{scopes as scopesIn}
+use Rattle.lens.specs.Holds.{most-scopes}
 use Rattle.plan.specs.Plans.{Marks}
-use Rattle.plan.proofs.PlanLaws.{few-scopes, marks-none, marks-more, marks-all}
+use Rattle.plan.proofs.PlanLaws.{marks-none, marks-more, marks-all}
 use Rattle.starts.specs.Starting.{firstTime}
 use borrow.Author.Needs.{needs}
 use Rattle.starts.proofs.firsts.Statement.{statement}
 use Rattle.starts.proofs.firsts.Tie as tie
 
 abbrev Inv-loop : tie.InvT-loop
-Inv-loop image scopes active n set₀ i₀ set i = (i ≤ n) × (n ≤ mostScopes) × (n ≡ scopesIn image) × Marks (firstTime (active .words) scopes) i (set .words)
+Inv-loop image scopes active n set₀ i₀ set i = (i ≤ n) × Marks (firstTime (active .words) scopes) i (set .words)
 
 abbrev μ-loop : tie.MeasureT-loop
 μ-loop image scopes active n set₀ i₀ set i = n - i
@@ -25,7 +26,7 @@ empty-requires : tie.Need-empty-requires Inv-loop μ-loop
 empty-requires c κs = search needs
 
 loop-holds : tie.Need-loop-holds Inv-loop μ-loop
-loop-holds c = let n = c .before .count .ensures in (search needs, rw n (few-scopes (c .before .before .before .before .args .image .now) (c .before .before .before .before .pre)), n, rw (c .empty .ensures) (marks-none _))
+loop-holds c = (search needs, rw (c .empty .ensures) (marks-none _))
 
 cast-scope-at : tie.Need-cast-scope-at Inv-loop μ-loop
 cast-scope-at c = search needs
@@ -46,10 +47,18 @@ loop-less : tie.Need-loop-less Inv-loop μ-loop
 loop-less c = search needs
 
 loop-again : tie.Need-loop-again Inv-loop μ-loop
-loop-again c = let l = c .before .before .before .before .loop in let a = c .before .before .before .before .before .before .before .before .before .args in (search needs, l .inv .1, l .inv .2, marks-more _ (l .i) (l .set .words) _ _ (search needs) (l .inv .3) (c .before .is-first .ensures ∙ ap (λ x. has (a .plan .now .words) (l .i) && not (x .ever)) (c .before .before .scope-at .ensures)) (c .mark .ensures))
+loop-again c =
+    let l = c .before .before .before .before .loop in
+    let n = c .before .before .before .before .before .before in
+    let start = n .before .before .before in
+    let room : l .i < mostScopes = omega (arith, c .before .before .before .loop-test .taken, n .count .ensures, most-scopes _ (start .pre)) in
+    let e = c .before .is-first .ensures ∙ ap (λ x. has (start .args .plan .now .words) (l .i) && not (x .ever)) (c .before .before .scope-at .ensures) in
+    (search needs, marks-more _ (l .i) (l .set .words) _ _ room (l .inv .1) e (c .mark .ensures))
 
 returns : tie.Need-returns Inv-loop μ-loop
-returns c = let l = c .before .loop in rw (← (l .inv .2)) (marks-all _ (l .i) _ (l .set .words) (search needs) (search needs) (l .inv .3))
+returns c =
+    let l = c .before .loop in
+    rw (← (c .before .before .before .count .ensures)) (marks-all _ (l .i) _ (l .set .words) (search needs) (search needs) (l .inv .1))
 
 pub firsts-spec : {M : Type 1} → statement M
 firsts-spec =

@@ -1,7 +1,6 @@
 -- `starts::hold_startup` meets its contract. Assumes nothing.
-use Rattle.plan.specs.Lent.{push-holds, push-step}
-use Rattle.starts.proofs.StartLaws.{value-yes, value-no}
 use Rattle.plan.proofs.PlanLaws.{row-has}
+use Rattle.starts.proofs.StartLaws.{value-held, value-none}
 use borrow.Author.Needs.{needs}
 use Rattle.starts.proofs.hold_startup.Statement.{statement}
 use Rattle.starts.proofs.hold_startup.Tie as tie
@@ -18,14 +17,17 @@ contains-requires c κs = search needs
 startup-action-requires : tie.Need-startup-action-requires
 startup-action-requires c κs = search needs
 
-push-requires : tie.Need-push-requires
-push-requires c κs = search needs
+hold-requires : tie.Need-hold-requires
+hold-requires c κs = search needs
 
 returns : tie.Need-returns
-returns c = let k = c .before .before .before .before .before .before .before .before .before .before .pre in let d = c .push .ensures in (push-holds _ _ _ k _ _ _ _ _ d, λ t. value-yes _ _ _ _ (c .before .before .before .before .before .before .before .before .before .before .args .j) (row-has _ (c .before .before .before .before .before .before .startup-scope .ensures) (c .before .before .before .before .before .contains .ensures) (c .before .before .before .before .if1 .taken)) (c .before .before .before .startup-action .ensures) (push-step _ _ _ k _ _ _ _ _ d t))
+returns c =
+    let test = c .before .before .before .before .before in
+    let e = row-has _ (test .before .before .startup-scope .ensures) (test .before .contains .ensures) (test .if1 .taken) in
+    value-held _ _ _ _ _ _ e (c .before .before .before .before .startup-action .ensures) (c .hold .ensures)
 
 returns-2 : tie.Need-returns-2
-returns-2 c = (c .before .before .before .before .before .before .pre, λ t. value-no _ _ _ _ (c .before .before .before .before .before .before .args .j) (row-has _ (c .before .before .startup-scope .ensures) (c .before .contains .ensures) (c .if1 .left)))
+returns-2 c = value-none _ _ _ _ (row-has _ (c .before .before .startup-scope .ensures) (c .before .contains .ensures) (c .if1 .left))
 
 pub hold-startup-spec : {M : Type 1} → statement M
 hold-startup-spec =
@@ -35,6 +37,6 @@ hold-startup-spec =
     cast-contains
     contains-requires
     startup-action-requires
-    push-requires
+    hold-requires
     returns
     returns-2)

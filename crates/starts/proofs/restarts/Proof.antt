@@ -1,7 +1,8 @@
 -- `starts::restarts` meets its contract. Assumes nothing.
+use Rattle.lens.specs.Holds.{steps-then, steps-end}
 use Rattle.machine.specs.Transition.{step5}
-use Rattle.plan.specs.Lent.{storeIn, rowsIn}
-use Rattle.starts.proofs.StartLaws.{then-done, then-refused}
+use Rattle.starts.specs.Starting.{timersOn, resetsOn}
+use Rattle.starts.proofs.StartLaws.{steps-held}
 use borrow.Author.Needs.{needs}
 use Rattle.starts.proofs.restarts.Statement.{statement}
 use Rattle.starts.proofs.restarts.Tie as tie
@@ -13,32 +14,32 @@ enum-told : tie.Need-enum-told
 enum-told c = search needs
 
 reset-reactions-requires : tie.Need-reset-reactions-requires
-reset-reactions-requires c κs = let g = c .before .before .before .before .before .timers .ensures .0 in (search needs, g .waits)
+reset-reactions-requires c κs =
+    let told = c .before .before .before .before in
+    let call = told .before .before in
+    let start = call .before .before .before .before .before in
+    steps-held _ (timersOn _ (start .args .plan)) _ _ _ (start .pre) (call .timers .ensures) (told .enum-told .given .1)
 
-enum-known-o : tie.Need-enum-known-o
-enum-known-o c = search needs
+enum-told-2 : tie.Need-enum-told-2
+enum-told-2 c = search needs
 
 returns : tie.Need-returns
 unfolding step5
 returns c =
-    let a = c .before .before .before .before .before .before .before .before .before .before .before .before .args in
-    let h = c .before .before .before .before .before .before .before .timers in
-    let q = c .before .reset-reactions in
-    (record { waits = q .ensures .0; holds = h .ensures .0 .holds }, λ t k. then-done (rowsIn t _ _ _ (h .result .counts) (h .result .held)) _ (h .ensures .1 t k) (c .before .before .before .enum-told .given .1) (q .ensures .1 (storeIn t _ _ (h .result .held))))
+    let told = c .before .before .before .before .before in
+    let call = told .before .before in
+    let start = call .before .before .before .before .before in
+    steps-then _ (timersOn _ (start .args .plan)) (resetsOn _ (start .args .plan)) _ _ _ _ _ (call .timers .ensures) (told .enum-told .given .1) (c .reset-reactions .ensures)
 
 returns-2 : tie.Need-returns-2
 unfolding step5
 returns-2 c =
-    let h = c .before .before .before .before .before .timers in
-    (h .ensures .0, λ t k. then-refused (rowsIn t _ _ _ (h .result .counts) (h .result .held)) _ (h .ensures .1 t k) (c .before .o .given .1))
+    let call = c .before .before in
+    let start = call .before .before .before .before .before in
+    let e = c .enum-told2 .given .1 in
+    steps-end _ (timersOn _ (start .args .plan)) (resetsOn _ (start .args .plan)) _ _ _ _ _ (call .timers .ensures) e e
 
 pub restarts-spec : {M : Type 1} → statement M
 restarts-spec =
     tie.close
-    (tie.spec
-    timers-requires
-    enum-told
-    reset-reactions-requires
-    enum-known-o
-    returns
-    returns-2)
+    (tie.spec timers-requires enum-told reset-reactions-requires enum-told-2 returns returns-2)

@@ -1,6 +1,7 @@
 -- `starts::start_all` meets its contract. Assumes nothing.
-use Rattle.plan.specs.Lent.{queueIn, storeIn, rowsIn}
-use Rattle.starts.proofs.StartLaws.{then-done, then-refused}
+use Rattle.lens.specs.Holds.{steps-then, steps-end}
+use Rattle.starts.specs.Starting.{allValues, allEvents}
+use Rattle.starts.proofs.StartLaws.{steps-held}
 use borrow.Author.Needs.{needs}
 use Rattle.starts.proofs.start_all.Statement.{statement}
 use Rattle.starts.proofs.start_all.Tie as tie
@@ -12,23 +13,28 @@ enum-told : tie.Need-enum-told
 enum-told c = search needs
 
 accept-startups-requires : tie.Need-accept-startups-requires
-accept-startups-requires c κs = search needs
+accept-startups-requires c κs =
+    let told = c .before .before .before .before in
+    let call = told .before .before in
+    let start = call .before .before .before .before .before in
+    steps-held _ (allValues _ (start .args .f)) _ _ _ (start .pre) (call .hold-startups .ensures) (told .enum-told .given .1)
 
-enum-known-o : tie.Need-enum-known-o
-enum-known-o c = search needs
+enum-told-2 : tie.Need-enum-told-2
+enum-told-2 c = search needs
 
 returns : tie.Need-returns
 returns c =
-    let a = c .before .before .before .before .before .before .before .before .before .before .before .args in
-    let h = c .before .before .before .before .before .before .hold-startups in
-    let q = c .before .accept-startups in
-    (record { waits = q .ensures .0; holds = h .ensures .0 }, λ t. then-done (rowsIn t (a .events .now) _ _ (a .plan .counts) (h .result .held)) _ (h .ensures .1 (queueIn t (a .events .now) (a .plan .counts))) (c .before .before .before .enum-told .given .1) (q .ensures .1 (storeIn t _ _ (h .result .held))))
+    let told = c .before .before .before .before .before in
+    let call = told .before .before in
+    let start = call .before .before .before .before .before in
+    steps-then _ (allValues _ (start .args .f)) (allEvents _ (start .args .f)) _ _ _ _ _ (call .hold-startups .ensures) (told .enum-told .given .1) (c .accept-startups .ensures)
 
 returns-2 : tie.Need-returns-2
 returns-2 c =
-    let a = c .before .before .before .before .before .before .before .before .before .args in
-    let h = c .before .before .before .before .hold-startups in
-    (record { waits = c .before .before .before .before .before .before .before .before .before .pre .1 .waits; holds = h .ensures .0 }, λ t. then-refused (rowsIn t (a .events .now) _ _ (a .plan .counts) (h .result .held)) _ (h .ensures .1 (queueIn t (a .events .now) (a .plan .counts))) (c .before .o .given .1))
+    let call = c .before .before in
+    let start = call .before .before .before .before .before in
+    let e = c .enum-told2 .given .1 in
+    steps-end _ (allValues _ (start .args .f)) (allEvents _ (start .args .f)) _ _ _ _ _ (call .hold-startups .ensures) e e
 
 pub start-all-spec : {M : Type 1} → statement M
 start-all-spec =
@@ -37,6 +43,6 @@ start-all-spec =
     hold-startups-requires
     enum-told
     accept-startups-requires
-    enum-known-o
+    enum-told-2
     returns
     returns-2)

@@ -28,13 +28,21 @@ to-global-requires : tie.Need-to-global-requires
 to-global-requires c κs = search needs
 
 returns : tie.Need-returns
-returns c = image-mapped _ _ _ (c .before .before .before .before .before .before .before .timer-scope .ensures) (c .before .before .before .before .before .has-parent .ensures) (c .before .before .before .before .before .before .timer-tag .ensures) (c .before .before .before .before .if1 .taken) (ap (λ x. x .clock) (c .before .before .before .scope-at .ensures)) (rw (c .before .as-local .ensures) at (c .to-global .ensures))
+returns c =
+    let test = c .before .before .before .before in
+    let tag = test .before .before in
+    let image = image-mapped _ _ _ (tag .before .timer-scope .ensures) (test .before .has-parent .ensures) (tag .timer-tag .ensures) in
+    image (test .if1 .taken) (ap (λ x. x .clock) (c .before .before .before .scope-at .ensures)) (rw (c .before .as-local .ensures) at (c .to-global .ensures))
 
 as-global-requires : tie.Need-as-global-requires
 as-global-requires c κs = search needs
 
 returns-2 : tie.Need-returns-2
-returns-2 c = ap done (c .as-global .ensures) ∙ image-plain _ _ _ (c .before .before .before .before .timer-scope .ensures) (c .before .before .has-parent .ensures) (c .before .before .before .timer-tag .ensures) (c .before .if1 .left)
+returns-2 c =
+    let test = c .before in
+    let tag = test .before .before in
+    let image = image-plain _ _ _ (tag .before .timer-scope .ensures) (test .before .has-parent .ensures) (tag .timer-tag .ensures) in
+    ap done (c .as-global .ensures) ∙ image (test .if1 .left)
 
 pub timer-image-spec : {M : Type 1} → statement M
 timer-image-spec =

@@ -20,7 +20,10 @@ triggers-requires : tie.Need-triggers-requires
 triggers-requires c κs = search needs
 
 returns : tie.Need-returns
-returns c = timer-event _ _ _ (c .before .before .before .before .timer-action .ensures) (c .before .before .before .timer-scope .ensures) (c .before .before .timer-queue .ensures) (c .before .timer-tag .ensures) (c .triggers .ensures)
+returns c =
+    let queue = c .before .before in
+    let action = queue .before .before .timer-action .ensures in
+    timer-event _ _ _ action (queue .before .timer-scope .ensures) (queue .timer-queue .ensures) (c .before .timer-tag .ensures) (c .triggers .ensures)
 
 pub timer-slot-spec : {M : Type 1} → statement M
 timer-slot-spec =

@@ -12,7 +12,9 @@ use Rattle.state_rules.proofs.events_keep.Statement.{statement}
 use Rattle.state_rules.proofs.events_keep.Tie as tie
 
 abbrev Inv-loop : tie.InvT-loop
-Inv-loop image scopes events n z i₀ i = (i ≤ n) × (every (eventKeeps image (scopesOf scopes)) (take n (eventsOf events)) ≡ every (eventKeeps image (scopesOf scopes)) (drop i (take n (eventsOf events))))
+Inv-loop image scopes events n z i₀ i =
+    (i ≤ n) × (every (eventKeeps image (scopesOf scopes)) (take n (eventsOf events)) ≡
+    every (eventKeeps image (scopesOf scopes)) (drop i (take n (eventsOf events))))
 
 abbrev μ-loop : tie.MeasureT-loop
 μ-loop image scopes events n z i₀ i = n - i

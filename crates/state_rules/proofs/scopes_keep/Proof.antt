@@ -1,7 +1,7 @@
 -- `state_rules::scopes_keep` meets its contract: invariant: all keep the rule if those from i on do. Assumes nothing.
 use borrow.Author.Needs.{needs}
 use Rattle.state_rules.proofs.Parts.{index-none, index-on, index-fails, index-all}
-use Rattle.state_rules.specs.Sound.{scopeKeeps}
+use Rattle.machine.specs.Machine.{scopeRules}
 use Rattle.scopes.specs.Scopes.{scopesOf}
 use Rattle.lists.specs.Lists.{every, from}
 use Prim.Native.Nat.{_-_, _≤_}
@@ -10,7 +10,7 @@ use Rattle.state_rules.proofs.scopes_keep.Statement.{statement}
 use Rattle.state_rules.proofs.scopes_keep.Tie as tie
 
 abbrev Inv-loop : tie.InvT-loop
-Inv-loop image modes scopes n i₀ i = (i ≤ n) × (every (scopeKeeps image modes (scopesOf scopes)) (from 0 n) ≡ every (scopeKeeps image modes (scopesOf scopes)) (from i (n - i)))
+Inv-loop image modes scopes n i₀ i = (i ≤ n) × (every (scopeRules image modes (scopesOf scopes)) (from 0 n) ≡ every (scopeRules image modes (scopesOf scopes)) (from i (n - i)))
 
 abbrev μ-loop : tie.MeasureT-loop
 μ-loop image modes scopes n i₀ i = n - i

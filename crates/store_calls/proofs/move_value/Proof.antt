@@ -19,6 +19,9 @@ find-bucket-requires c κs = search needs
 returns-2 : tie.Need-returns-2
 returns-2 c = search move-none
 
+full-requires : tie.Need-full-requires
+full-requires c κs = search needs
+
 returns-3 : tie.Need-returns-3
 returns-3 c = search move-full
 
@@ -43,6 +46,7 @@ move-value-spec =
     find-value-requires
     find-bucket-requires
     returns-2
+    full-requires
     returns-3
     value-at-requires
     lose-values-requires

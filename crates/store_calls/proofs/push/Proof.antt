@@ -10,8 +10,14 @@ find-value-requires c κs = search needs
 find-bucket-requires : tie.Need-find-bucket-requires
 find-bucket-requires c κs = search needs
 
+full-requires : tie.Need-full-requires
+full-requires c κs = search needs
+
 returns : tie.Need-returns
 returns c = search push-no-value
+
+full-requires-2 : tie.Need-full-requires-2
+full-requires-2 c κs = search needs
 
 returns-2 : tie.Need-returns-2
 returns-2 c = search push-no-bucket
@@ -34,7 +40,9 @@ push-spec =
     (tie.spec
     find-value-requires
     find-bucket-requires
+    full-requires
     returns
+    full-requires-2
     returns-2
     next-after-requires
     set-value-requires

@@ -11,7 +11,8 @@ use Rattle.store_rules.proofs.all_covered.Statement.{statement}
 use Rattle.store_rules.proofs.all_covered.Tie as tie
 
 abbrev Inv-loop : tie.InvT-loop
-Inv-loop values n buckets m places i₀ i = (i ≤ n) × (every (hasBucket (take m (bucketsOf buckets))) (take n (valuesOf values)) ≡ every (hasBucket (take m (bucketsOf buckets))) (drop i (take n (valuesOf values))))
+Inv-loop values n buckets m places i₀ i =
+    (i ≤ n) × (every (hasBucket (take m (bucketsOf buckets))) (take n (valuesOf values)) ≡ every (hasBucket (take m (bucketsOf buckets))) (drop i (take n (valuesOf values))))
 
 abbrev μ-loop : tie.MeasureT-loop
 μ-loop values n buckets m places i₀ i = n - i

@@ -1,7 +1,7 @@
--- `transition::apply_transition` meets its contract. Assumes nothing.
+-- `transition::apply_transition` meets its contract: refused early, done, or refused late and all put back. Assumes nothing.
 use mathlib.Core.Path.{refl, _∙_, sym}
 use Rattle.plan.proofs.PlanLaws.{planned-inner}
-use Rattle.transition.proofs.TransitLaws.{allowed-known, early-refused, applied-done, late-refused}
+use Rattle.transition.proofs.TransitLaws.{modes-full, allowed-known, moded-held, moded-steps, early-refused, performs-done, performs-refused}
 use borrow.Author.Needs.{needs}
 use Rattle.transition.proofs.apply_transition.Statement.{statement}
 use Rattle.transition.proofs.apply_transition.Tie as tie
@@ -9,65 +9,65 @@ use Rattle.transition.proofs.apply_transition.Tie as tie
 refusal-of-requires : tie.Need-refusal-of-requires
 refusal-of-requires c κs = search needs
 
-enum-known-o : tie.Need-enum-known-o
-enum-known-o c = search needs
-
 enum-told : tie.Need-enum-told
 enum-told c = search needs
-
-plan-of-requires : tie.Need-plan-of-requires
-plan-of-requires c κs =
-    let b = c .before .before .before .before .before .before .before .before .before in
-    let a = b .args in
-    (b .pre .0, (search needs, allowed-known (a .image .now) (a .given .request) (sym (c .before .before .before .refusal-of .ensures) ∙ c .before .enum-told .given .1)))
-
-steps-requires : tie.Need-steps-requires
-steps-requires c κs =
-    let b = c .before .before .before .before .before .before .before .before .before .before .before .before .before .before .before .before .before .before in
-    let a = b .args in
-    let p = c .before .before .before .before .before .before .before .before .plan-of in
-    let h = p .ensures in
-    (b .pre .0, (planned-inner (a .image .now) (a .given .modes) (a .given .request) (a .given .counts) (a .given .held) (p .result) h, (b .pre .1 .0, rw (h .counts, h .held) (b .pre .1 .1))))
 
 enum-told-2 : tie.Need-enum-told-2
 enum-told-2 c = search needs
 
-enum-known-outcome : tie.Need-enum-known-outcome
-enum-known-outcome c = search needs
+plan-of-requires : tie.Need-plan-of-requires
+plan-of-requires c κs =
+    let c₁ = c .before .before .before .before in
+    let b = c₁ .before .before in
+    (b .pre .holds .table, (modes-full _ _ (b .pre), allowed-known (b .args .image .now) (b .args .request) (sym (c₁ .refusal-of .ensures) ∙ c .before .before .enum-told2 .given .1)))
+
+steps-requires : tie.Need-steps-requires
+steps-requires c κs =
+    let b = c .before .before .before .before .before .before .before .before .before .before .before .before .before .before .before .before in
+    let a = b .args in
+    let p = c .before .before .before .before .before .before .before .before .before .plan-of in
+    (planned-inner (a .image .now) (a .ledger .modes) (a .request) (p .result) (p .ensures), moded-held (a .image .now) (a .ledger .modes) (a .request) (p .result) (p .ensures) _ refl (b .pre))
+
+enum-told-3 : tie.Need-enum-told-3
+enum-told-3 c = search needs
+
+enum-told-4 : tie.Need-enum-told-4
+enum-told-4 c = search needs
 
 returns : tie.Need-returns
-returns c =
-    let a = c .before .before .before .before .before .before .before .before .before .args in
-    λ s r u. early-refused (a .image .now) (a .given .modes) (a .given .request) (a .given .counts) (a .given .held) s (a .scopes .now) (a .events .now) (a .values .now) (a .buckets .now) r u
-    _ (c .before .before .before .refusal-of .ensures) (c .before .o .given .1) refl refl refl refl
+returns c = let a = c .before .before .before .before .args in early-refused (a .image .now) (a .request) _ (c .before .before .refusal-of .ensures) (c .enum-told .given .1)
 
 returns-2 : tie.Need-returns-2
 returns-2 c =
-    let a = c .before .before .before .before .before .before .before .before .before .before .before .before .before .before .before .before .before .before .before .before .before .before .before .before .args in
-    let p = c .before .before .before .before .before .before .before .before .before .before .before .before .before .before .plan-of in
-    let t = c .before .before .before .before .before .steps in
-    λ s r u. applied-done (a .image .now) (a .given .modes) (a .given .request) (a .given .counts) (a .given .held) s (a .scopes .now) (a .events .now) (a .values .now) (a .buckets .now) r u
-    (p .result) (p .ensures) (t .result) (t .last .1 .0) (t .last .1 .1 .0) (t .last .1 .1 .1 .0) (t .last .1 .1 .1 .1 .0) (c .before .before .before .before .before .before .before .before .before .before .before .before .before .before .before .before .before .before .refusal-of .ensures) (c .before .before .before .before .before .before .before .before .before .before .before .before .before .before .before .before .enum-told .given .1) (t .ensures) _ (c .before .before .before .enum-told2 .given .1) refl refl refl refl
+    let c₁ = c .before .before .before .before .before .before .before .before .before .before .before .before in
+    let c₂ = c₁ .before .before .before in
+    let c₃ = c₂ .before .before .before .before in
+    let a = c₃ .args in
+    let p = c₁ .plan-of in
+    let k = moded-steps (a .image .now) (a .ledger .modes) (a .request) (p .result) (p .ensures) _ refl _ _ (c .before .before .steps .ensures) in
+    performs-done (a .image .now) (a .request) (c₂ .before .before .refusal-of .ensures) (c₂ .enum-told2 .given .1) _ _ _ k (c .enum-told3 .given .1)
 
 returns-3 : tie.Need-returns-3
 returns-3 c =
-    let a = c .before .before .before .before .before .before .before .before .before .before .before .before .before .before .before .before .before .before .before .before .before .before .args in
-    let p = c .before .before .before .before .before .before .before .before .before .before .before .before .plan-of in
-    let t = c .before .before .before .steps in
-    λ s r u. late-refused (a .image .now) (a .given .modes) (a .given .request) (a .given .counts) (a .given .held) s (a .scopes .now) (a .events .now) (a .values .now) (a .buckets .now) r u
-    (p .result) (p .ensures) (t .result) (t .last .1 .0) (t .last .1 .1 .0) (t .last .1 .1 .1 .0) (t .last .1 .1 .1 .1 .0) (c .before .before .before .before .before .before .before .before .before .before .before .before .before .before .before .before .refusal-of .ensures) (c .before .before .before .before .before .before .before .before .before .before .before .before .before .before .enum-told .given .1) (t .ensures) _ (c .before .outcome .given .1) refl refl refl refl
+    let c₁ = c .before .before .before .before .before .before .before .before .before .before .before .before in
+    let c₂ = c₁ .before .before .before in
+    let c₃ = c₂ .before .before .before .before in
+    let a = c₃ .args in
+    let p = c₁ .plan-of in
+    let k = moded-steps (a .image .now) (a .ledger .modes) (a .request) (p .result) (p .ensures) _ refl _ _ (c .before .before .steps .ensures) in
+    performs-refused (a .image .now) (a .request) (c₂ .before .before .refusal-of .ensures) (c₂ .enum-told2 .given .1) _ _ _ k (c .enum-told4 .given .1)
 
 pub apply-transition-spec : {M : Type 1} → statement M
 apply-transition-spec =
     tie.close
     (tie.spec
     refusal-of-requires
-    enum-known-o
     enum-told
+    enum-told-2
     plan-of-requires
     steps-requires
-    enum-told-2
-    enum-known-outcome
+    enum-told-3
+    enum-told-4
     returns
     returns-2
     returns-3)

@@ -1,7 +1,6 @@
--- `transition::begin` meets its contract. Assumes nothing.
-use mathlib.Core.Path.{ap, sym, _∙_}
-use Rattle.plan.specs.Lent.{rowsIn, finished}
-use Rattle.starts.proofs.StartLaws.{then-done, then-refused}
+-- `transition::begin` meets its contract: one step, and where it was done the other. Assumes nothing.
+use Rattle.lens.specs.Holds.{steps-held, steps-then, steps-end}
+use Rattle.starts.specs.Starting.{startupsOn, restartsOn}
 use borrow.Author.Needs.{needs}
 use Rattle.transition.proofs.begin.Statement.{statement}
 use Rattle.transition.proofs.begin.Tie as tie
@@ -13,24 +12,30 @@ enum-told : tie.Need-enum-told
 enum-told c = search needs
 
 restarts-requires : tie.Need-restarts-requires
-restarts-requires c κs = search needs
+restarts-requires c κs =
+    let c₁ = c .before .before .before in
+    let c₂ = c₁ .before .before .before in
+    let c₃ = c₂ .before .before .before .before .before .before in
+    let b = c₃ .before in steps-held _ (startupsOn (b .args .image .now) (b .args .b .plan) (b .args .b .first .words)) _ _ _ (b .pre) (c₂ .startups .ensures) (c₁ .enum-told .given .1)
 
 enum-told-2 : tie.Need-enum-told-2
 enum-told-2 c = search needs
 
 returns : tie.Need-returns
 returns c =
-    let h = c .before .before .before .before .before .before .before .before .startups in
-    (c .restarts .ensures .0, λ t k. then-done (rowsIn t _ _ _ (h .result .counts) (h .result .held)) _ (h .ensures .1 t) (c .before .before .before .before .enum-told .given .1) (c .restarts .ensures .1 t k))
+    let c₁ = c .before .before .before .before in
+    let c₂ = c₁ .before .before .before in
+    let c₃ = c₂ .before .before .before .before .before .before .before in
+    let a = c₃ .args in
+    let f = startupsOn (a .image .now) (a .b .plan) (a .b .first .words) in
+    steps-then _ f (restartsOn (a .image .now) (a .b .plan)) _ _ _ _ _ (c₂ .startups .ensures) (c₁ .enum-told .given .1) (c .restarts .ensures)
 
 returns-2 : tie.Need-returns-2
 returns-2 c =
-    let h = c .before .before .before .before .startups in (
-      h .ensures .0,
-      λ t k.
-          let u = rowsIn t _ _ _ (h .result .counts) (h .result .held) in
-          then-refused u _ (h .ensures .1 t) (c .enum-told2 .given .1) ∙ ap (λ o. finished o u) (sym (c .enum-told2 .given .1)),
-    )
+    let a = c .before .before .before .before .before .before .before .before .before .before .args in
+    let f = startupsOn (a .image .now) (a .b .plan) (a .b .first .words) in
+    let e = c .enum-told2 .given .1 in
+    steps-end _ f (restartsOn (a .image .now) (a .b .plan)) _ _ _ _ _ (c .before .before .before .startups .ensures) e e
 
 pub begin-spec : {M : Type 1} → statement M
 begin-spec =

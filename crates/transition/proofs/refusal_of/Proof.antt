@@ -21,10 +21,16 @@ within-requires : tie.Need-within-requires
 within-requires c κs = search needs
 
 returns-3 : tie.Need-returns-3
-returns-3 c = refused-tag _ _ (c .before .before .before .before .before .before .is-known .ensures) (not-false _ (c .before .before .before .before .before .if1 .left)) (c .before .before .before .before .mode-reactor .ensures) (c .before .before .if2 .left) (c .before .within .ensures) (not-true _ (c .if3 .taken))
+returns-3 c =
+    let c₁ = c .before .before .before .before in
+    refused-tag _ _ (c₁ .before .before .is-known .ensures) (not-false _ (c₁ .before .if1 .left)) (c₁ .mode-reactor .ensures) (c .before .before .if2 .left) (c .before .within .ensures)
+    (not-true _ (c .if3 .taken))
 
 returns-4 : tie.Need-returns-4
-returns-4 c = refused-none _ _ (c .before .before .before .before .before .before .is-known .ensures) (not-false _ (c .before .before .before .before .before .if1 .left)) (c .before .before .before .before .mode-reactor .ensures) (c .before .before .if2 .left) (c .before .within .ensures) (not-false _ (c .if3 .left))
+returns-4 c =
+    let c₁ = c .before .before .before .before in
+    refused-none _ _ (c₁ .before .before .is-known .ensures) (not-false _ (c₁ .before .if1 .left)) (c₁ .mode-reactor .ensures) (c .before .before .if2 .left) (c .before .within .ensures)
+    (not-false _ (c .if3 .left))
 
 pub refusal-of-spec : {M : Type 1} → statement M
 refusal-of-spec =

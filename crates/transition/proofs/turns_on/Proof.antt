@@ -1,53 +1,47 @@
--- `transition::turns_on` meets its contract. Assumes nothing.
-use mathlib.Core.Path.{refl}
-use Rattle.plan.specs.Plans.{planIn}
-use Rattle.turns.proofs.TurnLaws.{allTurns}
-use Rattle.transition.proofs.TransitLaws.{turns-good, turns-done, turns-refused}
+-- `transition::turns_on` meets its contract: step 3, and where it was done 4 and 5. Assumes nothing.
+use Rattle.lens.specs.Holds.{steps-held, steps-then, steps-end}
+use Rattle.turns.specs.Turns.{allTurns}
+use Rattle.transition.specs.Transiting.{startsOn}
+use Rattle.transition.proofs.TransitLaws.{turns-steps}
 use borrow.Author.Needs.{needs}
 use Rattle.transition.proofs.turns_on.Statement.{statement}
 use Rattle.transition.proofs.turns_on.Tie as tie
 
 firsts-requires : tie.Need-firsts-requires
-firsts-requires c κs = search needs
+firsts-requires c κs = c .before .before .pre .holds .table
 
 turn-scopes-requires : tie.Need-turn-scopes-requires
-turn-scopes-requires c κs =
-    let b = c .before .before .before .before .before .before .before .before in
-    let g = b .pre .1 .1 in
-    (b .pre .0, (g .waits, (b .pre .1 .0, (g .holds .stored, g .holds .fits))))
+turn-scopes-requires c κs = search needs
 
 enum-told : tie.Need-enum-told
 enum-told c = search needs
 
 begin-requires : tie.Need-begin-requires
 begin-requires c κs =
-    let b = c .before .before .before .before .before .before .before .before .before .before .before .before .before .before .before .before in
-    let a = b .args in
-    let t = c .before .before .before .before .before .before .before .turn-scopes in
-    (b .pre .0, turns-good (a .image .now) (t .last .1 .0) (t .last .1 .1 .0) (t .last .1 .1 .1 .0) (t .last .1 .1 .1 .1 .0) (a .plan .counts) (t .result .held) (t .result .outcome) (allTurns (a .image .now) (planIn (a .image .now) (a .plan)) (a .plan .counts) (a .scopes .now) (a .events .now) (a .values .now) (a .buckets .now) (a .plan .held)) (t .ensures .0) (t .ensures .1) (c .before .before .before .before .enum-told .given .1))
+    let c₁ = c .before .before .before .before in
+    let c₂ = c₁ .before .before .before in
+    let c₃ = c₂ .before .before .before .before .before .before .before in
+    let b = c₃ .before in
+    steps-held _ (allTurns (b .args .image .now) (b .args .plan)) _ _ _ (b .pre) (c₂ .turn-scopes .ensures) (c₁ .enum-told .given .1)
 
-enum-known-o : tie.Need-enum-known-o
-enum-known-o c = search needs
+enum-told-2 : tie.Need-enum-told-2
+enum-told-2 c = search needs
 
 returns : tie.Need-returns
 returns c =
-    let b = c .before .before .before .before .before .before .before .before .before .before .before .before .before .before .before .before .before in
-    let a = b .args in
+    let a = c .before .before .before .before .before .before .before .before .before .before .before .before .before .before .before .before .args in
     let f = c .before .before .before .before .before .before .before .before .before .before .before .before .before .firsts in
-    let t = c .before .before .before .before .before .before .before .before .turn-scopes in
-    λ s r. turns-done (a .image .now) (b .pre .0) (a .plan) s (a .scopes .now) (a .events .now) (a .values .now) (a .buckets .now) (a .plan .counts) (a .plan .held) r
-    (t .result .outcome) (t .last .1 .0) (t .last .1 .1 .0) (t .last .1 .1 .1 .0) (t .last .1 .1 .1 .1 .0) (t .result .held) (f .result .words) (f .ensures) (t .ensures .0) (t .ensures .1)
-    (c .begin .result) _ _ _ (c .before .before .before .before .before .enum-told .given .1) (c .begin .ensures .0) (c .begin .ensures .1)
+    turns-steps (a .image .now) (a .plan) (f .result .words) _ (f .ensures) _ _
+    (steps-then _ (allTurns (a .image .now) (a .plan)) (startsOn (a .image .now) (a .plan) (f .result .words)) _ _ _ _ _
+    (c .before .before .before .before .before .before .before .before .turn-scopes .ensures) (c .before .before .before .before .before .enum-told .given .1) (c .begin .ensures))
 
 returns-2 : tie.Need-returns-2
 returns-2 c =
-    let b = c .before .before .before .before .before .before .before .before .before .before .before .before .before in
-    let a = b .args in
-    let f = c .before .before .before .before .before .before .before .before .before .firsts in
-    let t = c .before .before .before .before .turn-scopes in
-    λ s r. turns-refused (a .image .now) (b .pre .0) (a .plan) s (a .scopes .now) (a .events .now) (a .values .now) (a .buckets .now) (a .plan .counts) (a .plan .held) r
-    (t .result .outcome) (t .last .1 .0) (t .last .1 .1 .0) (t .last .1 .1 .1 .0) (t .last .1 .1 .1 .1 .0) (t .result .held) (f .result .words) (f .ensures) (t .ensures .0) (t .ensures .1)
-    (a .plan .counts) (t .result .held) (t .last .1 .0) (t .last .1 .1 .0) (t .last .1 .1 .1 .0) (t .last .1 .1 .1 .1 .0) (c .before .o .given .1) refl
+    let a = c .before .before .before .before .before .before .before .before .before .before .before .args in
+    let f = c .before .before .before .before .before .before .before .before .firsts in
+    let e = c .enum-told2 .given .1 in
+    turns-steps (a .image .now) (a .plan) (f .result .words) _ (f .ensures) _ _
+    (steps-end _ (allTurns (a .image .now) (a .plan)) (startsOn (a .image .now) (a .plan) (f .result .words)) _ _ _ _ _ (c .before .before .before .turn-scopes .ensures) e e)
 
 pub turns-on-spec : {M : Type 1} → statement M
 turns-on-spec =
@@ -57,6 +51,6 @@ turns-on-spec =
     turn-scopes-requires
     enum-told
     begin-requires
-    enum-known-o
+    enum-told-2
     returns
     returns-2)

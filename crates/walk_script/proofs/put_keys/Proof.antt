@@ -46,12 +46,14 @@ put-short-requires-2 c κs = search needs
 
 add-k : tie.Need-add-k Inv-loop μ-loop
 add-k c =
-    let r = lowest-range _ _ wordCount (search needs) (told-key (c .before .before .before .before .before .f .given .1) (c .before .before .before .before .before .before .before .lowest-from .ensures)) in
+    let c₁ = c .before .before .before .before .before in
+    let r = lowest-range _ _ wordCount (search needs) (told-key (c₁ .f .given .1) (c₁ .before .before .lowest-from .ensures)) in
     omega (arith, r .1)
 
 loop-less : tie.Need-loop-less Inv-loop μ-loop
 loop-less c =
-    let r = lowest-range _ _ wordCount (search needs) (told-key (c .before .before .before .before .before .f .given .1) (c .before .before .before .before .before .before .before .lowest-from .ensures)) in
+    let c₁ = c .before .before .before .before .before in
+    let r = lowest-range _ _ wordCount (search needs) (told-key (c₁ .f .given .1) (c₁ .before .before .lowest-from .ensures)) in
     omega (arith, r .0, r .1)
 
 loop-again : tie.Need-loop-again Inv-loop μ-loop

@@ -37,7 +37,9 @@ loop-less : tie.Need-loop-less Inv-loop μ-loop
 loop-less c = search needs
 
 loop-again : tie.Need-loop-again Inv-loop μ-loop
-loop-again c = (search needs, one-count-more _ _ (c .before .before .before .before .before .before .loop .inv .1) (c .before .before .before .before .eight-bytes .ensures) (c .before .before .put-number .ensures))
+loop-again c =
+    let c₁ = c .before .before .before .before in
+    (search needs, one-count-more _ _ (c₁ .before .before .loop .inv .1) (c₁ .eight-bytes .ensures) (c .before .before .put-number .ensures))
 
 same-length : tie.Need-same-length Inv-loop μ-loop
 same-length c = written-long (c .before .loop .inv .1)

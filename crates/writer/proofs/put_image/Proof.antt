@@ -26,7 +26,11 @@ same-length : tie.Need-same-length
 same-length c = search needs
 
 returns : tie.Need-returns
-returns c = image-written _ _ (c .before .before .before .before .before .before .before .before .before .before .before .before .before .before .put-number .ensures) (c .before .before .before .before .before .before .before .before .before .before .put .ensures) (c .before .before .before .before .before .before .write-text .ensures) (c .before .before .write-text2 .ensures)
+returns c =
+    let c₁ = c .before .before .before .before .before .before in
+    let c₂ = c₁ .before .before .before .before in
+    let c₃ = c₂ .before .before .before .before in
+    image-written _ _ (c₃ .put-number .ensures) (c₂ .put .ensures) (c₁ .write-text .ensures) (c .before .before .write-text2 .ensures)
 
 pub put-image-spec : {M : Type 1} → statement M
 put-image-spec =

@@ -44,7 +44,12 @@ same-length : tie.Need-same-length
 same-length c = search needs
 
 returns : tie.Need-returns
-returns c = row-written _ _ _ (c .before .before .before .before .before .before .before .before .before .before .before .before .before .before .before .fields-at .ensures .0) (c .before .before .before .before .before .before .before .before .before .before .before .before .before .before .eight-bytes .ensures) (c .before .before .before .before .before .before .before .before .before .before .before .before .before .eight-bytes2 .ensures) (c .before .before .before .before .before .before .before .before .before .before .before .before .eight-bytes3 .ensures) (c .before .before .before .before .before .before .before .before .before .before .put-number .ensures) (c .before .before .before .before .before .before .put-number2 .ensures) (c .before .before .put-number3 .ensures)
+returns c =
+    let c₁ = c .before .before .before .before .before .before in
+    let c₂ = c₁ .before .before .before .before in
+    let c₃ = c₂ .before .before .before in
+    row-written _ _ _ (c₃ .before .before .fields-at .ensures .0) (c₃ .before .eight-bytes .ensures) (c₃ .eight-bytes2 .ensures) (c₂ .before .before .eight-bytes3 .ensures)
+    (c₂ .put-number .ensures) (c₁ .put-number2 .ensures) (c .before .before .put-number3 .ensures)
 
 pub put-row-spec : {M : Type 1} → statement M
 put-row-spec =

@@ -45,7 +45,14 @@ loop-less : tie.Need-loop-less Inv-loop μ-loop
 loop-less c = search needs
 
 loop-again : tie.Need-loop-again Inv-loop μ-loop
-loop-again c = (search needs, omega (arith, c .before .before .before .before .before .before .loop .inv .1), before-next _ _ (c .before .before .before .before .before .before .loop .inv .2) (c .before .before .before .before .two-bytes .ensures), one-kind-more _ _ _ (c .before .before .before .before .before .before .loop .inv .2) (c .before .before .before .before .two-bytes .ensures) (c .before .before .before .before .before .before .loop .inv .3) (c .before .before .put-rows-of .ensures))
+loop-again c =
+    let c₁ = c .before .before .before .before in
+    let c₂ = c₁ .before .before in (
+      search needs,
+      omega (arith, c₂ .loop .inv .1),
+      before-next _ _ (c₂ .loop .inv .2) (c₁ .two-bytes .ensures),
+      one-kind-more _ _ _ (c₂ .loop .inv .2) (c₁ .two-bytes .ensures) (c₂ .loop .inv .3) (c .before .before .put-rows-of .ensures),
+    )
 
 same-length : tie.Need-same-length Inv-loop μ-loop
 same-length c = written-long (c .before .loop .inv .3)

@@ -31,7 +31,9 @@ count-place-requires : tie.Need-count-place-requires
 count-place-requires c κs = search needs
 
 returns-2 : tie.Need-returns-2
-returns-2 c = refused-count _ _ (c .before .before .before .before .before .before .before .if1 .left) long (c .before .before .before .before .before .put-image .ensures) (c .before .before .bad-count .ensures) (c .before .if2 .taken) (c .count-place .ensures) _
+returns-2 c =
+    let c₁ = c .before .before .before .before .before in
+    refused-count _ _ (c₁ .before .before .if1 .left) long (c₁ .put-image .ensures) (c .before .before .bad-count .ensures) (c .before .if2 .taken) (c .count-place .ensures) _
 
 slice-aggregate-place : tie.Need-slice-aggregate-place
 slice-aggregate-place c = search needs
@@ -43,13 +45,22 @@ add-if3 : tie.Need-add-if3
 add-if3 c = search needs
 
 returns-3 : tie.Need-returns-3
-returns-3 c = refused-unfilled _ _ (c .before .before .before .before .before .before .before .before .before .if1 .left) long (c .before .before .before .before .before .before .before .put-image .ensures) (c .before .before .before .before .bad-count .ensures) (c .before .before .before .if2 .left) (c .before .place .ensures .0) (c .if3 .taken) _
+returns-3 c =
+    let c₁ = c .before .before .before in
+    let c₂ = c₁ .before .before .before .before in
+    refused-unfilled _ _ (c₂ .before .before .if1 .left) long (c₂ .put-image .ensures) (c₁ .before .bad-count .ensures) (c₁ .if2 .left) (c .before .place .ensures .0) (c .if3 .taken) _
 
 array-share-prefix-image : tie.Need-array-share-prefix-image
-array-share-prefix-image c = in-room _ _ (c .before .before .before .before .before .before .before .before .before .if1 .left) long (c .before .before .before .before .before .before .before .put-image .ensures) (c .before .before .before .before .bad-count .ensures) (c .before .before .before .if2 .left) (c .before .place .ensures .0)
+array-share-prefix-image c =
+    let c₁ = c .before .before .before in
+    let c₂ = c₁ .before .before .before .before in
+    in-room _ _ (c₂ .before .before .if1 .left) long (c₂ .put-image .ensures) (c₁ .before .bad-count .ensures) (c₁ .if2 .left) (c .before .place .ensures .0)
 
 slice-aggregate-check-rows : tie.Need-slice-aggregate-check-rows
-slice-aggregate-check-rows c = taken-long _ _ (c .before .before .before .before .before .before .before .before .before .before .if1 .left) long (c .before .before .before .before .before .before .before .before .put-image .ensures) (c .before .before .before .before .before .bad-count .ensures) (c .before .before .before .before .if2 .left) (c .before .before .place .ensures .0)
+slice-aggregate-check-rows c =
+    let c₁ = c .before .before .before .before in
+    let c₂ = c₁ .before .before .before .before in
+    taken-long _ _ (c₂ .before .before .if1 .left) long (c₂ .put-image .ensures) (c₁ .before .bad-count .ensures) (c₁ .if2 .left) (c .before .before .place .ensures .0)
 
 check-rows-requires : tie.Need-check-rows-requires
 check-rows-requires c κs = search needs
@@ -61,25 +72,52 @@ enum-told : tie.Need-enum-told
 enum-told c = search needs
 
 returns-4 : tie.Need-returns-4
-returns-4 c = no-room _ _ (c .before .before .before .before .before .before .before .before .before .before .before .before .before .before .if1 .left) long (c .before .before .before .before .before .before .before .before .before .before .before .before .put-image .ensures) (c .before .before .before .before .before .before .before .before .before .bad-count .ensures) (c .before .before .before .before .before .before .before .before .if2 .left) (c .before .before .before .before .before .before .place .ensures .0) (c .before .before .before .before .before .if3 .left) (c .before .before .before .check-rows .ensures) (c .before .enum-told .given .1) _ (c .if4 .taken)
+returns-4 c =
+    let c₁ = c .before .before .before in
+    let c₂ = c₁ .before .before .before in
+    let c₃ = c₂ .before .before .before in
+    let c₄ = c₃ .before .before .before in
+    no-room _ _ (c₄ .before .before .if1 .left) long (c₄ .put-image .ensures) (c₃ .bad-count .ensures) (c₂ .before .before .if2 .left) (c₂ .place .ensures .0)
+    (c₁ .before .before .if3 .left) (c₁ .check-rows .ensures) (c .before .enum-told .given .1) _ (c .if4 .taken)
 
 array-share-prefix-image-2 : tie.Need-array-share-prefix-image-2
-array-share-prefix-image-2 c = in-room _ _ (c .before .before .before .before .before .before .before .before .before .before .before .before .before .before .before .if1 .left) long (c .before .before .before .before .before .before .before .before .before .before .before .before .before .put-image .ensures) (c .before .before .before .before .before .before .before .before .before .before .bad-count .ensures) (c .before .before .before .before .before .before .before .before .before .if2 .left) (c .before .before .before .before .before .before .before .place .ensures .0)
+array-share-prefix-image-2 c =
+    let c₁ = c .before .before .before .before .before .before .before in
+    let c₂ = c₁ .before .before .before in
+    let c₃ = c₂ .before .before .before in
+    in-room _ _ (c₃ .before .before .if1 .left) long (c₃ .put-image .ensures) (c₂ .bad-count .ensures) (c₁ .before .before .if2 .left) (c₁ .place .ensures .0)
 
 slice-aggregate-write-text : tie.Need-slice-aggregate-write-text
-slice-aggregate-write-text c = taken-long _ _ (c .before .before .before .before .before .before .before .before .before .before .before .before .before .before .before .before .if1 .left) long (c .before .before .before .before .before .before .before .before .before .before .before .before .before .before .put-image .ensures) (c .before .before .before .before .before .before .before .before .before .before .before .bad-count .ensures) (c .before .before .before .before .before .before .before .before .before .before .if2 .left) (c .before .before .before .before .before .before .before .before .place .ensures .0)
+slice-aggregate-write-text c =
+    let c₁ = c .before .before .before .before .before .before .before .before in
+    let c₂ = c₁ .before .before .before in
+    let c₃ = c₂ .before .before .before in
+    taken-long _ _ (c₃ .before .before .if1 .left) long (c₃ .put-image .ensures) (c₂ .bad-count .ensures) (c₁ .before .before .if2 .left) (c₁ .place .ensures .0)
 
 write-text-requires : tie.Need-write-text-requires
 write-text-requires c κs = search needs
 
 returns-5 : tie.Need-returns-5
-returns-5 c = refused-row _ _ (c .before .before .before .before .before .before .before .before .before .before .before .before .before .before .if1 .left) long (c .before .before .before .before .before .before .before .before .before .before .before .before .put-image .ensures) (c .before .before .before .before .before .before .before .before .before .bad-count .ensures) (c .before .before .before .before .before .before .before .before .if2 .left) (c .before .before .before .before .before .before .place .ensures .0) (c .before .before .before .before .before .if3 .left) (c .before .before .before .check-rows .ensures) (c .before .why .given .1) _
+returns-5 c =
+    let c₁ = c .before .before .before in
+    let c₂ = c₁ .before .before .before in
+    let c₃ = c₂ .before .before .before in
+    let c₄ = c₃ .before .before .before in
+    refused-row _ _ (c₄ .before .before .if1 .left) long (c₄ .put-image .ensures) (c₃ .bad-count .ensures) (c₂ .before .before .if2 .left) (c₂ .place .ensures .0)
+    (c₁ .before .before .if3 .left) (c₁ .check-rows .ensures) (c .before .why .given .1) _
 
 same-length : tie.Need-same-length
 same-length c = search needs
 
 returns-6 : tie.Need-returns-6
-returns-6 c = all-written _ _ (c .before .before .before .before .before .before .before .before .before .before .before .before .before .before .before .before .before .before .before .if1 .left) long (c .before .before .before .before .before .before .before .before .before .before .before .before .before .before .before .before .before .put-image .ensures) (c .before .before .before .before .before .before .before .before .before .before .before .before .before .before .bad-count .ensures) (c .before .before .before .before .before .before .before .before .before .before .before .before .before .if2 .left) (c .before .before .before .before .before .before .before .before .before .before .before .place .ensures .0) (c .before .before .before .before .before .before .before .before .before .before .if3 .left) (c .before .before .before .before .before .before .before .before .check-rows .ensures) (c .before .before .before .before .before .before .enum-told .given .1) (c .before .before .before .before .before .if4 .left) (c .before .before .write-text .ensures)
+returns-6 c =
+    let c₁ = c .before .before .before .before .before in
+    let c₂ = c₁ .before .before .before in
+    let c₃ = c₂ .before .before .before in
+    let c₄ = c₃ .before .before .before in
+    let c₅ = c₄ .before .before .before in
+    all-written _ _ (c₅ .before .before .if1 .left) long (c₅ .put-image .ensures) (c₄ .bad-count .ensures) (c₃ .before .before .if2 .left) (c₃ .place .ensures .0)
+    (c₂ .before .before .if3 .left) (c₂ .check-rows .ensures) (c₁ .before .enum-told .given .1) (c₁ .if4 .left) (c .before .before .write-text .ensures)
 
 pub write-spec : {M : Type 1} → statement M
 write-spec =

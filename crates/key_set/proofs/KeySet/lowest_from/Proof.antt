@@ -39,10 +39,14 @@ shr-rest : tie.Need-shr-rest Inv-loop μ-loop
 shr-rest c = search needs
 
 cast-zeros : tie.Need-cast-zeros Inv-loop μ-loop
-cast-zeros c = omega (arith, trailing-le 64 (getD (c .before .before .before .before .before .args .t1 .words) (c .before .before .before .before .loop .i) 0 / 2 ^ (c .before .before .before .before .loop .at % 64)))
+cast-zeros c =
+    let c₁ = c .before .before .before .before in
+    omega (arith, trailing-le 64 (getD (c₁ .before .args .t1 .words) (c₁ .loop .i) 0 / 2 ^ (c₁ .loop .at % 64)))
 
 add-key : tie.Need-add-key Inv-loop μ-loop
-add-key c = omega (arith, trailing-le 64 (getD (c .before .before .before .before .before .args .t1 .words) (c .before .before .before .before .loop .i) 0 / 2 ^ (c .before .before .before .before .loop .at % 64)))
+add-key c =
+    let c₁ = c .before .before .before .before in
+    omega (arith, trailing-le 64 (getD (c₁ .before .args .t1 .words) (c₁ .loop .i) 0 / 2 ^ (c₁ .loop .at % 64)))
 
 returns : tie.Need-returns Inv-loop μ-loop
 returns c =

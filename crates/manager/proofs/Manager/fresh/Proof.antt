@@ -1,5 +1,5 @@
--- `manager::Manager::fresh` meets its contract: over an accepted table and over another. Assumes nothing.
-use Rattle.manager.proofs.Packs.{fresh-table, fresh-prefix, fresh-own, fresh-packs, blank-packs}
+-- `manager::Manager::fresh` meets its contract: a fresh state's rows, or blank ones. Assumes nothing.
+use Rattle.manager.proofs.Packs.{fresh-table, fresh-packs, blank-packs}
 use borrow.Author.Needs.{needs}
 use Rattle.manager.proofs.Manager.fresh.Statement.{statement}
 use Rattle.manager.proofs.Manager.fresh.Tie as tie
@@ -16,29 +16,17 @@ blank-rows-requires c κs = search needs
 bare-requires : tie.Need-bare-requires
 bare-requires c κs = search needs
 
+pack-requires : tie.Need-pack-requires
+pack-requires c κs = search needs
+
 enum-told-2 : tie.Need-enum-told-2
 enum-told-2 c = search needs
 
-modes-requires : tie.Need-modes-requires
-modes-requires c κs = search fresh-table
+room-requires : tie.Need-room-requires
+room-requires c κs = search fresh-table
 
-count-requires : tie.Need-count-requires
-count-requires c κs = search needs
-
-cast-end : tie.Need-cast-end
-cast-end c = search needs
-
-array-share-prefix-modes : tie.Need-array-share-prefix-modes
-array-share-prefix-modes c = search fresh-prefix
-
-slice-aggregate-scopes : tie.Need-slice-aggregate-scopes
-slice-aggregate-scopes c = search fresh-own
-
-scopes-requires : tie.Need-scopes-requires
-scopes-requires c κs = search fresh-table
-
-bare-requires-2 : tie.Need-bare-requires-2
-bare-requires-2 c κs = search needs
+pack-requires-2 : tie.Need-pack-requires-2
+pack-requires-2 c κs = search needs
 
 returns : tie.Need-returns
 returns c = (search needs, search blank-packs)
@@ -54,13 +42,9 @@ fresh-spec =
     enum-told
     blank-rows-requires
     bare-requires
+    pack-requires
     enum-told-2
-    modes-requires
-    count-requires
-    cast-end
-    array-share-prefix-modes
-    slice-aggregate-scopes
-    scopes-requires
-    bare-requires-2
+    room-requires
+    pack-requires-2
     returns
     returns-2)

@@ -1,6 +1,5 @@
 -- `manager::Manager::scope_active` meets its contract: refused as the rules say, or the mark. Assumes nothing.
 use Rattle.manager.specs.Views.{arraysOf}
-use Rattle.machine.specs.Machine.{activeNow}
 use Rattle.manager.proofs.Calls.{call-eleven, active-key, call-active}
 use borrow.Author.Needs.{needs}
 use Rattle.manager.proofs.Manager.scope_active.Statement.{statement}
@@ -10,19 +9,25 @@ enter-requires : tie.Need-enter-requires
 enter-requires c κs = search needs
 
 returns : tie.Need-returns
-returns c = let a = c .before .before .before .before .before .before .args in call-eleven (a .image .now) (arraysOf (a .self)) (c .before .before .before .before .enter .ensures .0) (activeNow (a .scope)) (c .if1 .taken)
+returns c = search call-eleven
 
 count-requires : tie.Need-count-requires
 count-requires c κs = search needs
 
 returns-2 : tie.Need-returns-2
-returns-2 c = let a = c .before .before .before .before .before .before .before .before .args in active-key (a .image .now) (arraysOf (a .self)) (c .before .before .before .before .before .before .enter .ensures .0) (c .before .before .if1 .left) _ (c .before .before .before .before .before .before .enter .ensures .1) (a .scope) (c .before .count .ensures) (c .if2 .taken)
+returns-2 c = search active-key
 
 scope-at-requires : tie.Need-scope-at-requires
 scope-at-requires c κs = search needs
 
 returns-3 : tie.Need-returns-3
-returns-3 c = let a = c .before .before .before .before .before .before .before .before .before .before .args in call-active (a .image .now) (arraysOf (a .self)) (c .before .before .before .before .before .before .before .before .enter .ensures .0) (c .before .before .before .before .if1 .left) _ (c .before .before .before .before .before .before .before .before .enter .ensures .1) (a .scope) (c .before .before .before .count .ensures) (c .before .before .if2 .left) _ (c .scope-at .ensures)
+returns-3 c =
+    let k = c .before .before in
+    let i = k .before .before in
+    let e = i .before .before .before .before in
+    let a = e .before .before .args in
+    call-active (a .image .now) (arraysOf (a .self)) (e .enter .ensures .0) (i .if1 .left) _ (e .enter .ensures .1) (a .scope) (k .before .count .ensures) (k .if2 .left) _
+    (c .scope-at .ensures)
 
 pub scope-active-spec : {M : Type 1} → statement M
 scope-active-spec =

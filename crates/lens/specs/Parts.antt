@@ -1,4 +1,4 @@
--- The rows of events and values that a transition's steps are lent, and the machine's state that they hold. Assumes nothing.
+-- A state with those parts that some lent rows hold, as the steps of a transition change them; and such steps as steps on the whole room. Assumes nothing.
 use mathlib.Core.Bool.{Bool, true, false, cond, not, _&&_, _||_}
 use mathlib.Core.Path.{_≡_, refl, ap, _∙_, sym}
 use mathlib.Core.List.{List, [], _∷_, _++_}
@@ -19,26 +19,28 @@ use Rattle.entries.specs.Entries.{mostHeld}
 use Rattle.store.specs.Store.{Store, pushed, lacks, isValue, isBucket}
 use Rattle.store_calls.specs.declared.Counts as store
 use Rattle.store_calls.specs.declared.Changed.{Changed}
-use Rattle.store_calls.specs.declared.Outcome.{Outcome}
-use Rattle.store_calls.specs.declared.Outcome.the-variants as O
+use Rattle.refusals.specs.declared.Outcome.{Outcome}
+use Rattle.refusals.specs.declared.Outcome.the-variants as O
 use Rattle.store_calls.specs.Lent.{storeOf, Lent, Laid, Did, told, after}
 use Rattle.machine.specs.State.{Event, State, mostWaiting, ordinary, withQueue, withStore, withModes, tally, accepted}
+use Rattle.rows.specs.Bytes.{Image}
 use Rattle.machine.specs.Transition.{Step, held}
 use Rattle.slots.specs.Slots as slot
 use Rattle.slots.specs.Slots.{eventsOf}
 use Rattle.lens.specs.declared.Counts.{Counts}
 use Rattle.lens.specs.Padded.{padded}
-use Rattle.lens.specs.Lens.{Queued, Waits, waits-queued, queued-is, queued-waits, queued-more, Stored, Fits, stored-lent, stored-is, stored-laid}
+use Rattle.lens.specs.Holds.{Rows, Holds, Steps, After, shows}
+use Rattle.lens.specs.Lens.{Shows, Queued, Waits, waits-queued, queued-is, queued-waits, queued-more, Stored, Fits, stored-lent, stored-is, stored-laid}
 
--- the values and buckets, and blanks behind them
-pub record Holds (vs bs : List ℕ) (h : store.Counts) : Type 0 where
+-- what a working function asks of the rows of values and buckets that it is lent: blanks behind those that are held
+pub record Keeps (vs bs : List ℕ) (h : store.Counts) : Type 0 where
   pub stored : Stored (storeOf vs bs h) vs bs h
   pub fits : Fits (storeOf vs bs h)
 
 -- and the events
 pub record Good (es vs bs : List ℕ) (c : Counts) (h : store.Counts) : Type 0 where
   pub waits : Waits es c
-  pub holds : Holds vs bs h
+  pub keeps : Keeps vs bs h
 
 -- a state with the events, or the store, or both, that the rows hold
 abbrev pub queueIn : State → List ℕ → Counts → State
@@ -71,11 +73,11 @@ module _ (s : State) (es vs bs : List ℕ) (c : Counts) (h : store.Counts) where
   pub rows-good : Queued (s .waiting) (s .work) es c → length (s .waiting) ≤ mostWaiting → s .work ≡ count ordinary (s .waiting) → Stored (s .store) vs bs h → Fits (s .store) → Good es vs bs c h
   rows-good q l k t f =
       let b = stored-is (s .store) vs bs h t f in
-      record { waits = queued-waits (s .waiting) (s .work) es c q l k; holds = record { stored = rw b t; fits = rw b f } }
+      record { waits = queued-waits (s .waiting) (s .work) es c q l k; keeps = record { stored = rw b t; fits = rw b f } }
 
 -- ---- the store
 
-module _ (vs bs : List ℕ) (h : store.Counts) (k : Holds vs bs h) where
+module _ (vs bs : List ℕ) (h : store.Counts) (k : Keeps vs bs h) where
   -- a new store laid over it
   module _ (t : Store) (vs-end bs-end : List ℕ) (m : store.Counts) (f : Fits t) (l : Laid vs bs h t vs-end bs-end m) where
     abbrev now-stored : Stored t vs-end bs-end m
@@ -84,10 +86,10 @@ module _ (vs bs : List ℕ) (h : store.Counts) (k : Holds vs bs h) where
     pub laid-is : storeOf vs-end bs-end m ≡ t
     laid-is = stored-is t vs-end bs-end m now-stored f
 
-    pub laid-holds : Holds vs-end bs-end m
+    pub laid-holds : Keeps vs-end bs-end m
     laid-holds = record { stored = rw laid-is now-stored; fits = rw laid-is f }
 
-pushed-fits : (st : Store) (a : ℕ) (t : Tag) (v : ℕ) (u : Store) → Fits st → pushed st a t v ≡ done u → Fits u
+pub pushed-fits : (st : Store) (a : ℕ) (t : Tag) (v : ℕ) (u : Store) → Fits st → pushed st a t v ≡ done u → Fits u
 unfolding pushed lacks
 pushed-fits st a t v u f e =
     let x = unless-is (lacks (isValue a t) (st .values) || lacks (isBucket a (t .offset)) (st .buckets)) R.Held e in
@@ -98,12 +100,12 @@ pushed-fits st a t v u f e =
     }
 
 -- a value pushed
-module _ (vs bs : List ℕ) (h : store.Counts) (k : Holds vs bs h) (a : ℕ) (t : Tag) (vs-end bs-end : List ℕ) (m : Changed)
+module _ (vs bs : List ℕ) (h : store.Counts) (k : Keeps vs bs h) (a : ℕ) (t : Tag) (vs-end bs-end : List ℕ) (m : Changed)
     (d : Did vs bs h (pushed (storeOf vs bs h) a t 0) vs-end bs-end m) where
-  pub push-holds : Holds vs-end bs-end (m .held)
+  pub push-holds : Keeps vs-end bs-end (m .held)
   push-holds = go (pushed (storeOf vs bs h) a t 0) refl d
     where
-      go : (r : Result Refusal Store) → pushed (storeOf vs bs h) a t 0 ≡ r → Did vs bs h r vs-end bs-end m → Holds vs-end bs-end (m .held)
+      go : (r : Result Refusal Store) → pushed (storeOf vs bs h) a t 0 ≡ r → Did vs bs h r vs-end bs-end m → Keeps vs-end bs-end (m .held)
       go (done u) e d = laid-holds vs bs h k u vs-end bs-end (m .held) (pushed-fits _ a t 0 u (k .fits) e) (d .laid)
       go (refused x) e d = laid-holds vs bs h k (storeOf vs bs h) vs-end bs-end (m .held) (k .fits) (d .laid)
 
@@ -168,3 +170,44 @@ module _ (es : List ℕ) (c : Counts) (w : Waits es c) (e : Event) (es-end : Lis
     more-step s =
         let l : length before < mostWaiting = rw long room in
         rw (lt-leb mostWaiting _ l, queued-is (before ++ (e ∷ [])) (tally e (c .work)) es-end m now-queued fit, g)
+
+-- ---- a step on the events and the store, as a step on the whole room
+
+-- other events and another store in the room
+abbrev pub changed : Rows → List ℕ → List ℕ → List ℕ → Counts → store.Counts → Rows
+changed r es vs bs c h =
+    record { scopes = r .scopes; events = es; values = vs; buckets = bs; ledger = record { modes = r .ledger .modes; counts = c; held = h } }
+
+module _ (img : Image) (s : State) (r : Rows) (k : Holds img s r) where
+  pub holds-good : Good (r .events) (r .values) (r .buckets) (r .ledger .counts) (r .ledger .held)
+  holds-good = rows-good s _ _ _ _ _ (k .queued) (k .few) (k .counted) (k .stored) (k .fits)
+
+  pub holds-are : rowsIn s (r .events) (r .values) (r .buckets) (r .ledger .counts) (r .ledger .held) ≡ s
+  holds-are = rows-are s _ _ _ _ _ (k .queued) (k .few) (k .stored) (k .fits)
+
+  pub good-holds : (es vs bs : List ℕ) (c : Counts) (h : store.Counts) → Good es vs bs c h → Holds img (rowsIn s es vs bs c h) (changed r es vs bs c h)
+  good-holds es vs bs c h g =
+      let q = waits-queued es c (g .waits) in
+      record {
+        table = k .table;
+        moded = k .moded;
+        modes-long = k .modes-long;
+        scoped = k .scoped;
+        scopes-long = k .scopes-long;
+        queued = q;
+        few = rw (← (q .waiting)) (g .waits .few);
+        counted = g .waits .counted;
+        stored = g .keeps .stored;
+        fits = g .keeps .fits;
+      }
+
+-- a step that is known for every state with these rows' events and store
+pub steps-by : (img : Image) (f : State → Step) (r : Rows) (o : Outcome) (es vs bs : List ℕ) (c : Counts) (h : store.Counts) → Good es vs bs c h →
+    ((t : State) → Shows t (r .scopes) → f (rowsIn t (r .events) (r .values) (r .buckets) (r .ledger .counts) (r .ledger .held)) ≡ finished o (rowsIn t es vs bs c h)) →
+    Steps img f r o (changed r es vs bs c h)
+steps-by img f r o es vs bs c h g e s k =
+    rw (ap f (sym (holds-are img s r k)) ∙ e s (shows img s r k)) (go o)
+  where
+    go : (o : Outcome) → After img (finished o (rowsIn s es vs bs c h)) o (changed r es vs bs c h)
+    go O.Done = (refl, good-holds img s r k es vs bs c h g)
+    go (O.Refused n) = refl
