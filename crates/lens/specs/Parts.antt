@@ -22,15 +22,17 @@ use Rattle.store_calls.specs.declared.Changed.{Changed}
 use Rattle.refusals.specs.declared.Outcome.{Outcome}
 use Rattle.refusals.specs.declared.Outcome.the-variants as O
 use Rattle.store_calls.specs.Lent.{storeOf, Lent, Laid, Did, told, after}
-use Rattle.machine.specs.State.{Event, State, mostWaiting, ordinary, withQueue, withStore, withModes, tally, accepted}
+use Rattle.machine.specs.State.{Event, Scope, State, mostWaiting, ordinary, withQueue, withStore, withModes, withScopes, tally, accepted}
 use Rattle.rows.specs.Bytes.{Image}
 use Rattle.machine.specs.Transition.{Step, held}
 use Rattle.slots.specs.Slots as slot
 use Rattle.slots.specs.Slots.{eventsOf}
+use Rattle.machine.specs.Table.{scopes, reactors}
 use Rattle.lens.specs.declared.Counts.{Counts}
+use Rattle.lens.specs.declared.Ledger.{Ledger}
 use Rattle.lens.specs.Padded.{padded}
 use Rattle.lens.specs.Holds.{Rows, Holds, Steps, After, shows}
-use Rattle.lens.specs.Lens.{Shows, Queued, Waits, waits-queued, queued-is, queued-waits, queued-more, Stored, Fits, stored-lent, stored-is, stored-laid}
+use Rattle.lens.specs.Lens.{mostReactors, Shows, Scoped, Queued, Waits, waits-queued, queued-is, queued-waits, queued-more, Stored, Fits, stored-lent, stored-is, stored-laid}
 
 -- what a working function asks of the rows of values and buckets that it is lent: blanks behind those that are held
 pub record Keeps (vs bs : List ℕ) (h : store.Counts) : Type 0 where
@@ -173,10 +175,22 @@ module _ (es : List ℕ) (c : Counts) (w : Waits es c) (e : Event) (es-end : Lis
 
 -- ---- a step on the events and the store, as a step on the whole room
 
--- other events and another store in the room
+-- other counts, or other modes, in the ledger
+abbrev pub recounted : Ledger → Counts → store.Counts → Ledger
+recounted l c h = record { modes = l .modes; counts = c; held = h }
+
+abbrev pub remoded : Ledger → List ℕ → Ledger
+remoded l m = record { modes = m; counts = l .counts; held = l .held }
+
+-- other events and another store, other scopes, or other modes, in the room
 abbrev pub changed : Rows → List ℕ → List ℕ → List ℕ → Counts → store.Counts → Rows
-changed r es vs bs c h =
-    record { scopes = r .scopes; events = es; values = vs; buckets = bs; ledger = record { modes = r .ledger .modes; counts = c; held = h } }
+changed r es vs bs c h = record { scopes = r .scopes; events = es; values = vs; buckets = bs; ledger = recounted (r .ledger) c h }
+
+abbrev pub rescoped : Rows → List ℕ → Rows
+rescoped r xs = record { scopes = xs; events = r .events; values = r .values; buckets = r .buckets; ledger = r .ledger }
+
+abbrev pub withLedger : Rows → Ledger → Rows
+withLedger r l = record { scopes = r .scopes; events = r .events; values = r .values; buckets = r .buckets; ledger = l }
 
 module _ (img : Image) (s : State) (r : Rows) (k : Holds img s r) where
   pub holds-good : Good (r .events) (r .values) (r .buckets) (r .ledger .counts) (r .ledger .held)
@@ -199,6 +213,36 @@ module _ (img : Image) (s : State) (r : Rows) (k : Holds img s r) where
         counted = g .waits .counted;
         stored = g .keeps .stored;
         fits = g .keeps .fits;
+      }
+
+  pub scopes-hold : (ss : List Scope) (xs : List ℕ) → length ss ≡ scopes img → Scoped ss xs → Holds img (withScopes s ss) (rescoped r xs)
+  scopes-hold ss xs l h =
+      record {
+        table = k .table;
+        moded = k .moded;
+        modes-long = k .modes-long;
+        scoped = h;
+        scopes-long = l;
+        queued = k .queued;
+        few = k .few;
+        counted = k .counted;
+        stored = k .stored;
+        fits = k .fits;
+      }
+
+  pub modes-hold : (ms m : List ℕ) → m ≡ padded 0 mostReactors ms → length ms ≡ reactors img → Holds img (withModes s ms) (withLedger r (remoded (r .ledger) m))
+  modes-hold ms m e l =
+      record {
+        table = k .table;
+        moded = e;
+        modes-long = l;
+        scoped = k .scoped;
+        scopes-long = k .scopes-long;
+        queued = k .queued;
+        few = k .few;
+        counted = k .counted;
+        stored = k .stored;
+        fits = k .fits;
       }
 
 -- a step that is known for every state with these rows' events and store

@@ -17,6 +17,7 @@ use Rattle.machine.specs.State.{Scope, mostWaiting}
 use Rattle.slots.specs.Slots as slot
 use Rattle.slots.specs.Slots.{eventOf, eventsOf}
 use Rattle.scopes.specs.Scopes.{mostScopes, scopesOf}
+use Rattle.lens.specs.Parts.{recounted}
 use Rattle.lens.specs.Padded.{padded}
 use Rattle.lens.specs.Lens.{mostReactors, Scoped}
 use Rattle.machine.specs.Machine as M
@@ -90,12 +91,12 @@ pub record Unpacks (img : Image) (a : Arrays) (u : Room) : Type 0 where
 -- the rows with other events
 abbrev pub withEvents : Room → List ℕ → Counts → Room
 withEvents u ws c =
-    record { scopes = u .scopes; events = ws; values = u .values; buckets = u .buckets; ledger = record { modes = u .ledger .modes; counts = c; held = u .ledger .held } }
+    record { scopes = u .scopes; events = ws; values = u .values; buckets = u .buckets; ledger = recounted (u .ledger) c (u .ledger .held) }
 
 -- the rows with other values
 abbrev pub withValues : Room → List ℕ → List ℕ → store.Counts → Room
 withValues u vs bs h =
-    record { scopes = u .scopes; events = u .events; values = vs; buckets = bs; ledger = record { modes = u .ledger .modes; counts = u .ledger .counts; held = h } }
+    record { scopes = u .scopes; events = u .events; values = vs; buckets = bs; ledger = recounted (u .ledger) (u .ledger .counts) h }
 
 -- ---- the calls of the value store among the machine's, and their answers
 

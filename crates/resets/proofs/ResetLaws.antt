@@ -37,7 +37,7 @@ use Rattle.lens.specs.declared.Counts.{Counts}
 use Rattle.lens.specs.Lens.{Queued, Waits, waits-queued, queued-is, queued-waits, queued-laid, Fits, Scoped, scoped-get, scoped-put}
 use Rattle.kept.specs.Prepared.{reset-length}
 use Rattle.lens.specs.Holds.{Rows, Holds, most-scopes, scopes-are}
-use Rattle.lens.specs.Parts.{Keeps, queueIn, storeIn, rowsIn, laid-is, laid-holds, holds-are, good-holds}
+use Rattle.lens.specs.Parts.{Keeps, queueIn, storeIn, rowsIn, laid-is, laid-holds, changed, rescoped, holds-are, good-holds, scopes-hold}
 use Rattle.resets.specs.Resetting.{droppedIn, zeroedScope, scopeAfter, zeroedScopes, clearStep, rowsReset, cleared}
 
 -- ---- events
@@ -265,23 +265,12 @@ module _ (img : Image) (marks : List ℕ) (ins : List Bool) (inner : (i : ℕ) �
     l = resetScopes ins (s .scopes)
 
     abbrev room : Rows
-    room = record { scopes = xs; events = es; values = vs; buckets = bs; ledger = record { modes = r .ledger .modes; counts = c; held = k } }
+    room = changed (rescoped r xs) es vs bs c k
 
-    rescoped : Scoped (zeroedScopes marks (take (scopes img) (scopesOf (r .scopes)))) xs →
-        Holds img (withScopes s l) (record { scopes = xs; events = r .events; values = r .values; buckets = r .buckets; ledger = r .ledger })
-    rescoped z =
-        record {
-          table = h .table;
-          moded = h .moded;
-          modes-long = h .modes-long;
-          scoped = subst (λ x. Scoped x xs) (ap (zeroedScopes marks) (scopes-are img s r h) ∙ scopes-after (s .scopes)) z;
-          scopes-long = reset-length ins (s .scopes) ∙ h .scopes-long;
-          queued = h .queued;
-          few = h .few;
-          counted = h .counted;
-          stored = h .stored;
-          fits = h .fits;
-        }
+    zeroed-holds : Scoped (zeroedScopes marks (take (scopes img) (scopesOf (r .scopes)))) xs → Holds img (withScopes s l) (rescoped r xs)
+    zeroed-holds z =
+        scopes-hold img s r h l xs (reset-length ins (s .scopes) ∙ h .scopes-long)
+        (subst (λ x. Scoped x xs) (ap (zeroedScopes marks) (scopes-are img s r h) ∙ scopes-after (s .scopes)) z)
 
     pub holds-cleared : Scoped (zeroedScopes marks (take (scopes img) (scopesOf (r .scopes)))) xs → Waits es c → Keeps vs bs k →
         storeOf vs bs k ≡ foldl (clearStep img marks) (storeOf (r .values) (r .buckets) (r .ledger .held)) (from 0 (actions img)) →
@@ -291,7 +280,7 @@ module _ (img : Image) (marks : List ℕ) (ins : List Bool) (inner : (i : ℕ) �
         let old = rowsIn s (r .events) (r .values) (r .buckets) (r .ledger .counts) (r .ledger .held) in
         let q : rowsReset img ins s ≡ rowsIn s es vs bs c k =
         ap (rowsReset img ins) (sym (holds-are img s r h)) ∙ rows-after old e (d (storeIn s (r .values) (r .buckets) (r .ledger .held))) in
-        subst (λ t. Holds img (withScopes t l) room) (sym q) (good-holds img (withScopes s l) _ (rescoped z) es vs bs c k (record { waits = w; keeps = y }))
+        subst (λ t. Holds img (withScopes t l) room) (sym q) (good-holds img (withScopes s l) (rescoped r xs) (zeroed-holds z) es vs bs c k (record { waits = w; keeps = y }))
 
 -- ---- the whole step, where the modes are as the definition has them
 

@@ -26,7 +26,7 @@ use Rattle.machine.specs.Machine.{ok, refusal, perform, settle}
 use Rattle.lens.specs.Holds.{Rows, Holds, Held, After, Steps, Answers, Performs, replyOf, modes-are, shows, not-both}
 use Rattle.lens.specs.Lens.{mostReactors}
 use Rattle.lens.specs.Padded.{padded-length}
-use Rattle.lens.specs.Parts.{finished}
+use Rattle.lens.specs.Parts.{finished, remoded, withLedger, modes-hold}
 use Rattle.plan.specs.declared.Plan.{Plan}
 use Rattle.plan.specs.declared.Request.{Request}
 use Rattle.plan.specs.Plans.{planIn, Marks, Planned}
@@ -122,25 +122,13 @@ module _ (img : Image) (old : List ℕ) (q : Request) (p : Plan) (h : Planned im
   -- on the room, the modes set first
   module _ (r : Rows) (m : r .ledger .modes ≡ old) where
     abbrev planned : Rows
-    planned = record { scopes = r .scopes; events = r .events; values = r .values; buckets = r .buckets; ledger = record { modes = p .modes; counts = r .ledger .counts; held = r .ledger .held } }
+    planned = withLedger r (remoded (r .ledger) (p .modes))
 
     as-given : (s : State) → Holds img s r → s .modes ≡ take (reactors img) old
     as-given s k = rw (← m) (sym (modes-are img s r k))
 
     pub moded-holds : (s : State) → Holds img s r → Holds img (withModes s (modesAfter s)) planned
-    moded-holds s k =
-        record {
-          table = k .table;
-          moded = planned-modes img old q p h s (as-given s k);
-          modes-long = prepared-long img old q s (k .modes-long);
-          scoped = k .scoped;
-          scopes-long = k .scopes-long;
-          queued = k .queued;
-          few = k .few;
-          counted = k .counted;
-          stored = k .stored;
-          fits = k .fits;
-        }
+    moded-holds s k = modes-hold img s r k (modesAfter s) (p .modes) (planned-modes img old q p h s (as-given s k)) (prepared-long img old q s (k .modes-long))
 
     pub moded-held : Held img r → Held img planned
     moded-held k = record { state = withModes (k .state) (modesAfter (k .state)); holds = moded-holds (k .state) (k .holds) }
