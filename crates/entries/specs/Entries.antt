@@ -1,5 +1,8 @@
 -- Document 01, "Values and level walks": what a value and a bucket are, and the code's as these. Assumes nothing.
-use Prim.Native.Nat.{ℕ}
+use Prim.Native.Nat.{ℕ, _≤_}
+use Rattle.lists.specs.Lists.{every}
+use Rattle.rows.specs.Bytes.{Image}
+use Rattle.rows.specs.Limits.{versions, limits, limits-fit}
 use Rattle.tags.specs.Tags.{Tag, zeroTag}
 use Rattle.tags.specs.Views.{ofGlobal}
 use Rattle.entries.specs.declared.Value as codeValue
@@ -17,9 +20,13 @@ pub record Bucket : Type 0 where
   pub offset : ℕ
   pub next : ℕ
 
--- how many values, and how many buckets, may be held: the only place that says so
-abbrev pub mostHeld : ℕ
-mostHeld = 256
+-- how many values, and how many buckets, the arrays have room for: no fewer than any image allows
+abbrev pub roomForEntries : ℕ
+roomForEntries = 256
+
+pub held-fits : (s : Image) → limits s .held ≤ roomForEntries
+unfolding versions every
+held-fits s = limits-fit (λ l. l .held) roomForEntries tt s
 
 abbrev pub blankValue : Value
 blankValue = record { action = 0; tag = zeroTag; value = 0 }

@@ -6,7 +6,7 @@ use native.Mathlib.Nat.{mod-eq-of-lt}
 use lib.ListN.{length, getD, replicate}
 use Rattle.tags.specs.Tags.{at}
 use Rattle.lists.specs.Held.{thingsOf, Whole, Held, whole-zero}
-use Rattle.entries.specs.Entries.{Value, Bucket, mostHeld, blankValue, blankBucket}
+use Rattle.entries.specs.Entries.{Value, Bucket, roomForEntries, blankValue, blankBucket}
 
 abbrev pub valueWords : ℕ
 valueWords = 4
@@ -36,22 +36,22 @@ long-bucket b = refl
 
 -- what an array holds, and what its writers ask and promise
 abbrev pub valuesOf : List ℕ → List Value
-valuesOf = thingsOf decodeValue encodeValue valueWords mostHeld long-value
+valuesOf = thingsOf decodeValue encodeValue valueWords roomForEntries long-value
 
 abbrev pub WholeValues : List ℕ → Type 0
-WholeValues = Whole decodeValue encodeValue valueWords mostHeld long-value
+WholeValues = Whole decodeValue encodeValue valueWords roomForEntries long-value
 
 abbrev pub HeldValues : List ℕ → List Value → Type 0
-HeldValues = Held decodeValue encodeValue valueWords mostHeld long-value
+HeldValues = Held decodeValue encodeValue valueWords roomForEntries long-value
 
 abbrev pub bucketsOf : List ℕ → List Bucket
-bucketsOf = thingsOf decodeBucket encodeBucket bucketWords mostHeld long-bucket
+bucketsOf = thingsOf decodeBucket encodeBucket bucketWords roomForEntries long-bucket
 
 abbrev pub WholeBuckets : List ℕ → Type 0
-WholeBuckets = Whole decodeBucket encodeBucket bucketWords mostHeld long-bucket
+WholeBuckets = Whole decodeBucket encodeBucket bucketWords roomForEntries long-bucket
 
 abbrev pub HeldBuckets : List ℕ → List Bucket → Type 0
-HeldBuckets = Held decodeBucket encodeBucket bucketWords mostHeld long-bucket
+HeldBuckets = Held decodeBucket encodeBucket bucketWords roomForEntries long-bucket
 
 -- what is written is read again, of what fits its words
 pub value-back : (v : Value) → v .action < 65536 → v .tag .microstep < 4294967296 → decodeValue (encodeValue v) ≡ v
@@ -63,10 +63,10 @@ unfolding decodeBucket encodeBucket
 bucket-back b a n = rw (mod-eq-of-lt a, mod-eq-of-lt n)
 
 -- a fresh array
-pub zero-values : WholeValues (replicate (mostHeld * valueWords) 0)
+pub zero-values : WholeValues (replicate (roomForEntries * valueWords) 0)
 unfolding decodeValue encodeValue
-zero-values = whole-zero decodeValue encodeValue valueWords mostHeld long-value blankValue refl refl
+zero-values = whole-zero decodeValue encodeValue valueWords roomForEntries long-value blankValue refl refl
 
-pub zero-buckets : WholeBuckets (replicate (mostHeld * bucketWords) 0)
+pub zero-buckets : WholeBuckets (replicate (roomForEntries * bucketWords) 0)
 unfolding decodeBucket encodeBucket
-zero-buckets = whole-zero decodeBucket encodeBucket bucketWords mostHeld long-bucket blankBucket refl refl
+zero-buckets = whole-zero decodeBucket encodeBucket bucketWords roomForEntries long-bucket blankBucket refl refl

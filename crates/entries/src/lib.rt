@@ -6,8 +6,8 @@ ghost use Rattle.entries.specs.Entries.{ofValue, ofBucket, blankValue, b
 ghost use Rattle.entries.specs.Words.{valuesOf, bucketsOf, WholeValues, WholeBuckets, HeldValues, HeldBuckets};
 use tags::GlobalTag;
 
-// How many values, and how many buckets, may be held.
-pub const MOST_HELD: usize = 256;
+// How many values, and how many buckets, there is room for; `roomForEntries` of specs/ says the same.
+pub const ROOM_FOR_ENTRIES: usize = 256;
 
 // The words of a value's row: action, offset, microstep, value.
 pub const VALUE_WORDS: usize = 4;
@@ -15,9 +15,9 @@ pub const VALUE_WORDS: usize = 4;
 // The words of a bucket's row: action, offset, next microstep.
 pub const BUCKET_WORDS: usize = 3;
 
-pub type ValueRows = [u64; MOST_HELD * VALUE_WORDS];
+pub type ValueRows = [u64; ROOM_FOR_ENTRIES * VALUE_WORDS];
 
-pub type BucketRows = [u64; MOST_HELD * BUCKET_WORDS];
+pub type BucketRows = [u64; ROOM_FOR_ENTRIES * BUCKET_WORDS];
 
 // A value is a u64 under action and tag.
 pub struct Value {
@@ -61,7 +61,7 @@ impl Bucket {
 pub fn value_at(rows: &ValueRows, k: usize) -> Value
     ensures { λ r. ⌜ ofValue r ≡ getD (valuesOf (now (rows .entry))) k blankValue ⌝ }
 {
-    if MOST_HELD <= k {
+    if ROOM_FOR_ENTRIES <= k {
         return Value::blank();
     }
     let b = k * VALUE_WORDS;
@@ -81,7 +81,7 @@ pub fn put_value(rows: &mut ValueRows, k: usize, v: Value)
     requires { ⌜ WholeValues (now rows) ⌝ }
     ensures { λ _. ⌜ HeldValues (now (rows .exit)) (set (valuesOf (now (rows .entry))) k (ofValue v)) ⌝ }
 {
-    if MOST_HELD <= k {
+    if ROOM_FOR_ENTRIES <= k {
         return;
     }
     let b = k * VALUE_WORDS;
@@ -95,7 +95,7 @@ pub fn put_value(rows: &mut ValueRows, k: usize, v: Value)
 pub fn bucket_at(rows: &BucketRows, k: usize) -> Bucket
     ensures { λ r. ⌜ ofBucket r ≡ getD (bucketsOf (now (rows .entry))) k blankBucket ⌝ }
 {
-    if MOST_HELD <= k {
+    if ROOM_FOR_ENTRIES <= k {
         return Bucket::blank();
     }
     let b = k * BUCKET_WORDS;
@@ -114,7 +114,7 @@ pub fn put_bucket(rows: &mut BucketRows, k: usize, e: Bucket)
     requires { ⌜ WholeBuckets (now rows) ⌝ }
     ensures { λ _. ⌜ HeldBuckets (now (rows .exit)) (set (bucketsOf (now (rows .entry))) k (ofBucket e)) ⌝ }
 {
-    if MOST_HELD <= k {
+    if ROOM_FOR_ENTRIES <= k {
         return;
     }
     let b = k * BUCKET_WORDS;

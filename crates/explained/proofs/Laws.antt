@@ -8,20 +8,21 @@ use lib.ListN.{length, take, length-take}
 use lib.Seq.{length-take-le}
 use Rattle.lists.specs.Lists.{lose, lose-shorter}
 use Rattle.rows.specs.Bytes.{Image}
-use Rattle.machine.specs.State.{Event, mostWaiting}
+use Rattle.machine.specs.State.{Event}
+use Rattle.slots.specs.Slots.{roomForEvents}
 use Rattle.slots.specs.Slots.{Whole}
 use Rattle.lens.specs.Holds.{Rows, waits}
 use Rattle.gate_day.specs.Views.{Kept}
 
 module _ {img : Image} {r : Rows} (k : Kept img r) where
-  pub few-wait : r .ledger .counts .waiting ≤ mostWaiting
+  pub few-wait : r .ledger .counts .waiting ≤ roomForEvents
   few-wait = waits img _ r (k .holds) .few
 
   pub whole-events : Whole (r .events)
   whole-events = k .holds .queued .held .whole
 
 -- no more are left than there were
-pub left-few : (p : Event → Bool) (n : ℕ) (l : List Event) {k : ℕ} → n ≤ mostWaiting → k ≡ length (lose p (take n l)) → k ≤ mostWaiting
+pub left-few : (p : Event → Bool) (n : ℕ) (l : List Event) {k : ℕ} → n ≤ roomForEvents → k ≡ length (lose p (take n l)) → k ≤ roomForEvents
 left-few p n l h e = omega (arith, lose-shorter p (take n l), length-take n l)
 
 pub part-long : (l : List ℕ) (n k : ℕ) → n ≤ length l → k ≤ n → k ≤ length (take n l)

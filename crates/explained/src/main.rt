@@ -6,9 +6,8 @@ ghost use mathlib.Core.Bool.{true};
 ghost use Prim.Native.Nat.{_<_, _≤_};
 ghost use lib.ListN.{length};
 ghost use Rattle.lists.specs.Lent.{was, is};
-ghost use Rattle.machine.specs.State.{mostWaiting};
 ghost use Rattle.records.specs.Records.{mostKeys};
-ghost use Rattle.slots.specs.Slots.{Whole};
+ghost use Rattle.slots.specs.Slots.{Whole, roomForEvents};
 ghost use Rattle.table.specs.Check.{isTable};
 ghost use Rattle.rows.specs.Kinds.{largest};
 ghost use Rattle.lens.specs.Holds.{rowsOf};
@@ -194,12 +193,13 @@ fn say_rows(desk: &mut Desk, image: &[u8]) {
 fn say_count(desk: &mut Desk, image: &[u8], k: u8) {
     let total = rows::count(image, k);
     let kind = rows::kind_at(k);
+    let most = rows::most_rows(image, k);
     let at = rows::count_place(k);
     let words = [
         k as u64,
         total as u64,
         kind.least as u64,
-        kind.most as u64,
+        most as u64,
         at as u64,
     ];
     say(desk, b"count", &words);
@@ -348,7 +348,7 @@ fn say_queues(
     events: &[u64; slots::ROOM],
     waiting: usize,
 )
-    requires { ⌜ waiting ≤ mostWaiting ⌝ }
+    requires { ⌜ waiting ≤ roomForEvents ⌝ }
 {
     let heads = queue::heads(events, waiting);
     say_queue(desk, scopes, &heads, slots::NONE, scopes::MOST_SCOPES);
@@ -369,7 +369,7 @@ fn peek(
     events: &[u64; slots::ROOM],
     waiting: usize,
 ) -> Head
-    requires { ⌜ waiting ≤ mostWaiting ⌝ }
+    requires { ⌜ waiting ≤ roomForEvents ⌝ }
 {
     let total = rows::count(image, rows::SCOPE);
     let heads = queue::heads(events, waiting);
@@ -377,7 +377,7 @@ fn peek(
 }
 
 fn root_head(events: &[u64; slots::ROOM], waiting: usize) -> Head
-    requires { ⌜ waiting ≤ mostWaiting ⌝ }
+    requires { ⌜ waiting ≤ roomForEvents ⌝ }
 {
     let heads = queue::heads(events, waiting);
     heads::root_head(&heads)
@@ -389,7 +389,7 @@ fn scope_head(
     events: &[u64; slots::ROOM],
     waiting: usize,
 ) -> Head
-    requires { ⌜ waiting ≤ mostWaiting ⌝ }
+    requires { ⌜ waiting ≤ roomForEvents ⌝ }
 {
     let total = rows::count(image, rows::SCOPE);
     let heads = queue::heads(events, waiting);
@@ -405,8 +405,8 @@ fn take(
     h: HeadAt,
 ) -> usize
     requires { ⌜ Whole (now events) ⌝ }
-    requires { ⌜ waiting ≤ mostWaiting ⌝ }
-    ensures { λ r. ⌜ Whole (is events) × (r ≤ mostWaiting) ⌝ }
+    requires { ⌜ waiting ≤ roomForEvents ⌝ }
+    ensures { λ r. ⌜ Whole (is events) × (r ≤ roomForEvents) ⌝ }
 {
     let stamp = h.stamp;
     say_place(desk, b"take", scopes, h.queue, stamp);
@@ -430,8 +430,8 @@ fn take_root(
     t: GlobalTag,
 ) -> usize
     requires { ⌜ Whole (now events) ⌝ }
-    requires { ⌜ waiting ≤ mostWaiting ⌝ }
-    ensures { λ r. ⌜ Whole (is events) × (r ≤ mostWaiting) ⌝ }
+    requires { ⌜ waiting ≤ roomForEvents ⌝ }
+    ensures { λ r. ⌜ Whole (is events) × (r ≤ roomForEvents) ⌝ }
 {
     match root_head(events, waiting) {
         Head::Empty => waiting,
@@ -456,7 +456,7 @@ fn take_scopes(
     t: GlobalTag,
 )
     requires { ⌜ Whole (now events) ⌝ }
-    requires { ⌜ waiting ≤ mostWaiting ⌝ }
+    requires { ⌜ waiting ≤ roomForEvents ⌝ }
 {
     let mut left = waiting;
     let mut turns = waiting;

@@ -6,9 +6,10 @@ use native.Mathlib.Omega.{arith}
 use lib.ListN.{length, length-append}
 use Rattle.lists.specs.Rows.{flat, flat-length}
 use Rattle.rows.specs.Bytes.{Image}
-use Rattle.entries.specs.Entries.{mostHeld, blankValue, blankBucket}
+use Rattle.entries.specs.Entries.{roomForEntries, blankValue, blankBucket}
 use Rattle.entries.specs.Words.{encodeValue, valueWords, long-value, encodeBucket, bucketWords, long-bucket}
-use Rattle.machine.specs.State.{State, mostWaiting}
+use Rattle.machine.specs.State.{State}
+use Rattle.slots.specs.Slots.{roomForEvents}
 use Rattle.machine.specs.Heads.{peek}
 use Rattle.machine.specs.Machine.{Reply, ok, refusal, nothing, ready, tag, flag, number, peekAt}
 use Rattle.slots.specs.Slots as slot
@@ -59,9 +60,9 @@ all-long img s =
     then-long (bytes-long (first-long img s))
     (then-long (bytes-long (modes-long s))
     (then-long (bytes-long (rows-long scope.encode scope.scopeWords scope.encode-long scope.blank mostScopes (s .scopes)))
-    (then-long (bytes-long (rows-long slot.encode slot.slotWords slot.encode-long slot.blank mostWaiting (s .waiting)))
-    (then-long (bytes-long (rows-long encodeValue valueWords long-value blankValue mostHeld (s .store .values)))
-    (bytes-long (rows-long encodeBucket bucketWords long-bucket blankBucket mostHeld (s .store .buckets)))))))
+    (then-long (bytes-long (rows-long slot.encode slot.slotWords slot.encode-long slot.blank roomForEvents (s .waiting)))
+    (then-long (bytes-long (rows-long encodeValue valueWords long-value blankValue roomForEntries (s .store .values)))
+    (bytes-long (rows-long encodeBucket bucketWords long-bucket blankBucket roomForEntries (s .store .buckets)))))))
 
 pub state-fits : (img : Image) (s : State) → length (stateBytes img s) ≡ stateLength
 state-fits img s = all-long img s .is

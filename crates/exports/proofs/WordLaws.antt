@@ -6,12 +6,14 @@ use Prim.Native.Nat.{ℕ, _*_, _≤_}
 use lib.ListN.{length}
 use Rattle.lists.specs.Held.{held-words, whole-long}
 use Rattle.rows.specs.Bytes.{Image}
-use Rattle.entries.specs.Entries.{mostHeld}
+use Rattle.entries.specs.Entries.{roomForEntries}
 use Rattle.entries.specs.Words.{decodeValue, encodeValue, valueWords, long-value, decodeBucket, encodeBucket, bucketWords, long-bucket}
-use Rattle.machine.specs.State.{State, mostWaiting}
+use Rattle.machine.specs.State.{State}
+use Rattle.slots.specs.Slots.{roomForEvents}
 use Rattle.machine.specs.Machine.{Reply, flag, perform, peekTag, onlyControl}
 use Rattle.machine.specs.Heads.{controlOnly}
 use Rattle.slots.specs.Slots as slot
+use Rattle.queue.specs.Queue.{headsOf, Held as HeldHeads}
 use Rattle.scopes.specs.Scopes as scope
 use Rattle.scopes.specs.Scopes.{mostScopes}
 use Rattle.lens.specs.Lens.{Queued, Shows}
@@ -28,32 +30,32 @@ bytes-of : {v w l m : List ℕ} → v ≡ w → l ≡ m → wordBytes v ++ l ≡
 bytes-of {v} {w} {l} {m} p q = ap (λ x. wordBytes x ++ l) p ∙ ap (λ x. wordBytes w ++ x) q
 
 module _ {img : Image} {d : Rows} (k : Kept img d) where
-  pub few-wait : d .ledger .counts .waiting ≤ mostWaiting
+  pub few-wait : d .ledger .counts .waiting ≤ roomForEvents
   few-wait = waits img (stateIn img d) d (k .holds) .few
 
-  pub events-long : length (d .events) ≡ mostWaiting * slot.slotWords
-  events-long = whole-long slot.decode slot.encode slot.slotWords mostWaiting slot.encode-long (d .events) (k .holds .queued .held .whole)
+  pub events-long : length (d .events) ≡ roomForEvents * slot.slotWords
+  events-long = whole-long slot.decode slot.encode slot.slotWords roomForEvents slot.encode-long (d .events) (k .holds .queued .held .whole)
 
-  pub values-long : length (d .values) ≡ mostHeld * valueWords
-  values-long = whole-long decodeValue encodeValue valueWords mostHeld long-value (d .values) (k .holds .stored .values .whole)
+  pub values-long : length (d .values) ≡ roomForEntries * valueWords
+  values-long = whole-long decodeValue encodeValue valueWords roomForEntries long-value (d .values) (k .holds .stored .values .whole)
 
-  pub buckets-long : length (d .buckets) ≡ mostHeld * bucketWords
-  buckets-long = whole-long decodeBucket encodeBucket bucketWords mostHeld long-bucket (d .buckets) (k .holds .stored .buckets .whole)
+  pub buckets-long : length (d .buckets) ≡ roomForEntries * bucketWords
+  buckets-long = whole-long decodeBucket encodeBucket bucketWords roomForEntries long-bucket (d .buckets) (k .holds .stored .buckets .whole)
 
   -- what is answered of every state that the arrays hold
   abbrev Answers : Reply → (State → Reply) → Type 0
   Answers r f = (s : State) → Queued (s .waiting) (s .work) (d .events) (d .ledger .counts) → Shows s (d .scopes) → r ≡ f s
 
-  pub first-are : (p : Peeked) {f o m : ℕ} {only : Bool} {c : ℕ} →
-      Answers (replyOf p) (λ s. perform img s peekTag .reply) → (f ∷ o ∷ m ∷ []) ≡ peekWords (replyOf p) →
+  pub first-are : (p : Peeked) {hs : List ℕ} {f o m : ℕ} {only : Bool} {c : ℕ} → HeldHeads hs (headsOf (stateIn img d .waiting)) →
+      ((s : State) → HeldHeads hs (headsOf (s .waiting)) → Shows s (d .scopes) → replyOf p ≡ perform img s peekTag .reply) → (f ∷ o ∷ m ∷ []) ≡ peekWords (replyOf p) →
       Answers (flag only) (λ s. perform img s onlyControl .reply) → c ≡ flagWord only →
       (f ∷ o ∷ m ∷ c ∷ d .ledger .counts .work ∷ d .ledger .counts .waiting ∷ d .ledger .held .values ∷ d .ledger .held .buckets ∷ []) ≡ firstWords img (stateIn img d)
   unfolding firstWords perform
-  first-are p {f} {o} {m} {only} {c} r e t g =
+  first-are p {hs} {f} {o} {m} {only} {c} w r e t g =
       let s = stateIn img d in
       let q = k .holds .queued in
       let h = shows img s d (k .holds) in
-      let a = e ∙ ap peekWords (r s q h) in
+      let a = e ∙ ap peekWords (r s w h) in
       let y : flag only ≡ flag (controlOnly img (s .scopes) (s .waiting)) = t s q h in
       let b : only ≡ controlOnly img (s .scopes) (s .waiting) = cc in
       ap (λ l. l ++ (c ∷ d .ledger .counts .work ∷ d .ledger .counts .waiting ∷ d .ledger .held .values ∷ d .ledger .held .buckets ∷ [])) a ∙
@@ -69,6 +71,6 @@ module _ {img : Image} {d : Rows} (k : Kept img d) where
       (bytes-of i
       (bytes-of (u .moded)
       (bytes-of (held-words scope.decode scope.encode scope.scopeWords mostScopes scope.encode-long _ _ (u .scoped))
-      (bytes-of (held-words slot.decode slot.encode slot.slotWords mostWaiting slot.encode-long _ _ (u .queued .held))
-      (bytes-of (held-words decodeValue encodeValue valueWords mostHeld long-value _ _ (u .stored .values))
-      (ap wordBytes (held-words decodeBucket encodeBucket bucketWords mostHeld long-bucket _ _ (u .stored .buckets))))))))
+      (bytes-of (held-words slot.decode slot.encode slot.slotWords roomForEvents slot.encode-long _ _ (u .queued .held))
+      (bytes-of (held-words decodeValue encodeValue valueWords roomForEntries long-value _ _ (u .stored .values))
+      (ap wordBytes (held-words decodeBucket encodeBucket bucketWords roomForEntries long-bucket _ _ (u .stored .buckets))))))))

@@ -8,9 +8,10 @@ use Rattle.rows.specs.Bytes.{Image}
 use Rattle.table.specs.Check.{numberOf}
 use Rattle.table.specs.declared.Checked.{Checked}
 use Rattle.table.specs.declared.Checked.the-variants.{Accepted, Refused}
-use Rattle.entries.specs.Entries.{mostHeld, blankValue, blankBucket}
+use Rattle.entries.specs.Entries.{roomForEntries, blankValue, blankBucket}
 use Rattle.entries.specs.Words.{decodeValue, encodeValue, valueWords, long-value, decodeBucket, encodeBucket, bucketWords, long-bucket}
-use Rattle.machine.specs.State.{State, mostWaiting, fresh}
+use Rattle.machine.specs.State.{State, fresh}
+use Rattle.slots.specs.Slots.{roomForEvents}
 use Rattle.machine.specs.Heads.{peek, controlOnly}
 use Rattle.machine.specs.Machine.{Reply, ok, refusal, nothing, ready, tag, flag, number, peekAt, run}
 use Rattle.slots.specs.Slots as slot
@@ -54,13 +55,13 @@ abbrev pub scopesIn : State → List ℕ
 scopesIn s = wordsOf scope.decode scope.encode scope.scopeWords mostScopes scope.encode-long (padded scope.blank mostScopes (s .scopes))
 
 abbrev pub eventsIn : State → List ℕ
-eventsIn s = wordsOf slot.decode slot.encode slot.slotWords mostWaiting slot.encode-long (padded slot.blank mostWaiting (s .waiting))
+eventsIn s = wordsOf slot.decode slot.encode slot.slotWords roomForEvents slot.encode-long (padded slot.blank roomForEvents (s .waiting))
 
 abbrev pub valuesIn : State → List ℕ
-valuesIn s = wordsOf decodeValue encodeValue valueWords mostHeld long-value (padded blankValue mostHeld (s .store .values))
+valuesIn s = wordsOf decodeValue encodeValue valueWords roomForEntries long-value (padded blankValue roomForEntries (s .store .values))
 
 abbrev pub bucketsIn : State → List ℕ
-bucketsIn s = wordsOf decodeBucket encodeBucket bucketWords mostHeld long-bucket (padded blankBucket mostHeld (s .store .buckets))
+bucketsIn s = wordsOf decodeBucket encodeBucket bucketWords roomForEntries long-bucket (padded blankBucket roomForEntries (s .store .buckets))
 
 -- of eight bytes each, one kind behind the other
 unfoldable pub stateBytes : Image → State → List ℕ
@@ -69,7 +70,7 @@ stateBytes img s =
     (wordBytes (modesIn s) ++ (wordBytes (scopesIn s) ++ (wordBytes (eventsIn s) ++ (wordBytes (valuesIn s) ++ wordBytes (bucketsIn s)))))
 
 abbrev pub stateLength : ℕ
-stateLength = 8 * (8 + mostReactors + mostScopes * scope.scopeWords + mostWaiting * slot.slotWords + mostHeld * valueWords + mostHeld * bucketWords)
+stateLength = 8 * (8 + mostReactors + mostScopes * scope.scopeWords + roomForEvents * slot.slotWords + roomForEntries * valueWords + roomForEntries * bucketWords)
 
 -- ---- what is told of a day, an image and its records
 

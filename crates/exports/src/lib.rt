@@ -85,8 +85,8 @@ const STATE_BYTES: usize = 8
         + lens::MOST_REACTORS
         + scopes::ROOM
         + slots::ROOM
-        + entries::MOST_HELD * entries::VALUE_WORDS
-        + entries::MOST_HELD * entries::BUCKET_WORDS);
+        + entries::ROOM_FOR_ENTRIES * entries::VALUE_WORDS
+        + entries::ROOM_FOR_ENTRIES * entries::BUCKET_WORDS);
 
 // The place so many bytes on.
 fn behind(bytes: &[u8], at: usize, n: usize) -> usize
@@ -162,9 +162,10 @@ fn first_words(image: &[u8], day: Room) -> [u64; FIRST_WORDS]
     let ledger = day.ledger;
     let counts = ledger.counts;
     let held = ledger.held;
-    let peeked = pops::peek_tag(image, &scopes, &events, counts);
+    let heads = queue::heads(&events, counts.waiting);
+    let peeked = pops::peek_tag(image, &scopes, &heads);
     let p = peek_words(peeked);
-    let only = pops::peek_is_control_only(image, &scopes, &events, counts);
+    let only = pops::peek_is_control_only(image, &scopes, &events, counts, &heads);
     let control = flag_word(only);
     [
         p.found,

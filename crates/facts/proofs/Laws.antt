@@ -1,28 +1,29 @@
 -- The words of each fact from what the calls answered, and what is left of a list as a loop goes over it. Assumes nothing.
-use Prim.Native.Nat.{ℕ, zero, suc, _+_, _*_, _/_, _%_, _≤_, _<_}
-use mathlib.Core.Path.{_≡_, refl, sym, ap, _∙_}
-use mathlib.Core.Bool.{Bool, true, false, cond}
+use Prim.Native.Nat.{ℕ, zero, suc, _+_, _≤_, _<_}
+use mathlib.Core.Path.{_≡_, sym, ap, _∙_}
+use mathlib.Core.Bool.{Bool, cond}
 use mathlib.Core.List.{List, [], _∷_, _++_, append-assoc, append-nil}
 use native.Mathlib.Omega.{arith}
 use native.Mathlib.Numerals.{add-one}
-use lib.Dec.{ltb, eqb}
+use lib.Dec.{ltb}
 use lib.ListN.{length, getD, take, drop, drop-of-length-le}
 use lib.Seq.{drop-cons, take-all}
 use borrow.Author.Tests.{eq-eqb, ne-eqb, lt-ltb, le-ltb}
-use Rattle.tags.specs.Tags.{Tag, Clock, Answer, at, toLocal, toGlobal, isHeld}
+use Rattle.lists.specs.Tests.{bitOf}
+use Rattle.tags.specs.Tags.{Tag, Answer, at, toLocal, toGlobal, isHeld}
 use Rattle.machine.specs.State.{root}
 use Rattle.scopes.specs.Scopes.{Scope, blank}
 use Rattle.rows.specs.Kinds.{reaction}
 use Rattle.lines.specs.Text.{text, decimal}
 use Rattle.puts.specs.Written.{Written}
 use Rattle.puts.proofs.WrittenLaws.{written-then, written-as}
-use Rattle.facts.specs.Facts.{yes, found, offsetIn, microstepIn, scopePlace, placeWords, scopeWords, localWords, lack, noLack, lackingReaction, wordsText, factText}
+use Rattle.facts.specs.Facts.{found, offsetIn, microstepIn, scopePlace, placeWords, scopeWords, localWords, lack, noLack, lackingReaction, wordsText, factText}
 
 -- ---- tags on the two scales
 
 pub scope-place-is :
     (s : Scope) (q : ℕ) (t : Tag) {g : Answer} {f o m x y : ℕ} {b : Bool} → g ≡ toGlobal (s .clock) t → f ≡ found g → o ≡ offsetIn g → m ≡ microstepIn g →
-    x ≡ yes (s .active) → b ≡ isHeld (s .clock) t → y ≡ yes b → (q ∷ t .offset ∷ t .microstep ∷ x ∷ f ∷ o ∷ m ∷ y ∷ []) ≡ scopePlace s q t
+    x ≡ bitOf (s .active) → b ≡ isHeld (s .clock) t → y ≡ bitOf b → (q ∷ t .offset ∷ t .microstep ∷ x ∷ f ∷ o ∷ m ∷ y ∷ []) ≡ scopePlace s q t
 unfolding scopePlace
 scope-place-is s q t e f g h i j k = rw (k, j, i, h, g, f, e)
 
@@ -35,7 +36,7 @@ unfolding placeWords
 place-scope ss q t n e h = simp (ne-eqb q root n) (h ∙ ap (λ s. scopePlace s q t) e)
 
 pub scope-words-are :
-    (i : ℕ) (s : Scope) {u : Scope} {a b d : ℕ} → u ≡ s → a ≡ yes (u .active) → b ≡ yes (u .ever) → d ≡ yes (u .clock .allowed) →
+    (i : ℕ) (s : Scope) {u : Scope} {a b d : ℕ} → u ≡ s → a ≡ bitOf (u .active) → b ≡ bitOf (u .ever) → d ≡ bitOf (u .clock .allowed) →
     (i ∷ a ∷ b ∷ d ∷ u .clock .G .offset ∷ u .clock .G .microstep ∷ u .clock .L .offset ∷ u .clock .L .microstep ∷ u .clock .S .offset ∷ u .clock .S .microstep ∷ []) ≡ scopeWords i s
 unfolding scopeWords
 scope-words-are i s e f g h = rw (f, g, h, e)

@@ -1,22 +1,19 @@
 -- What a day's tale is told from, as lists of numbers. Assumes nothing.
 use Prim.Native.Nat.{ℕ, _/_, _%_}
-use mathlib.Core.Bool.{Bool, true, false, cond, not, _&&_, _||_}
+use mathlib.Core.Bool.{cond}
 use mathlib.Core.List.{List, [], _∷_, _++_}
 use lib.Dec.{ltb, eqb}
 use lib.ListN.{getD}
-use Rattle.lists.specs.Walk.{Result, done, refused}
+use Rattle.lists.specs.Tests.{bitOf}
+use Rattle.lists.specs.Walk.{done, refused}
 use Rattle.rows.specs.Bytes.{Image}
 use Rattle.rows.specs.Kinds.{count, reactor, mode, reaction, action}
-use Rattle.tags.specs.Tags.{Tag, Answer, at, toLocal, toGlobal, isHeld}
-use Rattle.tags.specs.Views.{ofGlobal}
+use Rattle.tags.specs.Tags.{Tag, Answer, toLocal, toGlobal, isHeld}
 use Rattle.machine.specs.State.{root}
 use Rattle.scopes.specs.Scopes.{Scope, blank}
 use Rattle.lines.specs.Text.{text, decimal}
 use Rattle.records.specs.declared.Parsed.{Parsed}
 use Rattle.records.specs.declared.Parsed.the-variants.{Plain, Network, Control, Action, Transition, Pop, Malformed}
-
-abbrev pub yes : Bool → ℕ
-yes b = cond b 1 0
 
 -- ---- time: hours, minutes, seconds and nanoseconds
 
@@ -54,7 +51,7 @@ microstepIn (refused n) = 0
 unfoldable pub scopePlace : Scope → ℕ → Tag → List ℕ
 scopePlace s q t =
     let g = toGlobal (s .clock) t in
-    q ∷ t .offset ∷ t .microstep ∷ yes (s .active) ∷ found g ∷ offsetIn g ∷ microstepIn g ∷ yes (isHeld (s .clock) t) ∷ []
+    q ∷ t .offset ∷ t .microstep ∷ bitOf (s .active) ∷ found g ∷ offsetIn g ∷ microstepIn g ∷ bitOf (isHeld (s .clock) t) ∷ []
 
 -- the root's tags are global, and never held back
 unfoldable pub placeWords : List Scope → ℕ → Tag → List ℕ
@@ -64,7 +61,7 @@ placeWords ss q t =
 unfoldable pub scopeWords : ℕ → Scope → List ℕ
 scopeWords i s =
     let c = s .clock in
-    i ∷ yes (s .active) ∷ yes (s .ever) ∷ yes (c .allowed) ∷
+    i ∷ bitOf (s .active) ∷ bitOf (s .ever) ∷ bitOf (c .allowed) ∷
     c .G .offset ∷ c .G .microstep ∷ c .L .offset ∷ c .L .microstep ∷ c .S .offset ∷ c .S .microstep ∷ []
 
 unfoldable pub localWords : ℕ → Scope → Tag → List ℕ
@@ -74,11 +71,11 @@ localWords i s g = let l = toLocal (s .clock) g in i ∷ found l ∷ offsetIn l 
 
 -- op, action or reactor, mode, terminal or reset, tag
 abbrev pub callWords : Parsed → List ℕ
-callWords (Plain t terminal n) = 1 ∷ 0 ∷ 0 ∷ yes terminal ∷ t .0 ∷ t .1 ∷ []
+callWords (Plain t terminal n) = 1 ∷ 0 ∷ 0 ∷ bitOf terminal ∷ t .0 ∷ t .1 ∷ []
 callWords (Network t n) = 2 ∷ 0 ∷ 0 ∷ 0 ∷ t .0 ∷ t .1 ∷ []
 callWords (Control t) = 3 ∷ 0 ∷ 0 ∷ 0 ∷ t .0 ∷ t .1 ∷ []
-callWords (Action a t terminal n) = 4 ∷ a ∷ 0 ∷ yes terminal ∷ t .0 ∷ t .1 ∷ []
-callWords (Transition r m reset t) = 5 ∷ r ∷ m ∷ yes reset ∷ t .0 ∷ t .1 ∷ []
+callWords (Action a t terminal n) = 4 ∷ a ∷ 0 ∷ bitOf terminal ∷ t .0 ∷ t .1 ∷ []
+callWords (Transition r m reset t) = 5 ∷ r ∷ m ∷ bitOf reset ∷ t .0 ∷ t .1 ∷ []
 callWords Pop = 6 ∷ 0 ∷ 0 ∷ 0 ∷ 0 ∷ 0 ∷ []
 callWords Malformed = 0 ∷ 0 ∷ 0 ∷ 0 ∷ 0 ∷ 0 ∷ []
 

@@ -7,7 +7,7 @@ ghost use Rattle.rows.specs.Kinds.{count, reaction};
 ghost use Rattle.tags.specs.Views.{ofGlobal, ofLocal, ofQueue, ofClock, mappedGlobal, mappedLocal};
 ghost use Rattle.scopes.specs.Scopes.{scopesOf, scopeOf, blank};
 ghost use Rattle.puts.specs.Written.{Written};
-ghost use Rattle.facts.specs.Facts.{yes, timeWords, found, offsetIn, microstepIn, scopePlace, placeWords, scopeWords, localWords, callWords, lackingReaction, lackingOf, wordsText, factText};
+ghost use Rattle.facts.specs.Facts.{timeWords, found, offsetIn, microstepIn, scopePlace, placeWords, scopeWords, localWords, callWords, lackingReaction, lackingOf, wordsText, factText};
 use records::Parsed;
 use scopes::Scope;
 use tags::GlobalTag;
@@ -24,15 +24,6 @@ const MINUTE: u64 = 60000000000;
 const HOUR: u64 = 3600000000000;
 
 const DAY: u64 = 86400000000000;
-
-fn bit(flag: bool) -> u64
-    ensures { λ r. ⌜ r ≡ yes flag ⌝ }
-{
-    if flag {
-        return 1;
-    }
-    0
-}
 
 fn wide(key: u16) -> u64
     ensures { λ r. ⌜ r ≡ key ⌝ }
@@ -104,8 +95,8 @@ fn scope_place(s: Scope, queue: u16, x: LocalTag) -> [u64; 8]
     let clock = s.clock;
     let image = clock.to_global(x);
     let m = of_global(image);
-    let active = bit(s.active);
-    let held = bit(clock.holds_back(x));
+    let active = lists::bit(s.active);
+    let held = lists::bit(clock.holds_back(x));
     [
         queue as u64,
         x.0,
@@ -141,9 +132,9 @@ pub fn scope_words(scopes: &[u64; scopes::ROOM], i: u16) -> [u64; 10]
     let g = c.activation_global;
     let l = c.activation_local;
     let p = c.suspended_local;
-    let active = bit(s.active);
-    let ever = bit(s.ever);
-    let allowed = bit(c.allowed);
+    let active = lists::bit(s.active);
+    let ever = lists::bit(s.ever);
+    let allowed = lists::bit(c.allowed);
     [
         i as u64,
         active,
@@ -177,17 +168,17 @@ pub fn call_words(parsed: Parsed) -> [u64; 6]
 {
     match parsed {
         Parsed::Plain(t, terminal, _) => {
-            let flag = bit(terminal);
+            let flag = lists::bit(terminal);
             [1, 0, 0, flag, t.0, t.1 as u64]
         }
         Parsed::Network(t, _) => [2, 0, 0, 0, t.0, t.1 as u64],
         Parsed::Control(t) => [3, 0, 0, 0, t.0, t.1 as u64],
         Parsed::Action(action, t, terminal, _) => {
-            let flag = bit(terminal);
+            let flag = lists::bit(terminal);
             [4, action as u64, 0, flag, t.0, t.1 as u64]
         }
         Parsed::Transition(reactor, mode, reset, t) => {
-            let flag = bit(reset);
+            let flag = lists::bit(reset);
             [5, reactor as u64, mode as u64, flag, t.0, t.1 as u64]
         }
         Parsed::Pop => [6, 0, 0, 0, 0, 0],

@@ -7,7 +7,7 @@ use Rattle.lists.specs.Lists.{from}
 use Rattle.scopes.specs.Scopes as scope
 use Rattle.scopes.specs.Scopes.{Scope, mostScopes, scopesOf}
 use Rattle.lists.specs.Held as H
-use Rattle.entries.specs.Entries.{mostHeld, blankValue, blankBucket}
+use Rattle.entries.specs.Entries.{roomForEntries, blankValue, blankBucket}
 use Rattle.entries.specs.Words.{valueWords, bucketWords, decodeValue, encodeValue, long-value, decodeBucket, encodeBucket, long-bucket, HeldValues, HeldBuckets, zero-values, zero-buckets}
 use Rattle.lens.specs.Padded.{padded}
 use Rattle.lens.specs.Lens.{Scoped, mostReactors}
@@ -27,10 +27,10 @@ module _ (f : ℕ → Scope) where
   pub scopes-more : (i : ℕ) (x : Scope) (old out : List ℕ) → Scoped (map f (from 0 i)) old → x ≡ f i → scope.Held out (set (scopesOf old) i x) → Scoped (map f (from 0 (i + 1))) out
   scopes-more i x old out s e h = record { whole = h .whole; things = h .things ∙ rw (s .things, e) (fill-more scope.blank mostScopes f i) }
 
-pub no-values : HeldValues (replicate (mostHeld * valueWords) 0) (replicate mostHeld blankValue)
+pub no-values : HeldValues (replicate (roomForEntries * valueWords) 0) (replicate roomForEntries blankValue)
 unfolding decodeValue encodeValue
-no-values = record { whole = zero-values; things = H.zero-things decodeValue encodeValue valueWords mostHeld long-value blankValue refl refl (mostHeld * valueWords) }
+no-values = record { whole = zero-values; things = H.zero-things decodeValue encodeValue valueWords roomForEntries long-value blankValue refl refl (roomForEntries * valueWords) }
 
-pub no-buckets : HeldBuckets (replicate (mostHeld * bucketWords) 0) (replicate mostHeld blankBucket)
+pub no-buckets : HeldBuckets (replicate (roomForEntries * bucketWords) 0) (replicate roomForEntries blankBucket)
 unfolding decodeBucket encodeBucket
-no-buckets = record { whole = zero-buckets; things = H.zero-things decodeBucket encodeBucket bucketWords mostHeld long-bucket blankBucket refl refl (mostHeld * bucketWords) }
+no-buckets = record { whole = zero-buckets; things = H.zero-things decodeBucket encodeBucket bucketWords roomForEntries long-bucket blankBucket refl refl (roomForEntries * bucketWords) }

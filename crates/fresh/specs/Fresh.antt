@@ -10,14 +10,15 @@ use Rattle.rows.specs.Bytes.{Image}
 use Rattle.rows.specs.Rows.{initialMode}
 use Rattle.table.specs.Check.{isTable}
 use Rattle.schedule.specs.Schedule.{isActive}
-use Rattle.entries.specs.Entries.{mostHeld, blankValue, blankBucket}
+use Rattle.entries.specs.Entries.{roomForEntries, blankValue, blankBucket}
 use Rattle.entries.specs.Words.{HeldValues, HeldBuckets}
 use Rattle.store.specs.Store.{emptyStore}
 use Rattle.machine.specs.Table.{scopes, reactors}
-use Rattle.machine.specs.State.{Scope, State, freshScope, fresh, mostWaiting}
+use Rattle.machine.specs.State.{Scope, State, freshScope, fresh}
+use Rattle.slots.specs.Slots.{roomForEvents}
 use Rattle.slots.specs.Slots as slot
 use Rattle.lens.specs.Padded.{padded, padded-none, padded-length, padded-take}
-use Rattle.lens.specs.Lens.{Queued, Stored, Scoped, mostReactors}
+use Rattle.lens.specs.Lens.{Queued, Stored, Scoped, mostReactors, bareLedger}
 use Rattle.kept.specs.Kept.{fresh-rules}
 use Rattle.lens.specs.Holds.{Rows, Holds, ruled-holds, most-reactors}
 
@@ -30,10 +31,10 @@ freshScopes img modes = map (λ i. freshScope (isActive img modes i)) (from 0 (s
 -- these modes and scopes, and nothing waits or is held
 pub record Bare (modes ss : List ℕ) (r : Rows) : Type 0 where
   pub scopes-are : r .scopes ≡ ss
-  pub events : slot.Held (r .events) (replicate mostWaiting slot.blank)
-  pub values : HeldValues (r .values) (replicate mostHeld blankValue)
-  pub buckets : HeldBuckets (r .buckets) (replicate mostHeld blankBucket)
-  pub ledger-is : r .ledger ≡ record { modes = modes; counts = record { waiting = 0; work = 0 }; held = record { values = 0; buckets = 0 } }
+  pub events : slot.Held (r .events) (replicate roomForEvents slot.blank)
+  pub values : HeldValues (r .values) (replicate roomForEntries blankValue)
+  pub buckets : HeldBuckets (r .buckets) (replicate roomForEntries blankBucket)
+  pub ledger-is : r .ledger ≡ bareLedger modes
 
 scopes-fresh : (f : ℕ → Bool) (l : List ℕ) → map freshScope (map f l) ≡ map (λ i. freshScope (f i)) l
 scopes-fresh f [] = refl
@@ -41,14 +42,14 @@ scopes-fresh f (i ∷ l) = ap (freshScope (f i) ∷_) (scopes-fresh f l)
 
 -- no event waits, no value and no bucket is held
 pub bare-queued : {modes ss : List ℕ} {r : Rows} → Bare modes ss r → Queued [] 0 (r .events) (r .ledger .counts)
-bare-queued h = rw (h .ledger-is) (record { held = rw (padded-none slot.blank mostWaiting) (h .events); waiting = refl; work = refl })
+bare-queued h = rw (h .ledger-is) (record { held = rw (padded-none slot.blank roomForEvents) (h .events); waiting = refl; work = refl })
 
 pub bare-stored : {modes ss : List ℕ} {r : Rows} → Bare modes ss r → Stored emptyStore (r .values) (r .buckets) (r .ledger .held)
 bare-stored h =
     rw (h .ledger-is)
     (record {
-      values = rw (padded-none blankValue mostHeld) (h .values);
-      buckets = rw (padded-none blankBucket mostHeld) (h .buckets);
+      values = rw (padded-none blankValue roomForEntries) (h .values);
+      buckets = rw (padded-none blankBucket roomForEntries) (h .buckets);
       some-values = refl;
       some-buckets = refl;
     })

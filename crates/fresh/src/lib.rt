@@ -17,12 +17,10 @@ ghost use lib.ListN.{replicate};
 ghost use Rattle.lists.specs.Lent.{was};
 ghost use Rattle.lens.specs.Holds.{rowsOf, Holds};
 ghost use Rattle.fresh.specs.Fresh.{Bare};
-ghost use Rattle.entries.specs.Entries.{mostHeld, blankValue, blankBucket};
+ghost use Rattle.entries.specs.Entries.{roomForEntries, blankValue, blankBucket};
 ghost use Rattle.entries.specs.Words.{HeldValues, HeldBuckets};
 use entries::BucketRows;
 use entries::ValueRows;
-use lens::Counts;
-use lens::Ledger;
 use lens::MOST_REACTORS;
 use lens::Room;
 use scopes::Scope;
@@ -77,16 +75,16 @@ fn scopes(image: &[u8], modes: &[u16]) -> [u64; scopes::ROOM]
 
 // No value is held.
 fn values() -> ValueRows
-    ensures { λ r. ⌜ HeldValues r (replicate mostHeld blankValue) ⌝ }
+    ensures { λ r. ⌜ HeldValues r (replicate roomForEntries blankValue) ⌝ }
 {
-    [0; entries::MOST_HELD * entries::VALUE_WORDS]
+    [0; entries::ROOM_FOR_ENTRIES * entries::VALUE_WORDS]
 }
 
 // No bucket is held.
 fn buckets() -> BucketRows
-    ensures { λ r. ⌜ HeldBuckets r (replicate mostHeld blankBucket) ⌝ }
+    ensures { λ r. ⌜ HeldBuckets r (replicate roomForEntries blankBucket) ⌝ }
 {
-    [0; entries::MOST_HELD * entries::BUCKET_WORDS]
+    [0; entries::ROOM_FOR_ENTRIES * entries::BUCKET_WORDS]
 }
 
 // A room with these modes and scopes, in which nothing waits and nothing is held.
@@ -96,19 +94,7 @@ pub fn bare(modes: [u16; MOST_REACTORS], scopes: [u64; scopes::ROOM]) -> Room
     let events = slots::blank_rows();
     let values = values();
     let buckets = buckets();
-    let counts = Counts {
-        waiting: 0,
-        work: 0,
-    };
-    let held = store_calls::Counts {
-        values: 0,
-        buckets: 0,
-    };
-    let ledger = Ledger {
-        modes,
-        counts,
-        held,
-    };
+    let ledger = lens::bare_ledger(modes);
     Room {
         scopes,
         events,

@@ -1,48 +1,15 @@
 -- What the parts of a day's run know. Assumes nothing.
-use mathlib.Core.Bool.{true, false}
 use mathlib.Core.Path.{_≡_, sym}
-use mathlib.Core.List.{List, []}
+use mathlib.Core.List.{List}
 use Prim.Native.Nat.{ℕ, _+_, _-_, _≤_, _<_}
 use native.Mathlib.Omega.{arith}
 use lib.ListN.{length, take, drop, length-drop}
 use borrow.Author.Tests.{lt-ltb, le-ltb}
-use Rattle.lists.specs.Walk.{Result}
-use Rattle.refusals.specs.declared.Refusal.{Refusal}
-use Rattle.rows.specs.Bytes.{Image, be}
-use Rattle.rows.specs.Rows.{actionScope}
-use Rattle.tags.specs.Views.{ofGlobal}
-use Rattle.machine.specs.Table.{setOf}
-use Rattle.machine.specs.State.{Event, State, scopeAt}
-use Rattle.machine.specs.Machine.{Outcome, answer, ok, keysOk, rootMade, pushRoot, actionMade, pushAction, perform}
-use Rattle.lens.specs.declared.Counts.{Counts}
-use Rattle.lens.specs.Lens.{Queued, Waits}
-use Rattle.pushes.specs.Pushes.{Pushes, pushed, replyOf}
-use Rattle.pushes.specs.declared.Pushed.{Pushed}
+use Rattle.rows.specs.Bytes.{be}
 use Rattle.records.specs.Records.{mostBytes, bodyOf}
-use Rattle.records.specs.Views.{ofParsed, Parses}
+use Rattle.records.specs.Views.{Parses}
 use Rattle.records.specs.declared.Parsed.{Parsed}
-use Rattle.records.specs.declared.Parsed.the-variants.{Plain, Network, Control, Action, Transition, Pop, Malformed}
 use Rattle.gate_day.specs.Days.{pending, broken, whole, nextAt, bytesLeft, bodyAt}
-use Rattle.gate_day.specs.Views.{opOf, pushBy}
-
--- ---- a push by its record
-
--- what holds of every push and where nothing changes holds of it
-module _ (img : Image) (s : State) (P : Outcome → Type 0) (f : (m : Result Refusal Event) → P (pushed s m)) (n : P (answer ok s)) where
-  pub push-by : (parsed : Parsed) (keys : List ℕ) → P (pushBy img s (opOf parsed) (ofParsed parsed keys))
-  unfolding perform pushRoot pushAction
-  push-by (Plain t terminal m) keys = f (rootMade (keysOk img (take m keys)) (ofGlobal t) (setOf (take m keys)) terminal false false)
-  push-by (Network t m) keys = f (rootMade (keysOk img (take m keys)) (ofGlobal t) (setOf (take m keys)) false false true)
-  push-by (Control t) keys = f (rootMade (keysOk img []) (ofGlobal t) (setOf []) false true false)
-  push-by (Action a t terminal m) keys = f (actionMade img (scopeAt s (actionScope img a)) a (ofGlobal t) terminal (keysOk img (take m keys)) (setOf (take m keys)))
-  push-by (Transition r m reset t) keys = n
-  push-by Pop keys = n
-  push-by Malformed keys = n
-
--- nothing pushed
-pub unpushed-is : (s : State) (ws : List ℕ) (c : Counts) (r : Pushed) → Waits ws c → (replyOf (r .outcome) ≡ ok) × (r .counts ≡ c) →
-    Queued (s .waiting) (s .work) ws c → Pushes (answer ok s) r ws
-unpushed-is s ws c r w h q = record { reply = h .0; queued = rw (h .1) q; waits = rw (h .1) w }
 
 -- ---- what stands at a place
 

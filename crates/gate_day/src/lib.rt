@@ -1,41 +1,38 @@
 // The run of a gate day on rows: document 01, "The bench program". One record, one answer: `take_record` makes its call, `say` writes its line.
 // No test of the state rules is made on the way: every call keeps them (crate kept). Records come in pieces of any size; a piece's run takes as many
-// whole ones as there are. A new op comes in here in `take_record`; what else is made of an answer, beside `say`.
+// whole ones as there are. A new op comes in here in `op_of`; what else is made of an answer, beside `say`.
 ghost use mathlib.Core.Path.{_≡_};
 ghost use mathlib.Core.Bool.{true};
-ghost use mathlib.Core.List.{[]};
 ghost use Prim.Native.Nat.{_+_, _≤_};
 ghost use lib.ListN.{length, take};
 ghost use Rattle.lists.specs.Lent.{was, is};
-ghost use Rattle.machine.specs.State.{State, mostWaiting, fresh as freshState};
-ghost use Rattle.machine.specs.Machine.{ok, rules};
+ghost use Rattle.machine.specs.State.{State, fresh as freshState};
+ghost use Rattle.slots.specs.Slots.{roomForEvents};
+ghost use Rattle.machine.specs.Machine.{rules};
 ghost use Rattle.slots.specs.Slots.{eventsOf};
 ghost use Rattle.queue.specs.Queue.{headsOf, Held};
-ghost use Rattle.lens.specs.Lens.{Queued, Waits, Shows};
-ghost use Rattle.pops.specs.Pops.{popReply};
-ghost use Rattle.pushes.specs.Pushes.{Pushes, replyOf};
+ghost use Rattle.calls.specs.Calls.{replyOf};
 ghost use Rattle.records.specs.Records.{mostKeys, recordsFrom};
 ghost use Rattle.records.specs.Views.{keyCount, ofParsed, Parses};
 ghost use Rattle.table.specs.Check.{isTable};
 ghost use Rattle.puts.specs.Written.{Written};
 ghost use Rattle.lines.specs.Lines.{lineOf};
 ghost use Rattle.gate_day.specs.Days.{nextAt, bodyAt, ran, answersOf, fitting, imageEnd, opened, dayAnswers};
-ghost use Rattle.gate_day.specs.Views.{ofNext, opOf, pushBy, lineFrom, Kept, Takes, Pieced};
+ghost use Rattle.gate_day.specs.Views.{ofNext, opOf, lineFrom, Kept, Taking, Pieced};
 ghost use Rattle.lens.specs.Holds.{Holds, rows, were, are, rowsOf, stateIn};
+use calls::Answer;
+use calls::Call;
+use calls::Performed;
 use entries::BucketRows;
 use entries::ValueRows;
 use lens::Ledger;
 use lens::Room;
 use plan::Request;
-use pops::Popped;
 use pushes::ActionPush;
-use pushes::Pushed;
-use ready::Gathered;
+use pushes::Push;
 use records::Parsed;
-use refusals::Outcome;
 use table::Checked;
 use table::ImageRefusal;
-use tags::GlobalTag;
 
 // The room that the longest line needs, with much to spare; `longest` of specs/ says the same.
 pub const LONGEST: usize = 4096;
@@ -107,9 +104,7 @@ fn end_of(bytes: &[u8], at: usize, n: usize) -> usize
 
 // What a record asks for.
 enum Op {
-    Push,
-    Transition(Request),
-    Pop,
+    Call(Call),
     Malformed,
 }
 
@@ -117,124 +112,44 @@ fn op_of(parsed: Parsed) -> Op
     ensures { λ r. ⌜ r ≡ opOf parsed ⌝ }
 {
     match parsed {
-        Parsed::Plain(_, _, _) => Op::Push,
-        Parsed::Network(_, _) => Op::Push,
-        Parsed::Control(_) => Op::Push,
-        Parsed::Action(_, _, _, _) => Op::Push,
-        Parsed::Transition(reactor, mode, reset, c) => Op::Transition(Request {
+        Parsed::Plain(tag, terminal, _) => Op::Call(Call::Push(Push::Plain(tag, terminal))),
+        Parsed::Network(tag, _) => Op::Call(Call::Push(Push::Network(tag))),
+        Parsed::Control(tag) => Op::Call(Call::Push(Push::Control(tag))),
+        Parsed::Action(action, tag, terminal, _) => Op::Call(Call::Push(Push::Action(ActionPush {
+            action,
+            tag,
+            terminal,
+        }))),
+        Parsed::Transition(reactor, mode, reset, c) => Op::Call(Call::Transition(Request {
             reactor,
             mode,
             reset,
             c,
-        }),
-        Parsed::Pop => Op::Pop,
+        })),
+        Parsed::Pop => Op::Call(Call::Pop),
         Parsed::Malformed => Op::Malformed,
     }
 }
 
-fn unpushed(counts: lens::Counts) -> Pushed
-    ensures { λ r. ⌜ (replyOf (r .outcome) ≡ ok) × (r .counts ≡ counts) ⌝ }
-{
-    Pushed {
-        outcome: Outcome::Done,
-        counts,
-    }
-}
-
-// A push by its record, whose keys are the first of these; what is no push changes nothing.
-fn push_with(
-    image: &[u8],
-    scopes: &[u64; scopes::ROOM],
-    events: &mut [u64; slots::ROOM],
-    counts: lens::Counts,
-    parsed: Parsed,
-    keys: &[u16],
-) -> Pushed
-    requires { ⌜ Waits (now events) counts ⌝ }
-    requires { ⌜ keyCount parsed ≤ length (now keys) ⌝ }
-    ensures { λ r. ⌜ ((s : State) → Queued (s .waiting) (s .work) (was events) counts → Shows s (was scopes) →
-        Pushes (pushBy (was image) s (opOf parsed) (ofParsed parsed (was keys))) r (is events)) ⌝ }
+// How many reaction keys it has.
+fn key_count(parsed: Parsed) -> usize
+    ensures { λ r. ⌜ r ≡ keyCount parsed ⌝ }
 {
     match parsed {
-        Parsed::Plain(tag, terminal, n) => {
-            let end = n as usize;
-            pushes::push_event(image, events, counts, tag, terminal, &keys[..end])
-        }
-        Parsed::Network(tag, n) => {
-            let end = n as usize;
-            pushes::push_network_event(image, events, counts, tag, &keys[..end])
-        }
-        Parsed::Control(tag) => pushes::push_control_event(events, counts, tag),
-        Parsed::Action(action, tag, terminal, n) => {
-            let end = n as usize;
-            let p = ActionPush {
-                action,
-                tag,
-                terminal,
-            };
-            pushes::push_action_event(image, scopes, events, counts, p, &keys[..end])
-        }
-        Parsed::Transition(_, _, _, _) => unpushed(counts),
-        Parsed::Pop => unpushed(counts),
-        Parsed::Malformed => unpushed(counts),
+        Parsed::Plain(_, _, n) => n as usize,
+        Parsed::Network(_, n) => n as usize,
+        Parsed::Control(_) => 0,
+        Parsed::Action(_, _, _, n) => n as usize,
+        Parsed::Transition(_, _, _, _) => 0,
+        Parsed::Pop => 0,
+        Parsed::Malformed => 0,
     }
 }
 
-// The same, and every queue's least tag is kept.
-fn push(
-    image: &[u8],
-    scopes: &[u64; scopes::ROOM],
-    events: &mut [u64; slots::ROOM],
-    heads: &mut [u64; queue::HEADS],
-    counts: lens::Counts,
-    parsed: Parsed,
-    keys: &[u16],
-) -> Pushed
-    requires { ⌜ Waits (now events) counts ⌝ }
-    requires { ⌜ keyCount parsed ≤ length (now keys) ⌝ }
-    requires { ⌜ Held (now heads) (headsOf (take (counts .waiting) (eventsOf (now events)))) ⌝ }
-    ensures { λ r. ⌜ ((s : State) → Queued (s .waiting) (s .work) (was events) counts → Shows s (was scopes) →
-        Pushes (pushBy (was image) s (opOf parsed) (ofParsed parsed (was keys))) r (is events)) ⌝ }
-    ensures { λ r. ⌜ Held (is heads) (headsOf (take (r .counts .waiting) (eventsOf (is events)))) ⌝ }
-{
-    let r = push_with(image, scopes, events, counts, parsed, keys);
-    let after = r.counts;
-    queue::grow(heads, events, counts.waiting, after.waiting);
-    r
-}
-
-// What a record is answered.
-enum Said {
-    // a push or a transition
-    Outcome(Outcome),
-    // a pop: its answer stands beside it
-    Popped,
-    Malformed,
-}
-
-struct Answered {
-    said: Said,
-    popped: Popped,
-    after: Ledger,
-}
-
-// An answer that is no pop's.
-fn answer_of(said: Said, after: Ledger) -> Answered
-    ensures { λ r. ⌜ (r .said ≡ said) × ((r .after ≡ after) × (r .popped .gathered .actions ≡ 0)) ⌝ }
-{
-    let counts = after.counts;
-    let gathered = Gathered::nothing_yet();
-    let popped = Popped {
-        found: false,
-        tag: GlobalTag(0, 0),
-        gathered,
-        counts,
-    };
-    Answered {
-        said,
-        popped,
-        after,
-    }
+// A record taken: it was malformed, or this is what its call answered; the ledger after it.
+struct Taken {
+    malformed: bool,
+    performed: Performed,
 }
 
 // A record's call on the state in the arrays, with the least tags and a pop's action keys in theirs; what is malformed changes nothing.
@@ -245,117 +160,98 @@ fn take_record(
     values: &mut ValueRows,
     buckets: &mut BucketRows,
     heads: &mut [u64; queue::HEADS],
-    actions: &mut [u16; slots::MOST_WAITING],
+    actions: &mut [u16; slots::ROOM_FOR_EVENTS],
     given: Ledger,
     parsed: Parsed,
     keys: &[u16],
-) -> Answered
+) -> Taken
     requires { ⌜ Kept (now image) (rows scopes events values buckets given) ⌝ }
     requires { ⌜ Held (now heads) (headsOf (take (given .counts .waiting) (eventsOf (now events)))) ⌝ }
-    requires { ⌜ (length (now actions) ≡ mostWaiting) × (keyCount parsed ≤ length (now keys)) ⌝ }
-    ensures { λ r. ⌜ ((s : State) → rules (was image) s ≡ true → Holds (was image) s (were scopes events values buckets given) →
-        Takes (was image) s (ofParsed parsed (was keys)) (lineFrom (was image) r (is actions)) (are scopes events values buckets (r .after))) ⌝ }
-    ensures { λ r. ⌜ Held (is heads) (headsOf (take (r .after .counts .waiting) (eventsOf (is events)))) ⌝ }
-    ensures { λ r. ⌜ (length (is actions) ≡ mostWaiting) × (r .popped .gathered .actions ≤ mostWaiting) ⌝ }
+    requires { ⌜ (length (now actions) ≡ roomForEvents) × (keyCount parsed ≤ length (now keys)) ⌝ }
+    ensures { λ r. ⌜ Taking (was image) (were scopes events values buckets given) (ofParsed parsed (was keys))
+        (lineFrom (was image) r (is actions)) (are scopes events values buckets (r .performed .ledger)) ⌝ }
+    ensures { λ r. ⌜ Held (is heads) (headsOf (take (r .performed .ledger .counts .waiting) (eventsOf (is events)))) ⌝ }
+    ensures { λ r. ⌜ (length (is actions) ≡ roomForEvents) × (r .performed .gathered .actions ≤ roomForEvents) ⌝ }
 {
-    let counts = given.counts;
     match op_of(parsed) {
-        Op::Push => {
-            let p = push(image, scopes, events, heads, counts, parsed, keys);
-            let outcome = p.outcome;
-            let left = p.counts;
-            let mut after = given;
-            after.counts = left;
-            answer_of(Said::Outcome(outcome), after)
-        }
-        Op::Pop => {
-            let popped = pops::pop_next_event(image, scopes, events, counts, actions, heads);
-            let left = popped.counts;
-            let mut after = given;
-            after.counts = left;
-            Answered {
-                said: Said::Popped,
-                popped,
-                after,
-            }
-        }
-        Op::Transition(request) => {
-            let t = transition::apply_transition(
+        Op::Call(call) => {
+            let n = key_count(parsed);
+            let performed = calls::perform(
                 image,
                 scopes,
                 events,
                 values,
                 buckets,
+                heads,
+                actions,
                 given,
-                request,
+                call,
+                &keys[..n],
             );
-            let outcome = t.outcome;
-            let after = t.ledger;
-            let left = after.counts;
-            *heads = queue::heads(events, left.waiting);
-            answer_of(Said::Outcome(outcome), after)
+            Taken {
+                malformed: false,
+                performed,
+            }
         }
-        Op::Malformed => answer_of(Said::Malformed, given),
+        Op::Malformed => {
+            let performed = calls::told(Answer::Nothing, given);
+            Taken {
+                malformed: true,
+                performed,
+            }
+        }
     }
 }
 
 // ---- its line
 
-// Done, or by the refusal's number.
-fn say_outcome(out: &mut [u8], at: usize, outcome: Outcome) -> usize
-    requires { ⌜ at ≤ length (now out) ⌝ }
-    ensures { λ r. ⌜ Written (was out) at (lineOf [] (replyOf outcome)) (is out) r ⌝ }
-{
-    match outcome {
-        Outcome::Done => lines::write_ok(out, at),
-        Outcome::Refused(n) => {
-            let number = refusals::number_of(n);
-            lines::write_refused(out, at, number)
-        }
-    }
-}
-
-// The ready event, or "nothing".
-fn say_popped(
+// The line of a call's answer; no record asks a question.
+fn say_answer(
     out: &mut [u8],
     at: usize,
     image: &[u8],
-    p: Popped,
-    actions: &[u16; slots::MOST_WAITING],
+    p: Performed,
+    actions: &[u16; slots::ROOM_FOR_EVENTS],
 ) -> usize
     requires { ⌜ at ≤ length (now out) ⌝ }
-    requires { ⌜ (length (now actions) ≡ mostWaiting) × (p .gathered .actions ≤ mostWaiting) ⌝ }
-    ensures { λ r. ⌜ Written (was out) at (lineOf (was image) (popReply p (was actions))) (is out) r ⌝ }
+    requires { ⌜ (length (now actions) ≡ roomForEvents) × (p .gathered .actions ≤ roomForEvents) ⌝ }
+    ensures { λ r. ⌜ Written (was out) at (lineOf (was image) (replyOf p (was actions))) (is out) r ⌝ }
 {
     if p.found {
         let tag = p.tag;
         let g = p.gathered;
         return lines::write_ready(out, at, image, tag, g, actions);
     }
-    lines::write_nothing(out, at)
+    let answer = p.answer;
+    match answer {
+        Answer::Done => lines::write_ok(out, at),
+        Answer::Nothing => lines::write_nothing(out, at),
+        Answer::Refused(n) => {
+            let number = refusals::number_of(n);
+            lines::write_refused(out, at, number)
+        }
+        Answer::Tag(_) => at,
+        Answer::Flag(_) => at,
+        Answer::Number(_) => at,
+    }
 }
 
-// The line of an answer.
 fn say(
     out: &mut [u8],
     at: usize,
     image: &[u8],
-    a: Answered,
-    actions: &[u16; slots::MOST_WAITING],
+    t: Taken,
+    actions: &[u16; slots::ROOM_FOR_EVENTS],
 ) -> usize
     requires { ⌜ at ≤ length (now out) ⌝ }
-    requires { ⌜ (length (now actions) ≡ mostWaiting) × (a .popped .gathered .actions ≤ mostWaiting) ⌝ }
-    ensures { λ r. ⌜ Written (was out) at (lineFrom (was image) a (was actions)) (is out) r ⌝ }
+    requires { ⌜ (length (now actions) ≡ roomForEvents) × (t .performed .gathered .actions ≤ roomForEvents) ⌝ }
+    ensures { λ r. ⌜ Written (was out) at (lineFrom (was image) t (was actions)) (is out) r ⌝ }
 {
-    let said = a.said;
-    match said {
-        Said::Outcome(o) => say_outcome(out, at, o),
-        Said::Popped => {
-            let p = a.popped;
-            say_popped(out, at, image, p, actions)
-        }
-        Said::Malformed => lines::write_refused(out, at, 1),
+    if t.malformed {
+        return lines::write_refused(out, at, 1);
     }
+    let p = t.performed;
+    say_answer(out, at, image, p, actions)
 }
 
 // ---- the run
@@ -373,7 +269,7 @@ pub fn run_records(image: &[u8], day: Room, bytes: &[u8], out: &mut [u8]) -> Pie
     let mut ledger = day.ledger;
     let counts = ledger.counts;
     let mut heads = queue::heads(&events, counts.waiting);
-    let mut actions = [0u16; slots::MOST_WAITING];
+    let mut actions = [0u16; slots::ROOM_FOR_EVENTS];
     let mut keys = [0u16; records::MOST_KEYS];
     let mut used: usize = 0;
     let mut written: usize = 0;
@@ -389,7 +285,7 @@ pub fn run_records(image: &[u8], day: Room, bytes: &[u8], out: &mut [u8]) -> Pie
             Next::Whole(n) => {
                 let end = end_of(bytes, used, n);
                 let parsed = read(bytes, used, n, &mut keys);
-                let a = take_record(
+                let t = take_record(
                     image,
                     &mut scopes,
                     &mut events,
@@ -401,8 +297,8 @@ pub fn run_records(image: &[u8], day: Room, bytes: &[u8], out: &mut [u8]) -> Pie
                     parsed,
                     &keys,
                 );
-                written = say(out, written, image, a, &actions);
-                ledger = a.after;
+                written = say(out, written, image, t, &actions);
+                ledger = t.performed.ledger;
                 used = end;
             }
         }

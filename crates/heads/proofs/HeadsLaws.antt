@@ -1,13 +1,12 @@
 -- A law for each case of a head, and the loop over the scopes. Assumes nothing.
 use mathlib.Core.Bool.{Bool, true, false, cond}
 use mathlib.Core.Path.{_≡_, refl, sym, ap, _∙_}
-use mathlib.Core.List.{List, [], _∷_, map}
-use Prim.Native.Nat.{ℕ, zero, suc, _+_, _-_, _<_, _≤_}
+use mathlib.Core.List.{List, map}
+use Prim.Native.Nat.{ℕ, suc, _+_, _-_, _<_, _≤_}
 use native.Mathlib.Omega.{arith}
 use native.Mathlib.Numerals.{add-one}
 use lib.ListN.{getD}
 use Rattle.lists.specs.Tests.{flag}
-use Rattle.lists.specs.Walk.{Result, done, refused}
 use Rattle.lists.specs.Lists.{foldl, from}
 use Rattle.refusals.specs.declared.Refusal.{Refusal}
 use Rattle.tags.specs.Tags.{Tag, Clock, at, earlier, toGlobal}
@@ -95,38 +94,39 @@ module _ (l : Least) (e : Earliest) (h : ofEarliest e ≡ l) where
   pub root-at : {t : QueueTag} → e ≡ E.At t → {r : H.Head} → r ≡ rootOf (least (ofQueue t)) → r ≡ rootOf l
   root-at p q = q ∙ ap rootOf (sym (ap ofEarliest p) ∙ h)
 
--- ---- the loop: what is left to look at
+-- ---- the loop over the scopes
 
-module _ (ss : List Scope) (ls : List Least) (n : ℕ) where
-  abbrev pub from-here : ℕ → H.Head → H.Head
-  from-here i b = foldl sooner b (map (headIn ss ls) (from i (n - i)))
+-- the best so far, and those from i on: the least of both is the least of all
+pub record Looked (ss : List Scope) (ls : List Least) (n i : ℕ) (found : Bool) (best : HeadAt) : Type 0 where
+  pub rest : leastHead ss ls n ≡ foldl sooner (bestOf found best) (map (headIn ss ls) (from i (n - i)))
 
-  pub loop-start : leastHead ss ls n ≡ from-here 0 H.empty
-  unfolding leastHead
-  loop-start = let e : n - 0 ≡ n = omega arith in rw e
+pub looked-none : {ss : List Scope} {ls : List Least} {n : ℕ} {best : HeadAt} → Looked ss ls n 0 false best
+unfolding leastHead
+looked-none {n = n} = let e : n - 0 ≡ n = omega arith in record { rest = rw e }
 
-  pub loop-next : (i : ℕ) (b a : H.Head) → i < n → a ≡ sooner b (headIn ss ls i) → leastHead ss ls n ≡ from-here i b → leastHead ss ls n ≡ from-here (i + 1) a
+module _ {ss : List Scope} {ls : List Least} {n i : ℕ} {found : Bool} {best : HeadAt} (w : Looked ss ls n i found best) where
+  looked-next : (f : Bool) (b : HeadAt) → i < n → bestOf f b ≡ sooner (bestOf found best) (headIn ss ls i) → Looked ss ls n (i + 1) f b
   unfolding foldl from
-  loop-next i b a h e p = let s : n - i ≡ suc (n - (i + 1)) = omega arith in p ∙ rw (s, e, add-one)
+  looked-next f b h e = let s : n - i ≡ suc (n - (i + 1)) = omega arith in record { rest = w .rest ∙ rw (s, e, add-one) }
 
-  module _ (i : ℕ) (found : Bool) (best : HeadAt) (h : i < n) (r : Head) (e : headOf r ≡ headIn ss ls i) (p : leastHead ss ls n ≡ from-here i (bestOf found best)) where
-    pub loop-empty : r ≡ C.Empty → leastHead ss ls n ≡ from-here (i + 1) (bestOf found best)
-    loop-empty q = loop-next i (bestOf found best) (bestOf found best) h (kept (bestOf found best) ∙ ap (sooner (bestOf found best)) (sym (ap headOf q) ∙ e)) p
+  module _ (h : i < n) {r : Head} (e : headOf r ≡ headIn ss ls i) where
+    pub looked-empty : r ≡ C.Empty → Looked ss ls n (i + 1) found best
+    looked-empty q = looked-next found best h (kept (bestOf found best) ∙ ap (sooner (bestOf found best)) (sym (ap headOf q) ∙ e))
       where
         kept : (b : H.Head) → b ≡ sooner b H.empty
         kept H.empty = refl
         kept (H.head q t g) = refl
 
-    module _ (x : HeadAt) (q : r ≡ C.At x) (s : Bool) (t : sooner (bestOf found best) (headHere x) ≡ cond s (headHere x) (bestOf found best)) where
+    module _ {x : HeadAt} (q : r ≡ C.At x) (s : Bool) (t : sooner (bestOf found best) (headHere x) ≡ cond s (headHere x) (bestOf found best)) where
       same : sooner (bestOf found best) (headIn ss ls i) ≡ cond s (headHere x) (bestOf found best)
       same = ap (sooner (bestOf found best)) (sym e ∙ ap headOf q) ∙ t
 
-      pub loop-sooner : s ≡ true → leastHead ss ls n ≡ from-here (i + 1) (headHere x)
-      loop-sooner y = loop-next i (bestOf found best) (headHere x) h (sym (rw y at same)) p
+      pub looked-sooner : s ≡ true → Looked ss ls n (i + 1) true x
+      looked-sooner y = looked-next true x h (sym (rw y at same))
 
-      pub loop-kept : s ≡ false → leastHead ss ls n ≡ from-here (i + 1) (bestOf found best)
-      loop-kept y = loop-next i (bestOf found best) (bestOf found best) h (sym (rw y at same)) p
+      pub looked-kept : s ≡ false → Looked ss ls n (i + 1) found best
+      looked-kept y = looked-next found best h (sym (rw y at same))
 
-  pub loop-end : (i : ℕ) (b : H.Head) → n ≤ i → leastHead ss ls n ≡ from-here i b → b ≡ leastHead ss ls n
+  pub looked-all : n ≤ i → {f : Bool} → found ≡ f → bestOf f best ≡ leastHead ss ls n
   unfolding foldl from
-  loop-end i b h p = let s : n - i ≡ 0 = omega arith in sym (p ∙ rw s)
+  looked-all h e = let s : n - i ≡ 0 = omega arith in sym (ap (λ f. bestOf f best) e) ∙ sym (w .rest ∙ rw s)

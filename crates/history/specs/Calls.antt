@@ -3,17 +3,19 @@ use Prim.Native.Nat.{ℕ, suc, _<_, _≤_}
 use mathlib.Core.Bool.{Bool, true, false, _&&_}
 use mathlib.Core.Path.{_≡_, refl, ap, _∙_, sym, fun-ext}
 use mathlib.Core.List.{List, [], _∷_, _++_, map}
+use native.Mathlib.Nat.{le-trans}
 use native.Mathlib.Omega.{arith}
 use native.Mathlib.Decide.{decLt}
 use lib.Dec.{ltb, eqb}
 use lib.ListN.{length, take, getD, length-map, List·getD-eq-default}
 use borrow.Author.Tests.{lt-ltb, le-ltb}
 use Rattle.lists.specs.Tests.{and-no, and-right, lt-eqb}
-use Rattle.lists.specs.Lists.{keep, lose, from, foldl}
+use Rattle.lists.specs.Lists.{keep, lose, every, from, foldl}
 use Rattle.lists.specs.Walk.{Result, done, refused, _>>=_, bind-done}
 use Rattle.refusals.specs.declared.Refusal.{Refusal}
 use Rattle.refusals.specs.declared.Refusal.the-variants as R
 use Rattle.rows.specs.Bytes.{Image}
+use Rattle.rows.specs.Limits.{versions, limits, limits-fit}
 use Rattle.rows.specs.Rows.{modeReactor, modeScope, actionScope}
 use Rattle.rows.specs.Lineage.{inSubtree}
 use Rattle.tags.specs.Tags.{Tag, at, within}
@@ -21,7 +23,7 @@ use Rattle.store.specs.Store as S
 use Rattle.store.specs.Store.{Store}
 use Rattle.table.specs.Check.{isTable}
 use Rattle.machine.specs.Table.{scopes, reactors, modes, actions, setOf}
-use Rattle.machine.specs.State.{Event, State, mostWaiting, rootEvent, scopeAt, activeAt, everAt, withStore, accepted}
+use Rattle.machine.specs.State.{Event, State, rootEvent, scopeAt, activeAt, everAt, withStore, accepted}
 use Rattle.machine.specs.Heads as H
 use Rattle.machine.specs.Heads.{Head, Taking, peek, untaken, takeAt, taking, readyOf}
 use Rattle.machine.specs.Transition as D
@@ -35,13 +37,18 @@ use Rattle.kept.specs.Kept.{rules-tell, own-rules}
 use Rattle.kept.specs.Never.{own-performs}
 use Rattle.lists.specs.Each.{Each, each-map, each-append, each-all, each-imp}
 use Rattle.history.specs.Deeds.{bare, actionPushed, transitionEvents, liesIn, deed, madeBy, drops, takesIn, isPop, ifOk, turnsOf, turns-take, turns-few, takesAt, takesInTurn}
-use Rattle.history.specs.History.{Fate, waits, popped, dropped, Entry, History, isWaiting, moment, callAt, outcome, deedAt, newBy, popTakes, resetDrops, takenBy, Fated, Right, Handed}
+use Rattle.history.specs.History.{mostTurns, Fate, waits, popped, dropped, Entry, History, isWaiting, moment, callAt, outcome, deedAt, newBy, popTakes, resetDrops, takenBy, Fated, Right, Handed}
 use Rattle.history.specs.History.{none, some, inOrder}
 use Rattle.history.specs.Marks.{fated, eventsOf, nowIn, marked, each-marked, mark-now, order-marked, entry, added, add-now, add-names, names-none, order-added, Later, later-same}
 use Rattle.history.specs.Marks.{later-then, later-dropped, later-added}
 use Rattle.history.specs.Grown.{bares, accepted-grown, transition-grown, reset-bares, history-bares}
 use Rattle.history.specs.Pops.{Open, Pop, pop-turns, none-taken, ready-bare}
 use Rattle.history.specs.Ends.{ended-more, past-pop, past-reset, ended-new, ended-dropped, now-reset, no-pop, Amid, amid-hit, amid-miss, amid-first, amid-last}
+
+-- a pop has turns enough
+turns-fit : (img : Image) → limits img .waiting ≤ mostTurns
+unfolding versions every
+turns-fit img = limits-fit (λ l. l .waiting) mostTurns tt img
 
 -- ---- entries
 
@@ -165,18 +172,18 @@ module _ (img : Image) (table : isTable img ≡ true) (cs : List Call) (n : ℕ)
 
   -- ---- what a push accepts, and what a call of the store leaves
 
-  root-event : (t : Tag) (ks : List ℕ) (a b c : Bool) (u : State) → pushRoot img s t ks a b c ≡ done u → accepted s (rootEvent t (setOf ks) a b c) ≡ done u
+  root-event : (t : Tag) (ks : List ℕ) (a b c : Bool) (u : State) → pushRoot img s t ks a b c ≡ done u → accepted img s (rootEvent t (setOf ks) a b c) ≡ done u
   unfolding pushRoot rootMade
   root-event t ks a b c u d =
-      bind-done (rootMade (keysOk img ks) t (setOf ks) a b c) (accepted s) d λ e m q.
-      ap (accepted s) (done-is (need-is (within t) R.ArgumentTag (need-is (keysOk img ks) R.Key m .1) .1)) ∙ q
+      bind-done (rootMade (keysOk img ks) t (setOf ks) a b c) (accepted img s) d λ e m q.
+      ap (accepted img s) (done-is (need-is (within t) R.ArgumentTag (need-is (keysOk img ks) R.Key m .1) .1)) ∙ q
 
-  action-event : (a : ℕ) (t : Tag) (b : Bool) (ks : List ℕ) (u : State) → pushAction img s a t b ks ≡ done u → accepted s (actionPushed img s a t b ks) ≡ done u
+  action-event : (a : ℕ) (t : Tag) (b : Bool) (ks : List ℕ) (u : State) → pushAction img s a t b ks ≡ done u → accepted img s (actionPushed img s a t b ks) ≡ done u
   unfolding pushAction actionMade actionPlaced
   action-event a t b ks u d =
-      bind-done (actionMade img (scopeAt s (actionScope img a)) a t b (keysOk img ks) (setOf ks)) (accepted s) d λ v m q.
-      either-is (toRoot img a) (need-is (within t) R.ArgumentTag (need-is (ltb a (actions img) && keysOk img ks) R.Key m .1) .1) (λ e r. rw e (ap (accepted s) (done-is r) ∙ q)) λ e r.
-      bind-done (localTag (scopeAt s (actionScope img a)) t) _ r λ x y z. rw (e, y) (ap (accepted s) (done-is z) ∙ q)
+      bind-done (actionMade img (scopeAt s (actionScope img a)) a t b (keysOk img ks) (setOf ks)) (accepted img s) d λ v m q.
+      either-is (toRoot img a) (need-is (within t) R.ArgumentTag (need-is (ltb a (actions img) && keysOk img ks) R.Key m .1) .1) (λ e r. rw e (ap (accepted img s) (done-is r) ∙ q)) λ e r.
+      bind-done (localTag (scopeAt s (actionScope img a)) t) _ r λ x y z. rw (e, y) (ap (accepted img s) (done-is z) ∙ q)
 
   with-store : (r : Result Refusal Store) (t : State) → (r >>= λ st. done (withStore s st)) ≡ done t → bares t ≡ bares s
   with-store r t d = bind-done r (λ st. done (withStore s st)) d λ st e q. ap bares (sym (done-is q))
@@ -287,8 +294,8 @@ module _ (img : Image) (table : isTable img ≡ true) (cs : List Call) (n : ℕ)
 
     accepting :
         takesIn (deedAt img cs n) ≡ true → Keeps → (x : Event) → ((t : State) → outcome img cs n ≡ answer ok t → newBy img cs n ≡ bare x ∷ []) →
-        (r : Step) → ((t : State) → r ≡ done t → accepted s x ≡ done t) → outcome img cs n ≡ settleWith ok s r → After img cs n h
-    accepting a k x m r d e = settled r e λ t y f. grows a t f k (bare x ∷ []) (m t f) (accepted-grown s x t (d t y))
+        (r : Step) → ((t : State) → r ≡ done t → accepted img s x ≡ done t) → outcome img cs n ≡ settleWith ok s r → After img cs n h
+    accepting a k x m r d e = settled r e λ t y f. grows a t f k (bare x ∷ []) (m t f) (accepted-grown img s x t (d t y))
 
     -- ---- transitions
 
@@ -324,14 +331,14 @@ module _ (img : Image) (table : isTable img ≡ true) (cs : List Call) (n : ℕ)
       takes : (r : ℕ) (e : Event) → popTakes img cs n r e ≡ takesAt t (getD hs r H.empty) e
       takes r e = takes-by call r e ∙ ap (λ d. takesInTurn img s d r e) top
 
-      hit : (x : Entry) (r : ℕ) → r ≤ mostWaiting → Amid img cs n r x → isWaiting (x .fate) ≡ true → takesAt t (getD hs r H.empty) (x .event) ≡ true → Amid img cs n (suc r) (fated x (popped n r))
+      hit : (x : Entry) (r : ℕ) → r ≤ mostTurns → Amid img cs n r x → isWaiting (x .fate) ≡ true → takesAt t (getD hs r H.empty) (x .event) ≡ true → Amid img cs n (suc r) (fated x (popped n r))
       hit x r l a w z = amid-hit img cs n x r call l a w (takes r (x .event) ∙ z)
 
       miss : (x : Entry) (r : ℕ) → Amid img cs n r x → (isWaiting (x .fate) && takesAt t (getD hs r H.empty) (x .event)) ≡ false → Amid img cs n (suc r) x
       miss x r a z = amid-miss img cs n x r a (ap (isWaiting (x .fate) &&_) (takes r (x .event)) ∙ z)
 
-      room : length (s .waiting) ≤ mostWaiting
-      room = rules-tell img s (own-rules img table (take n cs)) .sound .queued .room
+      room : length (s .waiting) ≤ mostTurns
+      room = le-trans (rules-tell img s (own-rules img table (take n cs)) .sound .queued .room) (turns-fit img)
 
       pops-at : Pop (Amid img cs n) n t hs hit miss (foldl (takeAt t) begun hs) h → After img cs n h
       pops-at p =
@@ -381,7 +388,7 @@ module _ (img : Image) (table : isTable img ≡ true) (cs : List Call) (n : ℕ)
       only-asked (not-pop img s c refl) (quiet _ c refl) (makes-none _ c refl) (drops-none _ c (λ e. refl)) (need (ltb i (scopes img)) R.Key (done (flag (everAt s i)))) e
   called (pushValue a t v) c e =
       stored (not-pop img s c refl) (quiet _ c refl) (makes-none _ c refl) (drops-none _ c (λ e. refl)) ok _
-      (λ u. for-store a t (S.pushed (s .store) a t v >>= λ st. done (withStore s st)) u (with-store (S.pushed (s .store) a t v))) e
+      (λ u. for-store a t (S.pushed (limits img .held) (s .store) a t v >>= λ st. done (withStore s st)) u (with-store (S.pushed (limits img .held) (s .store) a t v))) e
   called (nextStep a o m) c e =
       only-asked (not-pop img s c refl) (quiet _ c refl) (makes-none _ c refl) (drops-none _ c (λ e. refl))
       (forStore img a (at o m) (done (foundReply (S.nextMicrostep (s .store) a o m)))) e
@@ -393,8 +400,8 @@ module _ (img : Image) (table : isTable img ≡ true) (cs : List Call) (n : ℕ)
       (λ u. for-store a t (done (withStore s (S.clearedBefore (s .store) a t))) u (with-store (done (S.clearedBefore (s .store) a t)))) e
   called (moveValue a t v) c e =
       stored (not-pop img s c refl) (quiet _ c refl) (makes-none _ c refl) (drops-none _ c (λ e. refl)) ok _
-      (λ u. for-store a t (need (within v) R.ArgumentTag (S.moved (s .store) a t v >>= λ st. done (withStore s st))) u
-      (λ u d. with-store (S.moved (s .store) a t v) u (need-is (within v) R.ArgumentTag d .1))) e
+      (λ u. for-store a t (need (within v) R.ArgumentTag (S.moved (limits img .held) (s .store) a t v >>= λ st. done (withStore s st))) u
+      (λ u d. with-store (S.moved (limits img .held) (s .store) a t v) u (need-is (within v) R.ArgumentTag d .1))) e
   called (clearAction a) c e =
       stored (not-pop img s c refl) (quiet _ c refl) (makes-none _ c refl) (drops-none _ c (λ e. refl)) ok _
       (λ u d. with-store (done (S.cleared (s .store) a)) u (need-is (ltb a (actions img)) R.Key d .1)) e

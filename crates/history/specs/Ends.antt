@@ -10,10 +10,10 @@ use borrow.Author.Tests.{lt-ltb, le-ltb, le-leb, lt-leb, leb-false, eq-eqb}
 use Rattle.lists.specs.Tests.{and-no, lt-eqb, gt-eqb, gt-ltb}
 use Rattle.lists.specs.Every.{by-test, no-way, not-both}
 use Rattle.rows.specs.Bytes.{Image}
-use Rattle.machine.specs.State.{Event, mostWaiting}
+use Rattle.machine.specs.State.{Event}
 use Rattle.machine.specs.Machine.{Call, pop, ok}
 use Rattle.history.specs.Deeds.{takesIn}
-use Rattle.history.specs.History.{Fate, waits, popped, dropped, Entry, callAt, outcome, deedAt, isWaiting, isTaken, isDropped, openAt, openIn, waitsAt, waitsIn, popTakes, resetDrops}
+use Rattle.history.specs.History.{mostTurns, Fate, waits, popped, dropped, Entry, callAt, outcome, deedAt, isWaiting, isTaken, isDropped, openAt, openIn, waitsAt, waitsIn, popTakes, resetDrops}
 use Rattle.history.specs.History.{Fated, Ended, Right}
 use Rattle.history.specs.Marks.{fated, entry}
 use Rattle.history.specs.Pops.{not-taken}
@@ -117,7 +117,7 @@ module _ (img : Image) (cs : List Call) (n : ℕ) where
     pub left : isDropped n (x .fate) ≡ false
 
   pub amid-hit :
-      (x : Entry) (r : ℕ) → callAt cs n ≡ pop → r ≤ mostWaiting → Amid r x → isWaiting (x .fate) ≡ true → popTakes img cs n r (x .event) ≡ true →
+      (x : Entry) (r : ℕ) → callAt cs n ≡ pop → r ≤ mostTurns → Amid r x → isWaiting (x .fate) ≡ true → popTakes img cs n r (x .event) ≡ true →
       Amid (suc r) (fated x (popped n r))
   unfolding waitsIn
   amid-hit x r call l a w t =

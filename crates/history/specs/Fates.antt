@@ -13,14 +13,14 @@ use borrow.Author.Tests.{lt-ltb, lt-leb}
 use Rattle.lists.specs.Lists.{keep, count}
 use Rattle.rows.specs.Bytes.{Image}
 use Rattle.table.specs.Check.{isTable}
-use Rattle.machine.specs.State.{State, ordinary, mostWaiting, fresh}
+use Rattle.machine.specs.State.{State, ordinary, fresh}
 use Rattle.machine.specs.Machine.{Call, pop, peekTag, ordinaryWork, nothing, number, perform, step, run, replies}
 use Rattle.lists.specs.Every.{count-map}
 use Rattle.kept.specs.Kept.{rules-tell, own-rules}
 use Rattle.kept.specs.Never.{own-performs}
 use Rattle.lists.specs.Each.{Each, each-imp, each-at, keep-same, count-keep}
 use Rattle.history.specs.Deeds.{bare}
-use Rattle.history.specs.History.{Fate, waits, popped, dropped, Entry, History, moment, callAt, outcome, newBy, resetDrops, isWaiting, isDropped, openAt, waitsAt, waitsThrough}
+use Rattle.history.specs.History.{mostTurns, Fate, waits, popped, dropped, Entry, History, moment, callAt, outcome, newBy, resetDrops, isWaiting, isDropped, openAt, waitsAt, waitsThrough}
 use Rattle.history.specs.History.{takenBy, Fated, Right, Handed, inOrder, Told}
 use Rattle.history.specs.Marks.{eventsOf, nowIn, waits-blind, names-blind, taken-later}
 use Rattle.history.specs.Grown.{bares}
@@ -106,7 +106,7 @@ module _ (img : Image) (table : isTable img ≡ true) (cs : List Call) where
           made-at m k (no d) = let z : m ≡ n = omega arith in rw z (a .made)
 
           pop-at : (m : ℕ) → m < suc n → Dec (m < n) → callAt cs m ≡ pop → Handed img (moment img cs m) (outcome img cs m .reply) (takenBy m (a .history))
-          pop-at m k (yes d) p = rw (taken-later m n (y .history) (a .history) d (a .later) (suc mostWaiting)) (y .pops m d p)
+          pop-at m k (yes d) p = rw (taken-later m n (y .history) (a .history) d (a .later) (suc mostTurns)) (y .pops m d p)
           pop-at m k (no d) p = let z : m ≡ n = omega arith in rw z (a .handed (rw z at p))
 
   upTo : (n : ℕ) → n ≤ length cs → Story n

@@ -12,7 +12,7 @@ use Rattle.rows.specs.Bytes.{Image}
 use Rattle.rows.specs.Rows.{modeScope}
 use Rattle.rows.specs.Lineage.{inSubtree}
 use Rattle.tags.specs.Tags.{Tag}
-use Rattle.machine.specs.State.{Event, State, ordinary, mostWaiting, fresh}
+use Rattle.machine.specs.State.{Event, State, ordinary, fresh}
 use Rattle.machine.specs.Heads.{empty, head, peek, untaken, taking, readyOf}
 use Rattle.machine.specs.Machine.{Call, transit, pop, peekTag, ordinaryWork, Reply, ok, nothing, ready, number, Outcome, step, run}
 use Rattle.history.specs.Deeds.{bare, Deed, deed, madeBy, drops, takesIn, isPop, ifOk, takesInTurn}
@@ -79,10 +79,14 @@ unfoldable pub turnFrom : Image → List Call → ℕ → ℕ → ℕ → Event 
 turnFrom img cs n r zero e = waits
 turnFrom img cs n r (suc k) e = cond (popTakes img cs n r e) (popped n r) (turnFrom img cs n (suc r) k e)
 
+-- how many turns a pop may have besides the root's: no fewer than events may wait, of any image
+abbrev pub mostTurns : ℕ
+mostTurns = 256
+
 -- what the call at place n makes of an event that waits: a reset drops it, a pop hands it out, or it goes on waiting;
 -- "each turn takes an event", so the root's turn and one for each that may wait are enough
 unfoldable pub fateAt : Image → List Call → ℕ → Event → Fate
-fateAt img cs n e = cond (resetDrops img cs n e) (dropped n) (turnFrom img cs n 0 (suc mostWaiting) e)
+fateAt img cs n e = cond (resetDrops img cs n e) (dropped n) (turnFrom img cs n 0 (suc mostTurns) e)
 
 abbrev pub orElse : Fate → Fate → Fate
 orElse waits f = f
@@ -152,14 +156,14 @@ takenUpTo n (suc k) h = takenUpTo n k h ++ takenIn n k h
 
 -- "in order of taking": each turn but the root's takes one of the waiting events at least
 abbrev pub takenBy : ℕ → History → List Event
-takenBy n h = takenUpTo n (suc mostWaiting) h
+takenBy n h = takenUpTo n (suc mostTurns) h
 
 -- the call at place m is a pop, after the one that accepted the event
 pub record ByPop (cs : List Call) (n by m r : ℕ) : Type 0 where
   pub after : by < m
   pub before : m < n
   pub call : callAt cs m ≡ pop
-  pub turn : r ≤ mostWaiting
+  pub turn : r ≤ mostTurns
 
 -- the call at place m is an accepted reset, after the one that accepted the event, which lay in the subtree that the reset names
 pub record ByReset (img : Image) (cs : List Call) (n by : ℕ) (e : Event) (m : ℕ) : Type 0 where

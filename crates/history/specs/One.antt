@@ -15,9 +15,9 @@ use Rattle.lists.specs.Every.{by-test, both, no-way, or-left, or-right, or-else
 use Rattle.lists.specs.Each.{Each, each-imp, each-map, each-all, each-append}
 use Rattle.rows.specs.Bytes.{Image}
 use Rattle.table.specs.Check.{isTable}
-use Rattle.machine.specs.State.{Event, mostWaiting}
+use Rattle.machine.specs.State.{Event}
 use Rattle.machine.specs.Machine.{Call}
-use Rattle.history.specs.History.{Fate, waits, popped, dropped, Entry, History, newBy, isTaken, isDropped, openAt, openIn, waitsAt, waitsIn, popTakes, resetDrops, turnFrom, fateAt}
+use Rattle.history.specs.History.{mostTurns, Fate, waits, popped, dropped, Entry, History, newBy, isTaken, isDropped, openAt, openIn, waitsAt, waitsIn, popTakes, resetDrops, turnFrom, fateAt}
 use Rattle.history.specs.History.{orElse, fateFrom, entryOf, entriesFrom, historyOf, Fated, Right, inOrder, Told}
 use Rattle.history.specs.Marks.{eventsOf}
 use Rattle.history.specs.Accepted.{from-here, own-open}
@@ -78,11 +78,11 @@ module _ (img : Image) (cs : List Call) (x : Entry) (right : Right img cs (lengt
         let y : r + suc k ≡ suc r + k = omega arith in h (rw y z))
 
     -- what no turn took and the call did not drop is there after it
-    open-after : (g : Fate) → Fated img cs (length cs) (x .by) e g → isDropped n g ≡ false → openIn n (suc mostWaiting) g ≡ true → openAt (suc n) g ≡ true
+    open-after : (g : Fate) → Fated img cs (length cs) (x .by) e g → isDropped n g ≡ false → openIn n (suc mostTurns) g ≡ true → openAt (suc n) g ≡ true
     open-after waits v d o = refl
     open-after (popped m q) v d o =
         by-test (ltb n m) (λ k. le-leb (suc n) m (ltb-true n m k)) λ k.
-        let z = leb-true (suc mostWaiting) q (and-right (eqb m n) (leb (suc mostWaiting) q) (or-else (ltb n m) (eqb m n && leb (suc mostWaiting) q) k o)) in
+        let z = leb-true (suc mostTurns) q (and-right (eqb m n) (leb (suc mostTurns) q) (or-else (ltb n m) (eqb m n && leb (suc mostTurns) q) k o)) in
         absurd (omega (arith, z, v .turn))
     open-after (dropped m) v d o = le-leb (suc n) m (omega (arith, leb-true n m o, eqb-false m n d))
 
@@ -92,7 +92,7 @@ module _ (img : Image) (cs : List Call) (x : Entry) (right : Right img cs (lengt
         let d = right .ended .byReset n l in
         by-test (resetDrops img cs n e) (λ t. rw t (dropped-is n f (d ∙ both (both (lt-ltb (x .by) n b) o) t))) λ t.
         rw t
-        (turn-is (suc mostWaiting) 0 rest (open-first n f o) λ z.
+        (turn-is (suc mostTurns) 0 rest (open-first n f o) λ z.
         h (open-after f (right .fated) (d ∙ rw (t, and-no (ltb (x .by) n && openAt n f))) z))
 
   -- at the end nothing is open but what waits

@@ -13,12 +13,12 @@ use Rattle.lists.specs.Tests.{and-no}
 use Rattle.lists.specs.Lists.{keep, lose, foldl}
 use Rattle.tags.specs.Tags.{Tag, sameTag}
 use Rattle.key_set.specs.Sets.{unionOf, noKeys, wordCount}
-use Rattle.machine.specs.State.{Event, ordinary, mostWaiting, inQueue, atHead}
+use Rattle.machine.specs.State.{Event, ordinary, inQueue, atHead}
 use Rattle.machine.specs.Heads.{Head, empty, head, Taking, untaken, taken, takeAt, readyOf, addAction}
 use Rattle.lists.specs.Every.{by-test, no-way}
 use Rattle.lists.specs.Each.{Each, each-imp, map-keep, map-lose, any-map, foldl-map}
 use Rattle.history.specs.Deeds.{bare, takesAt}
-use Rattle.history.specs.History.{Fate, waits, popped, dropped, Entry, History, isWaiting, isTaken, takenIn, takenUpTo, takenBy, inOrder}
+use Rattle.history.specs.History.{mostTurns, Fate, waits, popped, dropped, Entry, History, isWaiting, isTaken, takenIn, takenUpTo, takenBy, inOrder}
 use Rattle.history.specs.Marks.{fated, nowIn, marked, each-marked, mark-blind, mark-now, mark-new, order-marked, Later, later-same, later-then, later-popped}
 
 -- an entry that the pop at place n took in a turn from r on
@@ -78,7 +78,7 @@ record Turn (P : ℕ → Entry → Type 0) (n r : ℕ) (k : Taking) (h : History
 
 -- the heads hs are those of its turns, at the tag t
 module _ (P : ℕ → Entry → Type 0) (n : ℕ) (t : Tag) (hs : List Head)
-    (hit : (x : Entry) (r : ℕ) → r ≤ mostWaiting → P r x → isWaiting (x .fate) ≡ true → takesAt t (getD hs r empty) (x .event) ≡ true → P (suc r) (fated x (popped n r)))
+    (hit : (x : Entry) (r : ℕ) → r ≤ mostTurns → P r x → isWaiting (x .fate) ≡ true → takesAt t (getD hs r empty) (x .event) ≡ true → P (suc r) (fated x (popped n r)))
     (miss : (x : Entry) (r : ℕ) → P r x → (isWaiting (x .fate) && takesAt t (getD hs r empty) (x .event)) ≡ false → P (suc r) x) where
   record Next (r : ℕ) (k : Taking) (h : History) : Type 0 where
     history : History
@@ -103,7 +103,7 @@ module _ (P : ℕ → Entry → Type 0) (n : ℕ) (t : Tag) (hs : List Head)
       }
 
   turn-some :
-      (r : ℕ) (k : Taking) (h : History) (q : ℕ) (y : Tag) → ((e : Event) → takesAt t (getD hs r empty) e ≡ atHead q y e) → r ≤ mostWaiting → Turn P n r k h →
+      (r : ℕ) (k : Taking) (h : History) (q : ℕ) (y : Tag) → ((e : Event) → takesAt t (getD hs r empty) e ≡ atHead q y e) → r ≤ mostTurns → Turn P n r k h →
       Next (suc r) (taken q y k) h
   unfolding takenUpTo takenIn taken atHead inQueue
   turn-some r k h q y same l t =
@@ -133,7 +133,7 @@ module _ (P : ℕ → Entry → Type 0) (n : ℕ) (t : Tag) (hs : List Head)
             };
       }
 
-  turn-at : (r : ℕ) (k : Taking) (h : History) (d : Head) → getD hs r empty ≡ d → r ≤ mostWaiting → Turn P n r k h → Next (suc r) (takeAt t k d) h
+  turn-at : (r : ℕ) (k : Taking) (h : History) (d : Head) → getD hs r empty ≡ d → r ≤ mostTurns → Turn P n r k h → Next (suc r) (takeAt t k d) h
   turn-at r k h empty i l u = turn-none r k h (λ e. rw i) u
   turn-at r k h (head q y g) i l u =
       by-test (sameTag g t) (λ e. rw e (turn-some r k h q y (λ x. rw (i, e)) l u)) (λ e. rw e (turn-none r k h (λ x. rw (i, e)) u))
@@ -143,7 +143,7 @@ module _ (P : ℕ → Entry → Type 0) (n : ℕ) (t : Tag) (hs : List Head)
   -- some turns, as many as there are heads
   record Turns (k : Taking) (h : History) : Type 0 where
     count : ℕ
-    few : count ≤ suc mostWaiting
+    few : count ≤ suc mostTurns
     over : (q : ℕ) → count ≤ q → getD hs q empty ≡ empty
     next : Next count k h
 
@@ -163,7 +163,7 @@ module _ (P : ℕ → Entry → Type 0) (n : ℕ) (t : Tag) (hs : List Head)
       }
 
   all-turns :
-      (rest : List Head) (r : ℕ) (k : Taking) (h : History) → ((j : ℕ) → getD hs (r + j) empty ≡ getD rest j empty) → r + length rest ≤ suc mostWaiting →
+      (rest : List Head) (r : ℕ) (k : Taking) (h : History) → ((j : ℕ) → getD hs (r + j) empty ≡ getD rest j empty) → r + length rest ≤ suc mostTurns →
       Turn P n r k h → Turns (foldl (takeAt t) k rest) h
   unfolding foldl
   all-turns [] r k h i l u =
@@ -203,11 +203,11 @@ module _ (P : ℕ → Entry → Type 0) (n : ℕ) (t : Tag) (hs : List Head)
         took = y .next .turn .took ∙ full (y .count) (y .few) (y .next .history) (y .next .turn .closed);
       }
     where
-      full : (r : ℕ) → r ≤ suc mostWaiting → (h : History) → Each (Open n r) h → takenUpTo n r h ≡ takenBy n h
-      full r l h e = let z : r + (suc mostWaiting - r) ≡ suc mostWaiting = omega arith in sym (taken-end n r (suc mostWaiting - r) h e) ∙ ap (λ j. takenUpTo n j h) z
+      full : (r : ℕ) → r ≤ suc mostTurns → (h : History) → Each (Open n r) h → takenUpTo n r h ≡ takenBy n h
+      full r l h e = let z : r + (suc mostTurns - r) ≡ suc mostTurns = omega arith in sym (taken-end n r (suc mostTurns - r) h e) ∙ ap (λ j. takenUpTo n j h) z
 
   pub pop-turns :
-      (es : List Event) (work : ℕ) (h : History) → length hs ≤ suc mostWaiting → map bare es ≡ nowIn h → Each (Open n 0) h → Each (P 0) h →
+      (es : List Event) (work : ℕ) (h : History) → length hs ≤ suc mostTurns → map bare es ≡ nowIn h → Each (Open n 0) h → Each (P 0) h →
       Pop (foldl (takeAt t) (untaken es work) hs) h
   unfolding takenUpTo
   pop-turns es work h few now closed each =
@@ -218,7 +218,7 @@ module _ (P : ℕ → Entry → Type 0) (n : ℕ) (t : Tag) (hs : List Head)
 -- a pop that found no head took nothing
 pub none-taken : (n : ℕ) (h : History) → Each (Open n 0) h → takenBy n h ≡ []
 unfolding takenUpTo
-none-taken n h e = let z : 0 + suc mostWaiting ≡ suc mostWaiting = omega arith in ap (λ j. takenUpTo n j h) (sym z) ∙ taken-end n 0 (suc mostWaiting) h e
+none-taken n h e = let z : 0 + suc mostTurns ≡ suc mostTurns = omega arith in ap (λ j. takenUpTo n j h) (sym z) ∙ taken-end n 0 (suc mostTurns) h e
 
 -- the answer of a pop sees no stored tag
 pub ready-bare : (t : Tag) (es : List Event) → readyOf t (map bare es) ≡ readyOf t es

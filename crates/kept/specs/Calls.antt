@@ -11,6 +11,7 @@ use Rattle.lists.specs.Walk.{Result, done, refused, _>>=_, bind-done}
 use Rattle.refusals.specs.declared.Refusal.{Refusal}
 use Rattle.refusals.specs.declared.Refusal.the-variants as R
 use Rattle.rows.specs.Bytes.{Image}
+use Rattle.rows.specs.Limits.{limits}
 use Rattle.rows.specs.Rows.{modeReactor, actionScope, isLogical}
 use Rattle.table.specs.Table.{Table}
 use Rattle.table.proofs.TableLaws.{action-scope}
@@ -77,10 +78,10 @@ module _ (img : Image) (tb : Table img) (s : State) (h : Ruled img s) where
   push-ruled : (t : Tag) (ks : List ℕ) (a b c : Bool) (u : State) → pushRoot img s t ks a b c ≡ done u → Ruled img u
   unfolding pushRoot rootMade
   push-ruled t ks a b c u d =
-      bind-done (rootMade (keysOk img ks) t (setOf ks) a b c) (accepted s) d λ e m q.
+      bind-done (rootMade (keysOk img ks) t (setOf ks) a b c) (accepted img s) d λ e m q.
       let x = need-is (keysOk img ks) R.Key m in
       let y = need-is (within t) R.ArgumentTag (x .1) in
-      ruled-accepts img s (rootEvent t (setOf ks) a b c) u h (root-proper img s t (setOf ks) a b c (y .0) (set-exist img ks (x .0))) (ap (accepted s) (done-is (y .1)) ∙ q)
+      ruled-accepts img s (rootEvent t (setOf ks) a b c) u h (root-proper img s t (setOf ks) a b c (y .0) (set-exist img ks (x .0))) (ap (accepted img s) (done-is (y .1)) ∙ q)
 
   module _ (a : ℕ) (t : Tag) (b : Bool) (ks : List ℕ) (l : ltb a (actions img) ≡ true) (k : keysOk img ks ≡ true) (w : within t ≡ true) where
     action-rules : (q : ℕ) (x : Tag) → within x ≡ true → eventRules img (actionEvent q a x t b (setOf ks)) ≡ true
@@ -101,17 +102,17 @@ module _ (img : Image) (tb : Table img) (s : State) (h : Ruled img s) where
         (both (or-right (eqb q root) (both (lt-ltb q (scopes img) (action-scope img tb a (ltb-true a (actions img) l))) p))
         (or-right (eqb q root) (rw (done-is (o .1)) at (o .0))))
 
-    action-ruled : (e : Event) (u : State) → actionPlaced img (scopeAt s (actionScope img a)) a t b (setOf ks) ≡ done e → accepted s e ≡ done u → Ruled img u
+    action-ruled : (e : Event) (u : State) → actionPlaced img (scopeAt s (actionScope img a)) a t b (setOf ks) ≡ done e → accepted img s e ≡ done u → Ruled img u
     unfolding actionPlaced
     action-ruled v u d q =
-        either-is (toRoot img a) d (λ e r. ruled-accepts img s (actionEvent root a t t b (setOf ks)) u h root-action (ap (accepted s) (done-is r) ∙ q)) λ e r.
+        either-is (toRoot img a) d (λ e r. ruled-accepts img s (actionEvent root a t t b (setOf ks)) u h root-action (ap (accepted img s) (done-is r) ∙ q)) λ e r.
         bind-done (localTag (scopeAt s (actionScope img a)) t) _ r λ x y z. ruled-accepts img s (actionEvent (actionScope img a) a x t b (setOf ks)) u h (scope-action x e y)
-        (ap (accepted s) (done-is z) ∙ q)
+        (ap (accepted img s) (done-is z) ∙ q)
 
   -- ---- the store: an action and a tag
 
   store-ruled : (a : ℕ) (t : Tag) (r : Result Refusal Store) (u : State) →
-      (ltb a (actions img) ≡ true → within t ≡ true → (st : Store) → r ≡ done st → storeRules (actions img) st ≡ true) →
+      (ltb a (actions img) ≡ true → within t ≡ true → (st : Store) → r ≡ done st → storeRules (limits img .held) (actions img) st ≡ true) →
       forStore img a t (r >>= λ st. done (withStore s st)) ≡ done u → Ruled img u
   store-ruled a t r u k d =
       let x = need-is (ltb a (actions img)) R.Key d in
@@ -127,7 +128,7 @@ module _ (img : Image) (tb : Table img) (s : State) (h : Ruled img s) where
   perform-ruled (control t) = settled _ _ (push-ruled t [] false true false)
   perform-ruled (action a t b ks) =
       settled _ _ λ u d.
-      bind-done (actionMade img (scopeAt s (actionScope img a)) a t b (keysOk img ks) (setOf ks)) (accepted s) d λ e m q.
+      bind-done (actionMade img (scopeAt s (actionScope img a)) a t b (keysOk img ks) (setOf ks)) (accepted img s) d λ e m q.
       let x = need-is (ltb a (actions img) && keysOk img ks) R.Key m in
       let y = need-is (within t) R.ArgumentTag (x .1) in
       action-ruled a t b ks (and-left (ltb a (actions img)) _ (x .0)) (and-right (ltb a (actions img)) _ (x .0)) (y .0) e u (y .1) q
@@ -143,18 +144,18 @@ module _ (img : Image) (tb : Table img) (s : State) (h : Ruled img s) where
   perform-ruled (activeNow i) = only-asked (need (ltb i (scopes img)) R.Key (done (flag (activeAt s i))))
   perform-ruled (everActive i) = only-asked (need (ltb i (scopes img)) R.Key (done (flag (everAt s i))))
   perform-ruled (pushValue a t v) =
-      settled _ _ λ u. store-ruled a t (S.pushed (s .store) a t v) u (λ l w st. push-keeps (actions img) (s .store) (h .sound .stored) a t v st l w)
+      settled _ _ λ u. store-ruled a t (S.pushed (limits img .held) (s .store) a t v) u (λ l w st. push-keeps (limits img .held) (actions img) (s .store) (h .sound .stored) a t v st l w)
   perform-ruled (nextStep a o n) = only-asked (forStore img a (at o n) (done (foundReply (S.nextMicrostep (s .store) a o n))))
   perform-ruled (takeValue a t) =
-      settled _ _ λ u. store-ruled a t (done (S.taken (s .store) a t)) u (λ l w st e. rw (← (done-is e)) (take-keeps (actions img) (s .store) (h .sound .stored) a t))
+      settled _ _ λ u. store-ruled a t (done (S.taken (s .store) a t)) u (λ l w st e. rw (← (done-is e)) (take-keeps (limits img .held) (actions img) (s .store) (h .sound .stored) a t))
   perform-ruled (clearBefore a t) =
-      settled _ _ λ u. store-ruled a t (done (S.clearedBefore (s .store) a t)) u (λ l w st e. rw (← (done-is e)) (clearBefore-keeps (actions img) (s .store) (h .sound .stored) a t))
+      settled _ _ λ u. store-ruled a t (done (S.clearedBefore (s .store) a t)) u (λ l w st e. rw (← (done-is e)) (clearBefore-keeps (limits img .held) (actions img) (s .store) (h .sound .stored) a t))
   perform-ruled (moveValue a t v) =
       settled _ _ λ u d.
       let x = need-is (ltb a (actions img)) R.Key d in
       let y = need-is (within v) R.ArgumentTag (need-is (within t) R.ArgumentTag (x .1) .1) in
-      bind-done (S.moved (s .store) a t v) (λ st. done (withStore s st)) (y .1) λ st e q.
-      rw (← (done-is q)) (ruled-store img s st h (move-keeps (actions img) (s .store) (h .sound .stored) a t v st (x .0) (y .0) e))
+      bind-done (S.moved (limits img .held) (s .store) a t v) (λ st. done (withStore s st)) (y .1) λ st e q.
+      rw (← (done-is q)) (ruled-store img s st h (move-keeps (limits img .held) (actions img) (s .store) (h .sound .stored) a t v st (x .0) (y .0) e))
   perform-ruled (clearAction a) =
       settled _ (need (ltb a (actions img)) R.Key (done (withStore s (S.cleared (s .store) a)))) λ u d.
-      rw (← (done-is (need-is (ltb a (actions img)) R.Key d .1))) (ruled-store img s (S.cleared (s .store) a) h (clear-keeps (actions img) (s .store) (h .sound .stored) a))
+      rw (← (done-is (need-is (ltb a (actions img)) R.Key d .1))) (ruled-store img s (S.cleared (s .store) a) h (clear-keeps (limits img .held) (actions img) (s .store) (h .sound .stored) a))

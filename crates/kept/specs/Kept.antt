@@ -12,6 +12,7 @@ use borrow.Author.Tests.{leb-true, le-leb, eqb-true, eq-eqb}
 use Rattle.lists.specs.Tests.{and-left, and-right}
 use Rattle.lists.specs.Lists.{count, every, from}
 use Rattle.rows.specs.Bytes.{Image}
+use Rattle.rows.specs.Limits.{limits}
 use Rattle.rows.specs.Rows.{initialMode}
 use Rattle.table.specs.Check.{check}
 use Rattle.table.specs.Table.{Table}
@@ -22,7 +23,7 @@ use Rattle.tags.specs.Tags.{freshClock, withinClock}
 use Rattle.schedule.specs.Schedule.{isActive}
 use Rattle.table.specs.Check.{accepts, isTable}
 use Rattle.machine.specs.Table.{scopes, reactors, actions}
-use Rattle.machine.specs.State.{Event, State, freshScope, mostWaiting, ordinary, activeAt, everAt, fresh}
+use Rattle.machine.specs.State.{Event, State, freshScope, ordinary, activeAt, everAt, fresh}
 use Rattle.machine.specs.Machine.{Call, scopeRules, modeRules, queueRules, eventRules, imageRules, sized, rules, perform, step, run}
 use Rattle.lists.specs.Every.{by-test, no-way, both, or-left, or-right, or-else, every-all, every-imp, every-both, every-map, length-from, every-below, below-every, getD-from}
 use Rattle.kept.specs.Stored.{empty-rules}
@@ -87,7 +88,7 @@ module _ (img : Image) (s : State) where
       let b = and-right (sized img s) _ a in
       let c = and-right (every (modeRules img) (s .modes)) _ b in
       let d = and-right (every (λ x. withinClock (x .clock)) (s .scopes)) _ c in
-      let e = and-right (leb (length (s .waiting)) mostWaiting) _ d in
+      let e = and-right (leb (length (s .waiting)) (limits img .waiting)) _ d in
       let f = and-right (every (scopeRules img (s .modes) (s .scopes)) (from 0 (scopes img))) _ e in
       let g = and-right (every (eventRules img) (s .waiting)) _ f in
       let i = and-right (every (queueRules img) (s .waiting)) _ g in
@@ -101,7 +102,7 @@ module _ (img : Image) (s : State) where
               scoped = record { long = long; fit = and-left (every (λ x. withinClock (x .clock)) (s .scopes)) _ c; before = λ i x. before i scope long x (decLt i (scopes img)) };
               queued =
                   record {
-                    room = leb-true (length (s .waiting)) mostWaiting (and-left (leb (length (s .waiting)) mostWaiting) _ d);
+                    room = leb-true (length (s .waiting)) (limits img .waiting) (and-left (leb (length (s .waiting)) (limits img .waiting)) _ d);
                     events =
                         every-both (eventRules img) (λ x. queueRules img x && imageRules (s .scopes) x) (s .waiting) (and-left (every (eventRules img) (s .waiting)) _ f)
                         (every-both (queueRules img) (imageRules (s .scopes)) (s .waiting) (and-left (every (queueRules img) (s .waiting)) _ g)
@@ -144,7 +145,7 @@ fresh-ruled img tb =
                   before = λ i. rw (List·getD-map freshScope act i false) (λ e. e);
                 };
             queued = record { room = omega arith; events = refl; work = refl };
-            stored = empty-rules (actions img);
+            stored = empty-rules (limits img .held) (actions img);
           };
       current = λ i l. ap (λ x. x .active) (List·getD-map freshScope act i false) ∙ getD-from (isActive img ms) (scopes img) i l;
     }

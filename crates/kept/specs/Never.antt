@@ -13,6 +13,7 @@ use Rattle.refusals.specs.Refusals.{numberOf}
 use Rattle.refusals.specs.declared.Refusal.{Refusal}
 use Rattle.refusals.specs.declared.Refusal.the-variants as R
 use Rattle.rows.specs.Bytes.{Image}
+use Rattle.rows.specs.Limits.{limits}
 use Rattle.rows.specs.Rows.{modeReactor, modeScope, actionScope, startupAction, timerAction}
 use Rattle.table.specs.Rules.{timerTag}
 use Rattle.tags.specs.Tags.{Tag, Clock, at, maxMicrostep, within, sameTag, settledTag, heldBack, shifted, delayed, toLocal, toGlobal}
@@ -21,7 +22,7 @@ use Rattle.store.specs.Store.{Store, Found, lacks, isValue, isBucket}
 use Rattle.schedule.specs.Schedule.{startupsOf, resetsOf}
 use Rattle.table.specs.Check.{isTable}
 use Rattle.machine.specs.Table.{scopes, reactors, modes, actions, hasParent, setOf}
-use Rattle.machine.specs.State.{Event, State, root, rootEvent, mostWaiting, clockAt, activeAt, everAt, scopeAt, withStore, accepted, fresh}
+use Rattle.machine.specs.State.{Event, State, root, rootEvent, clockAt, activeAt, everAt, scopeAt, withStore, accepted, fresh}
 use Rattle.machine.specs.Heads as H
 use Rattle.machine.specs.Heads.{Head, peek}
 use Rattle.machine.specs.Transition.{Plan, Step, isNow, isTag, insideOf, prepared, leaving, clockAfter, maps, stamp, movers, moveOne, entering, turnBy, oneTurn, turned, held, plainEvent}
@@ -87,28 +88,28 @@ global-mild k x =
     let p = shifted (k .G) (k .L) x in
     mild-either (sameTag (k .G) (k .L) && k .allowed) fine (mild-either (heldBack k p) (delayed-mild (k .G)) (settled-mild (p .offset) (p .microstep)))
 
-push-mild : (s : Store) (a : ℕ) (t : Tag) (v : ℕ) → Mild (S.pushed s a t v)
+push-mild : (limit : ℕ) (s : Store) (a : ℕ) (t : Tag) (v : ℕ) → Mild (S.pushed limit s a t v)
 unfolding S.pushed
-push-mild s a t v = mild-unless (lacks (isValue a t) (s .values) || lacks (isBucket a (t .offset)) (s .buckets)) R.Held (lit< tt) fine
+push-mild limit s a t v = mild-unless (lacks limit (isValue a t) (s .values) || lacks limit (isBucket a (t .offset)) (s .buckets)) R.Held (lit< tt) fine
 
-move-mild : (s : Store) (a : ℕ) (t u : Tag) → Mild (S.moved s a t u)
+move-mild : (limit : ℕ) (s : Store) (a : ℕ) (t u : Tag) → Mild (S.moved limit s a t u)
 unfolding S.moved
-move-mild s a t u = mild-either (sameTag t u) fine (go (S.valueIn a t (s .values)))
+move-mild limit s a t u = mild-either (sameTag t u) fine (go (S.valueIn a t (s .values)))
   where
-    go : (f : Found) → Mild (S.pushFound s (S.taken s a t) a u f)
+    go : (f : Found) → Mild (S.pushFound limit s (S.taken s a t) a u f)
     go S.nothing = fine
-    go (S.found v) = push-mild (S.taken s a t) a u v
+    go (S.found v) = push-mild limit (S.taken s a t) a u v
 
-accepted-mild : (s : State) (e : Event) → Mild (accepted s e)
+accepted-mild : (img : Image) (s : State) (e : Event) → Mild (accepted img s e)
 unfolding accepted
-accepted-mild s e = mild-unless (leb mostWaiting (length (s .waiting))) R.Waiting (lit< tt) fine
+accepted-mild img s e = mild-unless (leb (limits img .waiting) (length (s .waiting))) R.Waiting (lit< tt) fine
 
 store-mild : (s : State) {r : Result Refusal Store} → Mild r → Mild (r >>= λ st. done (withStore s st))
 store-mild s h = mild-then h (λ st. fine)
 
-held-mild : (a : ℕ) (t : Tag) (s : State) → Mild (held a t s)
+held-mild : (img : Image) (a : ℕ) (t : Tag) (s : State) → Mild (held img a t s)
 unfolding held
-held-mild a t s = store-mild s (push-mild (s .store) a t 0)
+held-mild img a t s = store-mild s (push-mild (limits img .held) (s .store) a t 0)
 
 -- ---- a transition
 
@@ -116,19 +117,19 @@ some-mild : (rows : List ℕ) {q r : Step} → Mild q → Mild r → Mild (ifSom
 some-mild [] h k = h
 some-mild (j ∷ js) h k = k
 
-entering-mild : (i : ℕ) (k : Clock) (es : List Event) (st : Store) → Mild (entering i k es st)
+entering-mild : (limit i : ℕ) (k : Clock) (es : List Event) (st : Store) → Mild (entering limit i k es st)
 unfolding entering moveOne
-entering-mild i k es st =
+entering-mild limit i k es st =
     mild-need (every (maps i k) es) R.MappedTag (lit< tt)
-    (mild-walk (moveOne i k) (λ u e. move-mild u (e .action) (e .stored) (stamp i k e)) (movers i es) st)
+    (mild-walk (moveOne limit i k) (λ u e. move-mild limit u (e .action) (e .stored) (stamp i k e)) (movers i es) st)
 
-turned-mild : (p : Plan) (s : State) (i : ℕ) → Mild (turned p s i)
+turned-mild : (img : Image) (p : Plan) (s : State) (i : ℕ) → Mild (turned img p s i)
 unfolding turned oneTurn clockAfter leaving turnBy
-turned-mild p s i =
+turned-mild img p s i =
     mild-then
     (mild-then
     (mild-either (activeAt s i) (mild-either (isNow p i) fine (mild-then (local-mild (clockAt s i) (p .c)) (λ t. fine))) fine)
-    (λ k. mild-either (isNow p i && not (activeAt s i)) (mild-then (entering-mild i k (s .waiting) (s .store)) (λ u. fine)) fine))
+    (λ k. mild-either (isNow p i && not (activeAt s i)) (mild-then (entering-mild (limits img .held) i k (s .waiting) (s .store)) (λ u. fine)) fine))
     (λ t. fine)
 
 step4-mild : (img : Image) (c : Tag) (first : List ℕ) (s : State) → Mild (step4 img c first s)
@@ -136,34 +137,34 @@ unfolding step4 startups
 step4-mild img c first s =
     some-mild (startupRows img first) fine
     (mild-then (delayed-mild c) λ there.
-    mild-then (mild-walk (λ t j. held (startupAction img j) there t) (λ t j. held-mild (startupAction img j) there t) (startupRows img first) s) λ t.
-    mild-walk (λ u i. accepted u (plainEvent there (startupsOf img i))) (λ u i. accepted-mild u (plainEvent there (startupsOf img i))) first t)
+    mild-then (mild-walk (λ t j. held img (startupAction img j) there t) (λ t j. held-mild img (startupAction img j) there t) (startupRows img first) s) λ t.
+    mild-walk (λ u i. accepted img u (plainEvent there (startupsOf img i))) (λ u i. accepted-mild img u (plainEvent there (startupsOf img i))) first t)
 
 timer-mild : (img : Image) (s : State) (j : ℕ) → Mild (timer img s j)
 unfolding timer timerImage
 timer-mild img s j =
     mild-then (mild-either (hasParent img (timerScope img j)) (global-mild (clockAt s (timerScope img j)) (timerTag img j)) fine) λ g.
-    mild-then (held-mild (timerAction img j) g s) λ t. accepted-mild t (timerEvent img j g)
+    mild-then (held-mild img (timerAction img j) g s) λ t. accepted-mild img t (timerEvent img j g)
 
 step5-mild : (img : Image) (c : Tag) (target : ℕ) (ins : List Bool) (s : State) → Mild (step5 img c target ins s)
 unfolding step5 resetEvent
 step5-mild img c target ins s =
     mild-then (mild-walk (timer img) (timer-mild img) (timerRows img ins) s) λ t.
-    some-mild (resetRows img ins) fine (mild-then (delayed-mild c) (λ there. accepted-mild t (plainEvent there (resetsOf img target))))
+    some-mild (resetRows img ins) fine (mild-then (delayed-mild c) (λ there. accepted-mild img t (plainEvent there (resetsOf img target))))
 
 transition-mild : (img : Image) (r m : ℕ) (reset : Bool) (c : Tag) (s : State) → Mild (transition img r m reset c s)
 unfolding transition turnsOn
 transition-mild img r m reset c s =
     let s2 = prepared img r m reset s in
     let p = planOf img c (insideOf img reset (modeScope img m)) s2 in
-    mild-then (mild-walk (turned p) (turned-mild p) (from 0 (scopes img)) s2) λ t.
+    mild-then (mild-walk (turned img p) (turned-mild img p) (from 0 (scopes img)) s2) λ t.
     mild-then (step4-mild img (p .c) (firsts img p s2) t) λ u. step5-mild img (p .c) (modeScope img m) (p .inside) u
 
 -- ---- the calls
 
 root-mild : (img : Image) (s : State) (t : Tag) (ks : List ℕ) (a b c : Bool) → Mild (pushRoot img s t ks a b c)
 unfolding pushRoot rootMade
-root-mild img s t ks a b c = mild-then (mild-need (keysOk img ks) R.Key (lit< tt) (mild-need (within t) R.ArgumentTag (lit< tt) fine)) (accepted-mild s)
+root-mild img s t ks a b c = mild-then (mild-need (keysOk img ks) R.Key (lit< tt) (mild-need (within t) R.ArgumentTag (lit< tt) fine)) (accepted-mild img s)
 
 action-mild : (img : Image) (s : State) (a : ℕ) (t : Tag) (b : Bool) (ks : List ℕ) → Mild (pushAction img s a t b ks)
 unfolding pushAction actionMade actionPlaced localTag
@@ -174,7 +175,7 @@ action-mild img s a t b ks =
     (mild-need (within t) R.ArgumentTag (lit< tt)
     (mild-either (toRoot img a) fine
     (mild-then (mild-then (local-mild (clockAt s q) t) λ x. mild-need (not (activeAt s q) || isTag (toGlobal (clockAt s q) x)) R.MappedTag (lit< tt) fine) λ x. fine))))
-    (accepted-mild s)
+    (accepted-mild img s)
 
 for-store : {A : Type 0} (img : Image) (a : ℕ) (t : Tag) {r : Result Refusal A} → Mild r → Mild (M.forStore img a t r)
 for-store img a t h = mild-need (ltb a (actions img)) R.Key (lit< tt) (mild-need (within t) R.ArgumentTag (lit< tt) h)
@@ -233,14 +234,14 @@ perform-other img s onlyControl = tt
 perform-other img s ordinaryWork = tt
 perform-other img s (activeNow i) = asked-other s (flag (activeAt s i)) (ltb i (scopes img)) tt
 perform-other img s (everActive i) = asked-other s (flag (everAt s i)) (ltb i (scopes img)) tt
-perform-other img s (pushValue a t v) = settled-other ok s tt (for-store img a t (store-mild s (push-mild (s .store) a t v)))
+perform-other img s (pushValue a t v) = settled-other ok s tt (for-store img a t (store-mild s (push-mild (limits img .held) (s .store) a t v)))
 perform-other img s (nextStep a o n) =
     stored-other s (foundReply (S.nextMicrostep (s .store) a o n)) (ltb a (actions img)) (within (at o n)) (found-other (S.nextMicrostep (s .store) a o n))
 perform-other img s (takeValue a t) =
     settled-other (foundReply (S.valueIn a t (s .store .values))) s (found-other (S.valueIn a t (s .store .values))) (for-store img a t (fine {a = withStore s (S.taken (s .store) a t)}))
 perform-other img s (clearBefore a t) = settled-other ok s tt (for-store img a t (fine {a = withStore s (S.clearedBefore (s .store) a t)}))
 perform-other img s (M.moveValue a t u) =
-    settled-other ok s tt (for-store img a t (mild-need (within u) R.ArgumentTag (lit< tt) (store-mild s (move-mild (s .store) a t u))))
+    settled-other ok s tt (for-store img a t (mild-need (within u) R.ArgumentTag (lit< tt) (store-mild s (move-mild (limits img .held) (s .store) a t u))))
 perform-other img s (clearAction a) = settled-other ok s tt (mild-need (ltb a (actions img)) R.Key (lit< tt) (fine {a = withStore s (S.cleared (s .store) a)}))
 
 -- ---- "11": never from a fresh manager over an accepted table, whatever was called before

@@ -11,6 +11,7 @@ use borrow.Author.Tests.{lt-ltb, eq-eqb}
 use Rattle.lists.specs.Tests.{and-left, and-right}
 use Rattle.lists.specs.Lists.{lose, every, from, foldl}
 use Rattle.rows.specs.Bytes.{Image}
+use Rattle.rows.specs.Limits.{limits}
 use Rattle.rows.specs.Rows.{none, initialMode, rootScope, modeScope, actionScope, isLogical}
 use Rattle.rows.specs.Lineage.{inSubtree, under}
 use Rattle.table.specs.Table.{Table}
@@ -118,12 +119,12 @@ module _ (img : Image) where
   unfolding modeRules
   set-moded r m ms l h = record { long = length-set ms r m ∙ h .long; exist = every-set (modeRules img) ms r m (or-right (eqb m none) (lt-ltb m (modes img) l)) (h .exist) }
 
-  reset-stored : (ins : List Bool) (l : List ℕ) (st : Store) → storeRules (actions img) st ≡ true →
-      storeRules (actions img) (foldl (λ st a. cond (getD ins (actionScope img a) false && isLogical img a) (S.cleared st a) st) st l) ≡ true
+  reset-stored : (ins : List Bool) (l : List ℕ) (st : Store) → storeRules (limits img .held) (actions img) st ≡ true →
+      storeRules (limits img .held) (actions img) (foldl (λ st a. cond (getD ins (actionScope img a) false && isLogical img a) (S.cleared st a) st) st l) ≡ true
   unfolding foldl
   reset-stored ins [] st h = h
   reset-stored ins (a ∷ l) st h =
-      reset-stored ins l _ (by-test (getD ins (actionScope img a) false && isLogical img a) (λ e. rw e (clear-keeps (actions img) st h a)) (λ e. rw e h))
+      reset-stored ins l _ (by-test (getD ins (actionScope img a) false && isLogical img a) (λ e. rw e (clear-keeps (limits img .held) (actions img) st h a)) (λ e. rw e h))
 
   -- ---- steps 1 and 2
 

@@ -16,10 +16,11 @@ use Rattle.lists.specs.Lists.{lose, count, every, count-append, lose-shorter}
 use Rattle.lists.specs.Walk.{done}
 use Rattle.refusals.specs.declared.Refusal.the-variants as R
 use Rattle.rows.specs.Bytes.{Image}
+use Rattle.rows.specs.Limits.{limits}
 use Rattle.tags.specs.Tags.{Tag, Clock, withinClock}
 use Rattle.store.specs.Store.{Store, storeRules}
 use Rattle.machine.specs.Table.{scopes, reactors, actions}
-use Rattle.machine.specs.State.{Event, Scope, State, root, ordinary, mostWaiting, freshScope, stamped, inQueue, scopeAt, clockAt, activeAt, everAt, clocked, marked, withQueue, withStore}
+use Rattle.machine.specs.State.{Event, Scope, State, root, ordinary, freshScope, stamped, inQueue, scopeAt, clockAt, activeAt, everAt, clocked, marked, withQueue, withStore}
 use Rattle.machine.specs.State.{withScopes, tally, accepted, without}
 use Rattle.machine.specs.Transition.{maps}
 use Rattle.machine.specs.Machine.{queueRules, eventRules, imageRules, modeRules}
@@ -42,7 +43,7 @@ pub record Scoped (img : Image) (l : List Scope) : Type 0 where
 
 -- "at most 256 events wait", each of them as the rules say; "ordinary work equals the number of ordinary events waiting"
 pub record Queued (img : Image) (s : State) : Type 0 where
-  pub room : length (s .waiting) ≤ mostWaiting
+  pub room : length (s .waiting) ≤ limits img .waiting
   pub events : every (proper img s) (s .waiting) ≡ true
   pub work : s .work ≡ count ordinary (s .waiting)
 
@@ -50,7 +51,7 @@ pub record Sound (img : Image) (s : State) : Type 0 where
   pub moded : Moded img (s .modes)
   pub scoped : Scoped img (s .scopes)
   pub queued : Queued img s
-  pub stored : storeRules (actions img) (s .store) ≡ true
+  pub stored : storeRules (limits img .held) (actions img) (s .store) ≡ true
 
 -- ---- one scope in a list
 
@@ -66,7 +67,7 @@ marked-same k false false false e m = refl
 module _ (img : Image) where
   -- ---- the store
 
-  pub sound-store : (s : State) (st : Store) → Sound img s → storeRules (actions img) st ≡ true → Sound img (withStore s st)
+  pub sound-store : (s : State) (st : Store) → Sound img s → storeRules (limits img .held) (actions img) st ≡ true → Sound img (withStore s st)
   unfolding proper imageRules
   sound-store s st h k =
       record {
@@ -90,7 +91,8 @@ module _ (img : Image) where
       put true = refl
       put false = omega arith
 
-  queued-more : (s : State) (e : Event) → Queued img s → proper img s e ≡ true → length (s .waiting) < mostWaiting → Queued img (withQueue s (s .waiting ++ (e ∷ [])) (tally e (s .work)))
+  queued-more : (s : State) (e : Event) → Queued img s → proper img s e ≡ true → length (s .waiting) < limits img .waiting →
+      Queued img (withQueue s (s .waiting ++ (e ∷ [])) (tally e (s .work)))
   unfolding proper imageRules
   queued-more s e q p l =
       record {
@@ -99,11 +101,11 @@ module _ (img : Image) where
         work = ap (tally e) (q .work) ∙ more-work e (s .waiting);
       }
 
-  pub sound-accepts : (s : State) (e : Event) (t : State) → Sound img s → proper img s e ≡ true → accepted s e ≡ done t → Sound img t
+  pub sound-accepts : (s : State) (e : Event) (t : State) → Sound img s → proper img s e ≡ true → accepted img s e ≡ done t → Sound img t
   unfolding accepted
   sound-accepts s e t h p d =
-      let x = unless-is (leb mostWaiting (length (s .waiting))) R.Waiting d in
-      rw (← (done-is (x .1))) (requeued s _ _ h (queued-more s e (h .queued) p (leb-false mostWaiting (length (s .waiting)) (x .0))))
+      let x = unless-is (leb (limits img .waiting) (length (s .waiting))) R.Waiting d in
+      rw (← (done-is (x .1))) (requeued s _ _ h (queued-more s e (h .queued) p (leb-false (limits img .waiting) (length (s .waiting)) (x .0))))
 
   pub sound-without : (q : Event → Bool) (s : State) → Sound img s → Sound img (without q s)
   unfolding without proper imageRules

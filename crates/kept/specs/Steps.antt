@@ -11,6 +11,7 @@ use Rattle.lists.specs.Lists.{from}
 use Rattle.lists.specs.Walk.{done, _>>=_, walk, bind-done}
 use Rattle.refusals.specs.declared.Refusal.the-variants as R
 use Rattle.rows.specs.Bytes.{Image}
+use Rattle.rows.specs.Limits.{limits}
 use Rattle.rows.specs.Kinds as K
 use Rattle.rows.specs.Kinds.{count}
 use Rattle.rows.specs.Rows.{modeScope, startupAction, timerAction}
@@ -23,7 +24,7 @@ use Rattle.store.specs.Store as S
 use Rattle.store.specs.Store.{Store, storeRules}
 use Rattle.schedule.specs.Schedule.{isActive, triggersOf, startupsOf, resetsOf}
 use Rattle.machine.specs.Table.{scopes, modes, actions, hasParent}
-use Rattle.machine.specs.State.{Event, State, root, mostWaiting, clockAt, activeAt, withStore, accepted, without}
+use Rattle.machine.specs.State.{Event, State, root, clockAt, activeAt, withStore, accepted, without}
 use Rattle.machine.specs.Transition.{Plan, isTag, insideOf, prepared, turned, held, plainEvent, firsts, startupRows, startups, ifSome, step4, timerScope, timerImage, timerEvent, timer}
 use Rattle.machine.specs.Transition.{timerRows, resetRows, resetEvent, step5, planOf, turnsOn, transition}
 use Rattle.machine.specs.Machine.{queueRules, imageRules}
@@ -43,25 +44,25 @@ pub record Ruled (img : Image) (s : State) : Type 0 where
 module _ (img : Image) where
   -- ---- kept by the small steps
 
-  pub ruled-store : (s : State) (st : Store) → Ruled img s → storeRules (actions img) st ≡ true → Ruled img (withStore s st)
+  pub ruled-store : (s : State) (st : Store) → Ruled img s → storeRules (limits img .held) (actions img) st ≡ true → Ruled img (withStore s st)
   ruled-store s st h k = record { sound = sound-store img s st (h .sound) k; current = h .current }
 
-  pub ruled-accepts : (s : State) (e : Event) (t : State) → Ruled img s → proper img s e ≡ true → accepted s e ≡ done t → Ruled img t
+  pub ruled-accepts : (s : State) (e : Event) (t : State) → Ruled img s → proper img s e ≡ true → accepted img s e ≡ done t → Ruled img t
   unfolding accepted
   ruled-accepts s e t h p d =
-      record { sound = sound-accepts img s e t (h .sound) p d; current = rw (← (done-is (unless-is (leb mostWaiting (length (s .waiting))) R.Waiting d .1))) (h .current) }
+      record { sound = sound-accepts img s e t (h .sound) p d; current = rw (← (done-is (unless-is (leb (limits img .waiting) (length (s .waiting))) R.Waiting d .1))) (h .current) }
 
   pub ruled-without : (q : Event → Bool) (s : State) → Ruled img s → Ruled img (without q s)
   unfolding without
   ruled-without q s h = record { sound = sound-without img q s (h .sound); current = h .current }
 
-  ruled-held : (a : ℕ) (x : Tag) (s t : State) → ltb a (actions img) ≡ true → within x ≡ true → Ruled img s → held a x s ≡ done t → Ruled img t
+  ruled-held : (a : ℕ) (x : Tag) (s t : State) → ltb a (actions img) ≡ true → within x ≡ true → Ruled img s → held img a x s ≡ done t → Ruled img t
   unfolding held
   ruled-held a x s t k w h d =
-      bind-done (S.pushed (s .store) a x 0) (λ st. done (withStore s st)) d λ st e q.
-      rw (← (done-is q)) (ruled-store s st h (push-keeps (actions img) (s .store) (h .sound .stored) a x 0 st k w e))
+      bind-done (S.pushed (limits img .held) (s .store) a x 0) (λ st. done (withStore s st)) d λ st e q.
+      rw (← (done-is q)) (ruled-store s st h (push-keeps (limits img .held) (actions img) (s .store) (h .sound .stored) a x 0 st k w e))
 
-  ruled-plain : (s : State) (x : Tag) (ws : List ℕ) (t : State) → within x ≡ true → keysExist img ws ≡ true → Ruled img s → accepted s (plainEvent x ws) ≡ done t → Ruled img t
+  ruled-plain : (s : State) (x : Tag) (ws : List ℕ) (t : State) → within x ≡ true → keysExist img ws ≡ true → Ruled img s → accepted img s (plainEvent x ws) ≡ done t → Ruled img t
   ruled-plain s x ws t w k h d = ruled-accepts s (plainEvent x ws) t h (root-proper img s x ws false false false w k) d
 
   module _ (tb : Table img) where
@@ -75,10 +76,10 @@ module _ (img : Image) where
     unfolding startups startupRows
     ruled-startups there first s t w h d =
         let rows = startupRows img first in
-        bind-done (walk (λ t j. held (startupAction img j) there t) s rows) _ d λ u e r.
-        keep-walk (Ruled img) (λ i. true) (λ u i. accepted u (plainEvent there (startupsOf img i))) (λ s i t q k. ruled-plain s there (startupsOf img i) t w (startups-exist i) k) first u t
+        bind-done (walk (λ t j. held img (startupAction img j) there t) s rows) _ d λ u e r.
+        keep-walk (Ruled img) (λ i. true) (λ u i. accepted img u (plainEvent there (startupsOf img i))) (λ s i t q k. ruled-plain s there (startupsOf img i) t w (startups-exist i) k) first u t
         (every-all (λ i. true) (λ i. refl) first)
-        (keep-walk (Ruled img) (λ j. ltb j (count img K.startup)) (λ t j. held (startupAction img j) there t)
+        (keep-walk (Ruled img) (λ j. ltb j (count img K.startup)) (λ t j. held img (startupAction img j) there t)
         (λ s j t q. ruled-held (startupAction img j) there s t (lt-ltb _ _ (startup-action img tb j (ltb-true j (count img K.startup) q))) w) rows s u (keep-below _ (count img K.startup)) h e) r
 
     ruled-step4 : (c : Tag) (first : List ℕ) (s t : State) → Ruled img s → step4 img c first s ≡ done t → Ruled img t
@@ -135,8 +136,8 @@ module _ (img : Image) where
     ruled-timer s j t q h d =
         let l = ltb-true j (count img K.timer) q in
         bind-done (timerImage img s j) _ d λ g e r.
-        bind-done (held (timerAction img j) g s) (λ u. accepted u (timerEvent img j g)) r λ u f x.
-        bind-done (S.pushed (s .store) (timerAction img j) g 0) (λ st. done (withStore s st)) f λ st y z.
+        bind-done (held img (timerAction img j) g s) (λ u. accepted img u (timerEvent img j g)) r λ u f x.
+        bind-done (S.pushed (limits img .held) (s .store) (timerAction img j) g 0) (λ st. done (withStore s st)) f λ st y z.
         ruled-accepts u (timerEvent img j g) t (ruled-held (timerAction img j) g s u (lt-ltb _ _ (timer-action img tb j l)) (image-within s j l g e) h f)
         (rw (← (done-is z)) (proper-store s st (timerEvent img j g) (timer-proper s j l g e))) x
 
@@ -146,7 +147,7 @@ module _ (img : Image) where
         bind-done (walk (timer img) s (timerRows img ins)) _ d λ u e r.
         some u (keep-walk (Ruled img) (λ j. ltb j (count img K.timer)) (timer img) ruled-timer (timerRows img ins) s u (unfold timerRows in keep-below _ (count img K.timer)) h e) (resetRows img ins) r
       where
-        some : (u : State) → Ruled img u → (rows : List ℕ) → ifSome rows (done u) (delayed c >>= λ there. accepted u (plainEvent there (resetsOf img target))) ≡ done t → Ruled img t
+        some : (u : State) → Ruled img u → (rows : List ℕ) → ifSome rows (done u) (delayed c >>= λ there. accepted img u (plainEvent there (resetsOf img target))) ≡ done t → Ruled img t
         some u k [] d = rw (← (done-is d)) k
         some u k (j ∷ js) d = bind-done (delayed c) _ d λ there e r. ruled-plain u there (resetsOf img target) t (delayed-within c there e) (resets-exist target) k r
 
@@ -158,7 +159,7 @@ module _ (img : Image) where
         let ins = insideOf img reset (modeScope img m) in
         let s2 = prepared img r m reset s in
         let p = planOf img c ins s2 in
-        bind-done (walk (turned p) s2 (from 0 (scopes img))) _ d λ u e f.
+        bind-done (walk (turned img p) s2 (from 0 (scopes img))) _ d λ u e f.
         bind-done (step4 img c (firsts img p s2) u) _ f λ v x y.
         let k =
         all-turns img p w (s2 .modes) (scopes img) 0 s2 u (omega arith)

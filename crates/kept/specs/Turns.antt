@@ -14,6 +14,7 @@ use Rattle.lists.specs.Lists.{every, from}
 use Rattle.lists.specs.Walk.{done, _>>=_, walk, bind-done}
 use Rattle.refusals.specs.declared.Refusal.the-variants as R
 use Rattle.rows.specs.Bytes.{Image}
+use Rattle.rows.specs.Limits.{limits}
 use Rattle.tags.specs.Tags.{Clock, within, withinClock, toLocal, toGlobal}
 use Rattle.tags.proofs.Laws.{clock-G, clock-L, clock-S}
 use Rattle.store.specs.Store.{Store, storeRules}
@@ -91,8 +92,14 @@ module _ (img : Image) (p : Plan) (w : within (p .c) ≡ true) (s : State) (i : 
   unfolding staying
   remains k e a = either-is (isInside p i) e (λ c q. rw (← q) (restarts c)) (λ c q. rw (← q) (stays true a))
 
+  abbrev limit : ℕ
+  limit = limits img .held
+
+  abbrev Kept : Store → Type 0
+  Kept st = storeRules limit (actions img) st ≡ true
+
   -- "Going active": all its events map, and their values follow
-  enters : (k : Clock) (st : Store) → withinClock k ≡ true → entering i k (s .waiting) (s .store) ≡ done st →
+  enters : (k : Clock) (st : Store) → withinClock k ≡ true → entering limit i k (s .waiting) (s .store) ≡ done st →
       Turned img p s i true (after (standing true k (map (restamp i k) (s .waiting)) st))
   unfolding entering maps inQueue
   enters k st f d =
@@ -102,7 +109,7 @@ module _ (img : Image) (p : Plan) (w : within (p .c) ≡ true) (s : State) (i : 
             sound-store img _ st
             (sound-turn img (withQueue s (map (restamp i k) (s .waiting)) (s .work)) i k true l (sound-restamped img (stamp i k) s h (stamped-rules img i k)) f
             (every-map (restamp i k) (maps i k) (s .waiting) (x .0)))
-            (keep-walk (λ u. storeRules (actions img) u ≡ true) (mover img) (moveOne i k) move (movers i (s .waiting)) (s .store) st (movers-each img i (s .waiting) ruled) (h .stored) (x .1));
+            (keep-walk Kept (mover img) (moveOne limit i k) move (movers i (s .waiting)) (s .store) st (movers-each img i (s .waiting) ruled) (h .stored) (x .1));
         outside = every-map (restamp i k) (λ e. not (isInside p (e .queue))) (s .waiting) o;
         modes = refl;
         own = own k true;
@@ -112,23 +119,23 @@ module _ (img : Image) (p : Plan) (w : within (p .c) ≡ true) (s : State) (i : 
       ruled : every (eventRules img) (s .waiting) ≡ true
       ruled = every-imp (proper img s) (eventRules img) (unfold proper in λ e y. and-left (eventRules img e) _ y) (s .waiting) (h .queued .events)
 
-      move : (u : Store) (e : Event) (v : Store) → mover img e ≡ true → storeRules (actions img) u ≡ true → moveOne i k u e ≡ done v → storeRules (actions img) v ≡ true
+      move : (u : Store) (e : Event) (v : Store) → mover img e ≡ true → Kept u → moveOne limit i k u e ≡ done v → Kept v
       move u e v m r d = unfold moveOne in
-          move-keeps (actions img) u r (e .action) (e .stored) (stamp i k e) v (mover-action img i k e m) (mover-new img i k e m) d
+          move-keeps limit (actions img) u r (e .action) (e .stored) (stamp i k e) v (mover-action img i k e m) (mover-new img i k e m) d
 
   activated-within : withinClock (activated (p .c) (clockAt s i)) ≡ true
   activated-within = clock-within _ w (clock-S (clockAt s i) clock-fits) (clock-S (clockAt s i) clock-fits)
 
   -- by its clock after the turn: its events are looked at only where it goes active
   clocked-turn : (k : Clock) (t : Turning) → clockAfter (p .c) (isNow p i) (isInside p i) (scopeAt s i) ≡ done k →
-      turnBy (isNow p i) i (scopeAt s i) k (s .waiting) (s .store) ≡ done t → Turned img p s i (isNow p i) (after t)
+      turnBy limit (isNow p i) i (scopeAt s i) k (s .waiting) (s .store) ≡ done t → Turned img p s i (isNow p i) (after t)
   unfolding clockAfter turnBy
   clocked-turn k t y z =
       either-is (activeAt s i) y
       (λ a e. let q = still (ap (λ x. isNow p i && not x) a ∙ and-no (isNow p i)) in
       either-is (isNow p i) e (λ b r. rw (← q, b) (remains k (done-is r) a)) (λ b r. rw (← q, b) (leaves k r)))
       (λ a e. either-is (isNow p i) (done-is e)
-      (λ b r. bind-done (entering i k (s .waiting) (s .store)) _ (goes (ap (λ x. isNow p i && not x) a ∙ rw b)) λ u x v.
+      (λ b r. bind-done (entering limit i k (s .waiting) (s .store)) _ (goes (ap (λ x. isNow p i && not x) a ∙ rw b)) λ u x v.
       rw (← (done-is v), b) (enters k u (rw r at activated-within) x))
       (λ b r. rw (← (still (rw b)), ← r, b) (stays false a)))
     where
@@ -136,10 +143,10 @@ module _ (img : Image) (p : Plan) (w : within (p .c) ≡ true) (s : State) (i : 
       still q = either-is (isNow p i && not (activeAt s i)) z (λ r e. no-way (sym q ∙ r)) (λ r e. done-is e)
 
       goes : (isNow p i && not (activeAt s i)) ≡ true →
-          (entering i k (s .waiting) (s .store) >>= λ u. done (standing (isNow p i) k (map (restamp i k) (s .waiting)) u)) ≡ done t
+          (entering limit i k (s .waiting) (s .store) >>= λ u. done (standing (isNow p i) k (map (restamp i k) (s .waiting)) u)) ≡ done t
       goes q = either-is (isNow p i && not (activeAt s i)) z (λ r e. e) (λ r e. no-way (sym r ∙ q))
 
-  turn : (t : Turning) → oneTurn (p .c) (isNow p i) (isInside p i) i (scopeAt s i) (s .waiting) (s .store) ≡ done t → Turned img p s i (isNow p i) (after t)
+  turn : (t : Turning) → oneTurn limit (p .c) (isNow p i) (isInside p i) i (scopeAt s i) (s .waiting) (s .store) ≡ done t → Turned img p s i (isNow p i) (after t)
   unfolding oneTurn
   turn t d = bind-done (clockAfter (p .c) (isNow p i) (isInside p i) (scopeAt s i)) _ d λ k y z. clocked-turn k t y z
 
@@ -151,10 +158,10 @@ pub record Walked (img : Image) (p : Plan) (ms : List ℕ) (i : ℕ) (s : State)
   pub below : (j : ℕ) → j < i → activeAt s j ≡ isNow p j
 
 module _ (img : Image) (p : Plan) (w : within (p .c) ≡ true) (ms : List ℕ) where
-  one-turn : (s : State) (i : ℕ) (t : State) → i < scopes img → Walked img p ms i s → turned p s i ≡ done t → Walked img p ms (suc i) t
+  one-turn : (s : State) (i : ℕ) (t : State) → i < scopes img → Walked img p ms i s → turned img p s i ≡ done t → Walked img p ms (suc i) t
   unfolding turned
   one-turn s i t l h d =
-      bind-done (oneTurn (p .c) (isNow p i) (isInside p i) i (scopeAt s i) (s .waiting) (s .store)) _ d λ u e r.
+      bind-done (oneTurn (limits img .held) (p .c) (isNow p i) (isInside p i) i (scopeAt s i) (s .waiting) (s .store)) _ d λ u e r.
       rw (← (done-is r)) (next (withTurn s i u) (turn img p w s i l (h .sound) (h .outside) u e))
     where
       next : (u : State) → Turned img p s i (isNow p i) u → Walked img p ms (suc i) u
@@ -164,8 +171,8 @@ module _ (img : Image) (p : Plan) (w : within (p .c) ≡ true) (ms : List ℕ) w
           low j m (yes q) = rw q (k .own)
           low j m (no q) = k .others j q ∙ h .below j (omega arith)
 
-  pub all-turns : (n i : ℕ) (s t : State) → i + n ≡ scopes img → Walked img p ms i s → walk (turned p) s (from i n) ≡ done t → Walked img p ms (scopes img) t
+  pub all-turns : (n i : ℕ) (s t : State) → i + n ≡ scopes img → Walked img p ms i s → walk (turned img p) s (from i n) ≡ done t → Walked img p ms (scopes img) t
   unfolding walk from
   all-turns zero i s t e h d = let z : i ≡ scopes img = omega arith in rw (← (done-is d)) (rw z at h)
   all-turns (suc n) i s t e h d =
-      bind-done (turned p s i) (λ u. walk (turned p) u (from (suc i) n)) d λ u x r. all-turns n (suc i) u t (omega arith) (one-turn s i u (omega arith) h x) r
+      bind-done (turned img p s i) (λ u. walk (turned img p) u (from (suc i) n)) d λ u x r. all-turns n (suc i) u t (omega arith) (one-turn s i u (omega arith) h x) r

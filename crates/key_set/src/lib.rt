@@ -68,6 +68,15 @@ impl KeySet {
         next
     }
 
+    pub fn insert_if(self, test: bool, k: usize) -> Self
+        ensures { λ r. ⌜ r .words ≡ cond test (insertKey (self .words) k) (self .words) ⌝ }
+    {
+        if test {
+            return self.insert(k);
+        }
+        self
+    }
+
     pub fn union(self, other: KeySet) -> Self
         ensures { λ r. ⌜ r .words ≡ unionOf (self .words) (other .words) ⌝ }
     {

@@ -1,35 +1,38 @@
 -- One room for the state: all rows and the ledger, the state that they hold, and what a step or a call does to them. Assumes nothing.
-use mathlib.Core.Bool.{Bool, true, false, _&&_}
-use mathlib.Core.Path.{_≡_, refl, ap, _∙_, sym}
+use mathlib.Core.Bool.{true}
+use mathlib.Core.Path.{_≡_, refl, _∙_, sym}
 use mathlib.Core.List.{List}
 use Prim.Native.Nat.{ℕ, _≤_}
+use native.Mathlib.Nat.{le-trans}
 use native.Mathlib.Omega.{arith}
 use denote.Ref.{RefT}
 use denote.Triple.Both.{Both}
 use lib.Dec.{leb}
-use lib.ListN.{length, take}
+use lib.ListN.{length, take, getD}
 use borrow.Author.Tests.{leb-true}
 use Rattle.lists.specs.Tests.{and-left, and-right}
-use Rattle.lists.specs.Lists.{count}
-use Rattle.lists.specs.Walk.{Result, done, refused, _>>=_}
+use Rattle.lists.specs.Lists.{count, every}
+use Rattle.lists.specs.Walk.{done, refused, _>>=_}
 use Rattle.refusals.specs.declared.Refusal.{Refusal}
 use Rattle.refusals.specs.declared.Outcome.{Outcome}
 use Rattle.refusals.specs.declared.Outcome.the-variants as O
 use Rattle.rows.specs.Bytes.{Image}
 use Rattle.rows.specs.Kinds as K
-use Rattle.rows.specs.Kinds.{kindOf}
-use Rattle.table.specs.Check.{isTable, countFits}
-use Rattle.entries.specs.Entries.{mostHeld}
+use Rattle.rows.specs.Limits.{versions, limits, limits-fit}
+use Rattle.table.specs.Check.{isTable}
+use Rattle.table.proofs.TableLaws.{count-most}
+use Rattle.entries.specs.Entries.{held-fits}
 use Rattle.store.specs.Store.{storeRules}
 use Rattle.store_calls.specs.Lent.{storeOf, Lent}
 use Rattle.machine.specs.Table.{scopes, reactors, actions}
-use Rattle.machine.specs.State.{State, mostWaiting, ordinary}
+use Rattle.machine.specs.State.{State, ordinary}
 use Rattle.machine.specs.Transition.{Step}
 use Rattle.machine.specs.Machine as M
 use Rattle.machine.specs.Machine.{Call, Reply, rules, perform}
 use Rattle.kept.specs.Kept.{table-is, rules-tell}
-use Rattle.slots.specs.Slots.{eventsOf}
+use Rattle.slots.specs.Slots.{eventsOf, roomForEvents, waiting-fits}
 use Rattle.scopes.specs.Scopes.{mostScopes, scopesOf}
+use Rattle.scopes.proofs.ScopeLaws.{scopes-fit}
 use Rattle.lens.specs.Padded.{padded, padded-take}
 use Rattle.lens.specs.Lens.{mostReactors, Queued, queued-is, queued-waits, Waits, Stored, Fits, stored-is, stored-lent, Shows, Scoped, scoped-get, scoped-take}
 use Rattle.lens.specs.declared.Ledger.{Ledger}
@@ -72,10 +75,10 @@ pub record Holds (img : Image) (s : State) (r : Rows) : Type 0 where
   pub scoped : Scoped (s .scopes) (r .scopes)
   pub scopes-long : length (s .scopes) ≡ scopes img
   pub queued : Queued (s .waiting) (s .work) (r .events) (r .ledger .counts)
-  pub few : length (s .waiting) ≤ mostWaiting
+  pub few : length (s .waiting) ≤ roomForEvents
   pub counted : s .work ≡ count ordinary (s .waiting)
   pub stored : Stored (s .store) (r .values) (r .buckets) (r .ledger .held)
-  pub fits : Fits (s .store)
+  pub fits : Fits (limits img .held) (s .store)
 
 -- they hold some state
 pub record Held (img : Image) (r : Rows) : Type 0 where
@@ -95,14 +98,11 @@ stateIn img r =
 
 -- as many scopes and reactors as an accepted table's counts allow
 pub most-scopes : (img : Image) → isTable img ≡ true → scopes img ≤ mostScopes
-unfolding countFits kindOf K.kinds
-most-scopes img t =
-    leb-true (scopes img) mostScopes (and-right (leb (kindOf K.scope .least) (scopes img)) _ (table-is img t .counts K.scope (omega arith)))
+most-scopes img t = le-trans (count-most img (table-is img t) K.scope (omega arith)) (scopes-fit img)
 
 pub most-reactors : (img : Image) → isTable img ≡ true → reactors img ≤ mostReactors
-unfolding countFits kindOf K.kinds
-most-reactors img t =
-    leb-true (reactors img) mostReactors (and-right (leb (kindOf K.reactor .least) (reactors img)) _ (table-is img t .counts K.reactor (omega arith)))
+unfolding versions every
+most-reactors img t = le-trans (count-most img (table-is img t) K.reactor (omega arith)) (limits-fit (λ l. getD (l .most) K.reactor 0) mostReactors tt img)
 
 module _ (img : Image) (s : State) (r : Rows) (h : Holds img s r) where
   pub waiting-is : take (r .ledger .counts .waiting) (eventsOf (r .events)) ≡ s .waiting
@@ -114,7 +114,7 @@ module _ (img : Image) (s : State) (r : Rows) (h : Holds img s r) where
   pub store-is : storeOf (r .values) (r .buckets) (r .ledger .held) ≡ s .store
   store-is = stored-is (s .store) (r .values) (r .buckets) (r .ledger .held) (h .stored) (h .fits)
 
-  pub lent : Lent (r .values) (r .buckets) (r .ledger .held)
+  pub lent : Lent (limits img .held) (r .values) (r .buckets) (r .ledger .held)
   lent = stored-lent (s .store) (r .values) (r .buckets) (r .ledger .held) (h .stored) (h .fits)
 
   few-scopes : length (s .scopes) ≤ mostScopes
@@ -140,13 +140,14 @@ unfolding rules
 rules-table img s k = and-left (isTable img) _ k
 
 module _ (img : Image) (s : State) (k : rules img s ≡ true) where
-  pub rules-fit : Fits (s .store)
+  pub rules-fit : Fits (limits img .held) (s .store)
   rules-fit = unfold storeRules in
       let q = rules-tell img s k .sound .stored in
-      let a = leb (length (s .store .values)) mostHeld in
+      let a = leb (length (s .store .values)) (limits img .held) in
       record {
-        values = leb-true (length (s .store .values)) mostHeld (and-left a _ q);
-        buckets = leb-true (length (s .store .buckets)) mostHeld (and-left (leb (length (s .store .buckets)) mostHeld) _ (and-right a _ q));
+        values = leb-true (length (s .store .values)) _ (and-left a _ q);
+        buckets = leb-true (length (s .store .buckets)) _ (and-left (leb (length (s .store .buckets)) (limits img .held)) _ (and-right a _ q));
+        room = held-fits img;
       }
 
   pub ruled-holds : (r : Rows) → r .ledger .modes ≡ padded 0 mostReactors (s .modes) → Scoped (s .scopes) (r .scopes) →
@@ -160,11 +161,25 @@ module _ (img : Image) (s : State) (k : rules img s ≡ true) where
         scoped = x;
         scopes-long = z .scoped .long;
         queued = q;
-        few = z .queued .room;
+        few = le-trans (z .queued .room) (waiting-fits img);
         counted = z .queued .work;
         stored = t;
         fits = rules-fit;
       }
+
+-- rows whose state keeps them
+pub record Kept (img : Image) (r : Rows) : Type 0 where
+  pub keeps : rules img (stateIn img r) ≡ true
+  pub holds : Holds img (stateIn img r) r
+
+pub kept-held : {img : Image} {r : Rows} → Kept img r → Held img r
+kept-held {img} {r} k = record { state = stateIn img r; holds = k .holds }
+
+pub kept-rules : {img : Image} {r : Rows} → Kept img r → (s : State) → Holds img s r → rules img s ≡ true
+kept-rules {img} {r} k s h = rw (state-is img s r h) at (k .keeps)
+
+pub kept-waits : {img : Image} {r : Rows} → Kept img r → Waits (r .events) (r .ledger .counts)
+kept-waits {img} {r} k = waits img (stateIn img r) r (k .holds)
 
 -- ---- what a step of the machine does to rows
 
@@ -204,6 +219,18 @@ steps-held img f a b o h k e = go (f (h .state)) (k (h .state) (h .holds))
     go (done t) x = record { state = t; holds = x .1 }
     go (refused n) x = not-both (sym e ∙ x)
 
+module _ (img : Image) (f : State → Step) (a : Rows) where
+  -- nothing happens
+  pub steps-done : ((s : State) → Holds img s a → f s ≡ done s) → Steps img f a O.Done a
+  steps-done h s k = rw (h s k) (refl, k)
+
+  pub steps-refused : {x : Refusal} (b : Rows) → ((s : State) → Holds img s a → f s ≡ refused x) → Steps img f a (O.Refused x) b
+  steps-refused b h s k = rw (h s k) refl
+
+  -- another comes to the same
+  pub steps-same : (o : Outcome) (b : Rows) (g : State → Step) → ((s : State) → Holds img s a → f s ≡ g s) → Steps img g a o b → Steps img f a o b
+  steps-same o b g h k s w = rw (h s w) (k s w)
+
 -- ---- what a call of the machine does to rows
 
 abbrev pub replyOf : Outcome → Reply
@@ -216,4 +243,4 @@ pub record Answers (img : Image) (o : M.Outcome) (reply : Reply) (r : Rows) : Ty
   pub holds : Holds img (o .state) r
 
 abbrev pub Performs : Image → Call → Rows → Reply → Rows → Type 0
-Performs img c before reply after = (s : State) → rules img s ≡ true → Holds img s before → Answers img (perform img s c) reply after
+Performs img c before reply after = (s : State) → Holds img s before → Answers img (perform img s c) reply after

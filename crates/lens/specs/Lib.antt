@@ -1,4 +1,5 @@
 pub mod Padded
 pub mod Lens
 pub mod Holds
+pub mod Walks
 pub mod Parts

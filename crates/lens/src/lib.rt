@@ -1,6 +1,8 @@
 // One room for the state: document 01, "The plain machine", its events, scopes, modes, work and values, in rows of words that are lent, and a ledger
 // of all that lies in no row. What the rows hold, and what a call does to them, is in specs/. A new part of the state comes in here: in the ledger or
 // as a row, in `Holds` and in `stateIn`; crates above speak of these alone.
+ghost use mathlib.Core.Path.{_≡_};
+ghost use Rattle.lens.specs.Lens.{bareLedger};
 use entries::BucketRows;
 use entries::ValueRows;
 use refusals::Outcome;
@@ -19,6 +21,25 @@ pub struct Ledger {
     pub modes: [u16; MOST_REACTORS],
     pub counts: Counts,
     pub held: store_calls::Counts,
+}
+
+// These modes, and nothing waits or is held.
+pub fn bare_ledger(modes: [u16; MOST_REACTORS]) -> Ledger
+    ensures { λ r. ⌜ r ≡ bareLedger modes ⌝ }
+{
+    let counts = Counts {
+        waiting: 0,
+        work: 0,
+    };
+    let held = store_calls::Counts {
+        values: 0,
+        buckets: 0,
+    };
+    Ledger {
+        modes,
+        counts,
+        held,
+    }
 }
 
 // The whole state by value: its rows of words, blanks behind what is in use, and the ledger.

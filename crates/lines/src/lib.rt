@@ -9,6 +9,7 @@ ghost use lib.Dec.{leb};
 ghost use lib.ListN.{length, take, drop};
 ghost use lib.Seq.{sets};
 ghost use Rattle.lists.specs.Lists.{keep};
+ghost use Rattle.lists.specs.Tests.{bitOf};
 ghost use Rattle.lists.specs.Lent.{was, is};
 ghost use Rattle.key_set.specs.Sets.{keysOf, wordCount};
 ghost use Rattle.rows.specs.Rows as R;
@@ -18,7 +19,7 @@ ghost use Rattle.ready.specs.Gathering.{gatheringOf, readyAt};
 ghost use Rattle.lines.specs.Text.{text, digit, decimal};
 ghost use Rattle.puts.specs.Written.{Written};
 ghost use Rattle.lines.specs.Listed.{Listed};
-ghost use Rattle.lines.specs.Lines.{levelIn, levelCount, byLevel, entryOf, reactionList, actionList, yes, tagText, headText, refusedLine, tableRefused, tableLine, lineOf};
+ghost use Rattle.lines.specs.Lines.{levelIn, levelCount, byLevel, entryOf, reactionList, actionList, tagText, headText, refusedLine, tableRefused, tableLine, lineOf};
 use key_set::Found;
 use key_set::KeySet;
 use ready::Gathered;
@@ -251,21 +252,12 @@ fn write_actions(buffer: &mut [u8], at: usize, keys: &[u16], n: usize) -> usize
 
 // ---- the parts of a ready line
 
-fn bit(flag: bool) -> u64
-    ensures { λ r. ⌜ r ≡ yes flag ⌝ }
-{
-    if flag {
-        return 1;
-    }
-    0
-}
-
 fn write_flag(buffer: &mut [u8], at: usize, name: &[u8], flag: bool) -> usize
     requires { ⌜ at ≤ length (now buffer) ⌝ }
-    ensures { λ r. ⌜ Written (now (buffer .entry)) at (now (name .entry) ++ decimal (yes flag)) (now (buffer .exit)) r ⌝ }
+    ensures { λ r. ⌜ Written (now (buffer .entry)) at (now (name .entry) ++ decimal (bitOf flag)) (now (buffer .exit)) r ⌝ }
 {
     let end = puts::write_text(buffer, at, name);
-    let n = bit(flag);
+    let n = lists::bit(flag);
     write_decimal(buffer, end, n)
 }
 

@@ -1,7 +1,7 @@
 -- Values of tests from facts, and facts from tests: what the kit's own `borrow.Author.Tests` lacks. Assumes nothing.
 use Prim.Native.Nat.{ℕ, _<_, _≤_}
 use mathlib.Core.Path.{_≡_, refl, sym, _∙_}
-use mathlib.Core.Bool.{Bool, true, false, not, _&&_, _||_}
+use mathlib.Core.Bool.{Bool, true, false, cond, not, _&&_, _||_}
 use mathlib.Core.Logic.{_⊎_, inl, inr, ⊎-elim}
 use lib.Dec.{T, ltb, leb, eqb}
 use native.Mathlib.Nat.{le-of-lt}
@@ -32,6 +32,19 @@ flag-no {b} {r} p q = sym p ∙ not-true r q
 
 pub flag-yes : {b r : Bool} → r ≡ b → not r ≡ false → b ≡ true
 flag-yes {b} {r} p q = sym p ∙ not-false r q
+
+-- ---- a test as a number
+
+abbrev pub bitOf : Bool → ℕ
+bitOf b = cond b 1 0
+
+pub bit-small : (b : Bool) → bitOf b < 2
+bit-small true = omega arith
+bit-small false = omega arith
+
+pub bit-back : (b : Bool) {n : ℕ} → n ≡ bitOf b → eqb n 1 ≡ b
+bit-back true e = rw e
+bit-back false e = rw e
 
 -- ---- two tests at once
 

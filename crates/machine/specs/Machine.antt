@@ -9,6 +9,7 @@ use Rattle.lists.specs.Walk.{Result, done, refused, _>>=_}
 use Rattle.refusals.specs.declared.Refusal.{Refusal}
 use Rattle.refusals.specs.declared.Refusal.the-variants as R
 use Rattle.rows.specs.Bytes.{Image}
+use Rattle.rows.specs.Limits.{limits}
 use Rattle.rows.specs.Rows.{none, modeReactor, actionScope, isLogical}
 use Rattle.tags.specs.Tags.{Tag, at, within, withinClock, toLocal, toGlobal}
 use Rattle.key_set.specs.Sets.{has, wordCount}
@@ -17,7 +18,7 @@ use Rattle.store.specs.Store.{Found, storeRules}
 use Rattle.schedule.specs.Schedule.{isModal, isActive}
 use Rattle.table.specs.Check.{isTable}
 use Rattle.machine.specs.Table.{scopes, reactors, modes, reactions, actions, hasParent, setOf}
-use Rattle.machine.specs.State.{Event, Scope, State, root, ordinary, rootEvent, mostWaiting, scopeIn, scopeAt, activeAt, everAt, withQueue, withStore, accepted}
+use Rattle.machine.specs.State.{Event, Scope, State, root, ordinary, rootEvent, scopeIn, scopeAt, activeAt, everAt, withQueue, withStore, accepted}
 use Rattle.machine.specs.Heads as H
 use Rattle.machine.specs.Heads.{Head, Ready, peek, controlOnly, untaken, taking, readyOf}
 use Rattle.machine.specs.Transition.{Step, transition, isTag}
@@ -55,13 +56,13 @@ rules img s =
     isTable img && (sized img s &&
     (every (modeRules img) (s .modes) &&
     (every (λ x. withinClock (x .clock)) (s .scopes) &&
-    (leb (length (s .waiting)) mostWaiting &&
+    (leb (length (s .waiting)) (limits img .waiting) &&
     (every (scopeRules img (s .modes) (s .scopes)) (from 0 (scopes img)) &&
     (every (eventRules img) (s .waiting) &&
     (every (queueRules img) (s .waiting) &&
     (every (imageRules (s .scopes)) (s .waiting) &&
     (eqb (s .work) (count ordinary (s .waiting)) &&
-    storeRules (actions img) (s .store))))))))))
+    storeRules (limits img .held) (actions img) (s .store))))))))))
 
 -- ---- the calls, once the state rules hold
 
@@ -127,7 +128,7 @@ unfoldable pub rootMade : Bool → Tag → List ℕ → Bool → Bool → Bool �
 rootMade known t set isTerminal isControl isNetwork = need known R.Key (need (within t) R.ArgumentTag (done (rootEvent t set isTerminal isControl isNetwork)))
 
 unfoldable pub pushRoot : Image → State → Tag → List ℕ → Bool → Bool → Bool → Step
-pushRoot img s t ks isTerminal isControl isNetwork = rootMade (keysOk img ks) t (setOf ks) isTerminal isControl isNetwork >>= accepted s
+pushRoot img s t ks isTerminal isControl isNetwork = rootMade (keysOk img ks) t (setOf ks) isTerminal isControl isNetwork >>= accepted img s
 
 -- "Push of an action: to the root if the table isn't modal, the action isn't logical, or its scope has no parent; else to its scope at the local tag."
 unfoldable pub toRoot : Image → ℕ → Bool
@@ -153,7 +154,7 @@ actionMade img x a t terminal known set =
     need (ltb a (actions img) && known) R.Key (need (within t) R.ArgumentTag (actionPlaced img x a t terminal set))
 
 unfoldable pub pushAction : Image → State → ℕ → Tag → Bool → List ℕ → Step
-pushAction img s a t terminal ks = actionMade img (scopeAt s (actionScope img a)) a t terminal (keysOk img ks) (setOf ks) >>= accepted s
+pushAction img s a t terminal ks = actionMade img (scopeAt s (actionScope img a)) a t terminal (keysOk img ks) (setOf ks) >>= accepted img s
 
 -- "A pop or peek with no head answers "nothing"."
 abbrev pub popAt : Image → State → Head → Outcome
@@ -190,12 +191,12 @@ perform img s onlyControl = answer (flag (controlOnly img (s .scopes) (s .waitin
 perform img s ordinaryWork = answer (number (s .work)) s
 perform img s (activeNow i) = asked s (need (ltb i (scopes img)) R.Key (done (flag (activeAt s i))))
 perform img s (everActive i) = asked s (need (ltb i (scopes img)) R.Key (done (flag (everAt s i))))
-perform img s (pushValue a t v) = settle s (forStore img a t (S.pushed (s .store) a t v >>= λ st. done (withStore s st)))
+perform img s (pushValue a t v) = settle s (forStore img a t (S.pushed (limits img .held) (s .store) a t v >>= λ st. done (withStore s st)))
 perform img s (nextStep a o m) = asked s (forStore img a (at o m) (done (foundReply (S.nextMicrostep (s .store) a o m))))
 perform img s (takeValue a t) =
     settleWith (foundReply (S.valueIn a t (s .store .values))) s (forStore img a t (done (withStore s (S.taken (s .store) a t))))
 perform img s (clearBefore a t) = settle s (forStore img a t (done (withStore s (S.clearedBefore (s .store) a t))))
-perform img s (moveValue a t u) = settle s (forStore img a t (need (within u) R.ArgumentTag (S.moved (s .store) a t u >>= λ st. done (withStore s st))))
+perform img s (moveValue a t u) = settle s (forStore img a t (need (within u) R.ArgumentTag (S.moved (limits img .held) (s .store) a t u >>= λ st. done (withStore s st))))
 perform img s (clearAction a) = settle s (need (ltb a (actions img)) R.Key (done (withStore s (S.cleared (s .store) a))))
 
 -- one call: 11 before all else

@@ -9,6 +9,7 @@ use Rattle.lists.specs.Walk.{Result, done, refused}
 use Rattle.refusals.specs.declared.Refusal.{Refusal}
 use Rattle.refusals.specs.declared.Refusal.the-variants as R
 use Rattle.rows.specs.Bytes.{Image}
+use Rattle.rows.specs.Limits.{limits}
 use Rattle.rows.specs.Rows.{none, initialMode}
 use Rattle.tags.specs.Tags.{Tag, Clock, freshClock, zeroTag, sameTag}
 use Rattle.store.specs.Store.{Store, emptyStore}
@@ -87,9 +88,9 @@ pub record State : Type 0 where
   pub work : ℕ
   pub store : Store
 
--- how many events may wait: the only place that says so
-abbrev pub mostWaiting : ℕ
-mostWaiting = 256
+-- no reactor, no scope, and nothing waits or is held
+abbrev pub noState : State
+noState = record { modes = []; scopes = []; waiting = []; work = 0; store = emptyStore }
 
 abbrev pub scopeIn : List Scope → ℕ → Scope
 scopeIn ss i = getD ss i (freshScope false)
@@ -133,8 +134,9 @@ abbrev pub tally : Event → ℕ → ℕ
 tally e n = cond (ordinary e) (n + 1) n
 
 -- one more event comes last, or 8
-unfoldable pub accepted : State → Event → Result Refusal State
-accepted s e = cond (leb mostWaiting (length (s .waiting))) (refused R.Waiting) (done (withQueue s (s .waiting ++ (e ∷ [])) (tally e (s .work))))
+unfoldable pub accepted : Image → State → Event → Result Refusal State
+accepted img s e =
+    cond (leb (limits img .waiting) (length (s .waiting))) (refused R.Waiting) (done (withQueue s (s .waiting ++ (e ∷ [])) (tally e (s .work))))
 
 -- the ordinary work once the events that pass are gone
 abbrev pub workLess : (Event → Bool) → List Event → ℕ → ℕ
@@ -150,4 +152,4 @@ unfoldable pub fresh : Image → State
 fresh s =
     let modes = map (initialMode s) (from 0 (reactors s)) in
     let active = map (isActive s modes) (from 0 (scopes s)) in
-    record { modes = modes; scopes = map freshScope active; waiting = []; work = 0; store = emptyStore }
+    withScopes (withModes noState modes) (map freshScope active)

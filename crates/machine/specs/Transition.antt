@@ -11,6 +11,7 @@ use Rattle.refusals.specs.declared.Refusal.the-variants as R
 use Rattle.rows.specs.Bytes.{Image}
 use Rattle.rows.specs.Kinds as K
 use Rattle.rows.specs.Kinds.{count}
+use Rattle.rows.specs.Limits.{limits}
 use Rattle.rows.specs.Rows.{none, rootScope, initialMode, modeScope, actionScope, isLogical, startupScope, startupAction, resetScope, timerAction}
 use Rattle.rows.specs.Lineage.{inSubtree, under}
 use Rattle.table.specs.Rules.{timerTag}
@@ -19,7 +20,7 @@ use Rattle.store.specs.Store as S
 use Rattle.store.specs.Store.{Store}
 use Rattle.schedule.specs.Schedule.{isActive, triggersOf, startupsOf, resetsOf}
 use Rattle.machine.specs.Table.{scopes, reactors, actions, hasParent}
-use Rattle.machine.specs.State.{Event, Scope, State, root, scopeAt, clockAt, everAt, clocked, marked, withModes, withScopes, withStore, accepted, without, stamped, inQueue, rootEvent}
+use Rattle.machine.specs.State.{Event, Scope, State, root, scopeAt, clockAt, everAt, clocked, marked, withModes, withScopes, withQueue, withStore, accepted, without, stamped, inQueue, rootEvent}
 
 abbrev pub Step : Type 0
 Step = Result Refusal State
@@ -131,11 +132,12 @@ isLater a b = earlier (a .stored) (b .stored)
 unfoldable pub movers : ℕ → List Event → List Event
 movers i es = sortBy isLater (keep (owns i) es)
 
-unfoldable pub moveOne : ℕ → Clock → Store → Event → Result Refusal Store
-moveOne i k st e = S.moved st (e .action) (e .stored) (stamp i k e)
+unfoldable pub moveOne : ℕ → ℕ → Clock → Store → Event → Result Refusal Store
+moveOne limit i k st e = S.moved limit st (e .action) (e .stored) (stamp i k e)
 
-unfoldable pub entering : ℕ → Clock → List Event → Store → Result Refusal Store
-entering i k es st = cond (every (maps i k) es) (walk (moveOne i k) st (movers i es)) (refused R.MappedTag)
+-- where no more than `limit` values, and no more buckets, may be held
+unfoldable pub entering : ℕ → ℕ → Clock → List Event → Store → Result Refusal Store
+entering limit i k es st = cond (every (maps i k) es) (walk (moveOne limit i k) st (movers i es)) (refused R.MappedTag)
 
 -- what one scope's turn changes: the scope, the waiting events and the store
 pub record Turning : Type 0 where
@@ -144,27 +146,27 @@ pub record Turning : Type 0 where
   pub store : Store
 
 -- by its clock after the turn: a scope that goes active takes its events along
-unfoldable pub turnBy : Bool → ℕ → Scope → Clock → List Event → Store → Result Refusal Turning
-turnBy now i x k es st =
+unfoldable pub turnBy : ℕ → Bool → ℕ → Scope → Clock → List Event → Store → Result Refusal Turning
+turnBy limit now i x k es st =
     let y = marked now (clocked k x) in
     cond (now && not (x .active))
-    (entering i k es st >>= λ u. done (record { scope = y; waiting = map (restamp i k) es; store = u }))
+    (entering limit i k es st >>= λ u. done (record { scope = y; waiting = map (restamp i k) es; store = u }))
     (done (record { scope = y; waiting = es; store = st }))
 
-unfoldable pub oneTurn : Tag → Bool → Bool → ℕ → Scope → List Event → Store → Result Refusal Turning
-oneTurn c now inside i x es st = clockAfter c now inside x >>= λ k. turnBy now i x k es st
+unfoldable pub oneTurn : ℕ → Tag → Bool → Bool → ℕ → Scope → List Event → Store → Result Refusal Turning
+oneTurn limit c now inside i x es st = clockAfter c now inside x >>= λ k. turnBy limit now i x k es st
 
 abbrev pub withTurn : State → ℕ → Turning → State
-withTurn s i t = record { modes = s .modes; scopes = set (s .scopes) i (t .scope); waiting = t .waiting; work = s .work; store = t .store }
+withTurn s i t = withStore (withQueue (withScopes s (set (s .scopes) i (t .scope))) (t .waiting) (s .work)) (t .store)
 
-unfoldable pub turned : Plan → State → ℕ → Step
-turned p s i = oneTurn (p .c) (isNow p i) (isInside p i) i (scopeAt s i) (s .waiting) (s .store) >>= λ t. done (withTurn s i t)
+unfoldable pub turned : Image → Plan → State → ℕ → Step
+turned img p s i = oneTurn (limits img .held) (p .c) (isNow p i) (isInside p i) i (scopeAt s i) (s .waiting) (s .store) >>= λ t. done (withTurn s i t)
 
 -- ---- 4. "If any scope active for the first time has startup rows: a 0 value per row at c delayed by zero; then one plain ordinary event
 -- there, with its rows' reactions, for each first-time scope, those without rows included (empty set). Scopes active when fresh count as done."
 
-unfoldable pub held : ℕ → Tag → State → Step
-held a t s = S.pushed (s .store) a t 0 >>= λ st. done (withStore s st)
+unfoldable pub held : Image → ℕ → Tag → State → Step
+held img a t s = S.pushed (limits img .held) (s .store) a t 0 >>= λ st. done (withStore s st)
 
 -- a plain ordinary event of the root
 abbrev pub plainEvent : Tag → List ℕ → Event
@@ -179,8 +181,8 @@ startupRows img first = keep (λ j. any (eqb (startupScope img j)) first) (from 
 
 unfoldable pub startups : Image → Tag → List ℕ → List ℕ → State → Step
 startups img there first rows s =
-    walk (λ t j. held (startupAction img j) there t) s rows >>= λ t.
-    walk (λ u i. accepted u (plainEvent there (startupsOf img i))) t first
+    walk (λ t j. held img (startupAction img j) there t) s rows >>= λ t.
+    walk (λ u i. accepted img u (plainEvent there (startupsOf img i))) t first
 
 abbrev pub ifSome : List ℕ → Step → Step → Step
 ifSome [] a b = a
@@ -217,7 +219,7 @@ timerEvent img j g =
 
 -- "a tag before its value, a value before its event"
 unfoldable pub timer : Image → State → ℕ → Step
-timer img s j = timerImage img s j >>= λ g. held (timerAction img j) g s >>= λ t. accepted t (timerEvent img j g)
+timer img s j = timerImage img s j >>= λ g. held img (timerAction img j) g s >>= λ t. accepted img t (timerEvent img j g)
 
 unfoldable pub timerRows : Image → List Bool → List ℕ
 timerRows img ins = keep (λ j. getD ins (timerScope img j) false) (from 0 (count img K.timer))
@@ -226,7 +228,7 @@ unfoldable pub resetRows : Image → List Bool → List ℕ
 resetRows img ins = keep (λ j. getD ins (resetScope img j) false) (from 0 (count img K.reset))
 
 unfoldable pub resetEvent : Image → Tag → ℕ → List ℕ → State → Step
-resetEvent img c target rows s = ifSome rows (done s) (delayed c >>= λ there. accepted s (plainEvent there (resetsOf img target)))
+resetEvent img c target rows s = ifSome rows (done s) (delayed c >>= λ there. accepted img s (plainEvent there (resetsOf img target)))
 
 unfoldable pub step5 : Image → Tag → ℕ → List Bool → State → Step
 step5 img c target ins s = walk (timer img) s (timerRows img ins) >>= λ t. resetEvent img c target (resetRows img ins) t
@@ -239,7 +241,7 @@ planOf img c ins s = record { c = c; inside = ins; now = map (isActive img (s .m
 -- steps 3 to 5
 unfoldable pub turnsOn : Image → ℕ → Plan → State → Step
 turnsOn img target p s =
-    walk (turned p) s (from 0 (scopes img)) >>= λ t.
+    walk (turned img p) s (from 0 (scopes img)) >>= λ t.
     step4 img (p .c) (firsts img p s) t >>= λ u.
     step5 img (p .c) target (p .inside) u
 

@@ -8,6 +8,7 @@ use Rattle.lists.specs.Scan.{scan}
 use Rattle.lists.specs.Walk.{walk}
 use Rattle.rows.specs.Bytes.{Image, be}
 use Rattle.rows.specs.Kinds.{kinds, kindOf, countPlace, count, place}
+use Rattle.rows.specs.Limits.{versions, limits}
 use Rattle.rows.specs.Rows.{rowPlace, field, isLogical}
 use Rattle.rows.specs.Lineage.{lineageIn, lineage, ancestors, inSubtree, under}
 use Rattle.table.specs.Rules.{keyFields, keyExists, keysExist, parentRule, agrees, scopeRule, initialRule, reactorRule, modeRule, reactionRule, actionRule, timerRule, ownRule, rowRule}
@@ -46,7 +47,7 @@ pub record Day : Type 0 where
   pub end : State
 
 unfoldable pub dayOf : Image → List Call → Day
-unfolding keep lose countOf any every distinct from upsert insertBy sortBy foldl scan walk be kinds kindOf countPlace count place rowPlace field isLogical lineageIn lineage ancestors inSubtree under keyFields keyExists keysExist parentRule agrees scopeRule initialRule reactorRule modeRule reactionRule actionRule timerRule ownRule rowRule wrongLength countFits badCount badRow kindFits badKind checkRows check within sameTag earlier delayed shifted toLocal toGlobal withinClock bit has insertKey unionOf namesMode isModal isCurrent isActive reactionsOf triggersOf startupsOf resetsOf isValue isBucket following larger lacks pushed nextIn nextMicrostep valueIn taken isBefore isThere isSpent clearedBefore ofAction bucketOf cleared moved coveredBy hasBucket valueRules bucketRules sameValue sameBucket storeRules isTable hasParent setOf ordinary inQueue atHead accepted without fresh leastOf rootHead scopeHeadOf headAt scopeHead peek controlled controlOnly takenOff takeScopes taking addAction readyOf dropped resetScopes resetStore resetModes step1 prepared leaving staying clockAfter maps owns stamp isLater movers moveOne entering turnBy oneTurn turned held firsts startupRows startups step4 timerImage timerEvent timer timerRows resetRows resetEvent step5 planOf turnsOn transition queueRules eventRules imageRules scopeRules modeRules sized rules keysOk rootMade pushRoot toRoot localTag actionPlaced actionMade pushAction perform step run replies
+unfolding keep lose countOf any every distinct from upsert insertBy sortBy foldl scan walk be kinds kindOf versions limits countPlace count place rowPlace field isLogical lineageIn lineage ancestors inSubtree under keyFields keyExists keysExist parentRule agrees scopeRule initialRule reactorRule modeRule reactionRule actionRule timerRule ownRule rowRule wrongLength countFits badCount badRow kindFits badKind checkRows check within sameTag earlier delayed shifted toLocal toGlobal withinClock bit has insertKey unionOf namesMode isModal isCurrent isActive reactionsOf triggersOf startupsOf resetsOf isValue isBucket following larger lacks pushed nextIn nextMicrostep valueIn taken isBefore isThere isSpent clearedBefore ofAction bucketOf cleared moved coveredBy hasBucket valueRules bucketRules sameValue sameBucket storeRules isTable hasParent setOf ordinary inQueue atHead accepted without fresh leastOf rootHead scopeHeadOf headAt scopeHead peek controlled controlOnly takenOff takeScopes taking addAction readyOf dropped resetScopes resetStore resetModes step1 prepared leaving staying clockAfter maps owns stamp isLater movers moveOne entering turnBy oneTurn turned held firsts startupRows startups step4 timerImage timerEvent timer timerRows resetRows resetEvent step5 planOf turnsOn transition queueRules eventRules imageRules scopeRules modeRules sized rules keysOk rootMade pushRoot toRoot localTag actionPlaced actionMade pushAction perform step run replies
 dayOf img calls = record { replies = replies img (fresh img) calls; end = run img (fresh img) calls }
 
 -- a long day, without the test of the rules at every call

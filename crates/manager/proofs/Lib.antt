@@ -2,4 +2,3 @@ pub mod Front
 pub mod Packs
 pub mod Calls
 pub mod Runs
-pub mod Values

@@ -1,36 +1,37 @@
 -- The manager as rows and back: the state in them, its rules, and the state that is packed again. Assumes nothing.
 use mathlib.Core.Bool.{Bool, true}
-use mathlib.Core.Path.{_≡_, refl, _∙_, sym}
+use mathlib.Core.Path.{_≡_, refl, _∙_, sym, subst}
 use mathlib.Core.List.{List, map}
 use Prim.Native.Nat.{ℕ, _≤_}
-use native.Mathlib.Nat.{min-eq-left}
+use native.Mathlib.Nat.{le-trans, min-eq-left}
 use lib.Dec.{leb}
 use lib.ListN.{length, take, replicate, length-take, length-map}
 use borrow.Author.Tests.{leb-true}
 use Rattle.lists.specs.Tests.{and-left, and-right}
 use Rattle.rows.specs.Bytes.{Image}
+use Rattle.rows.specs.Limits.{limits}
 use Rattle.table.specs.Check.{isTable, check}
 use Rattle.table.specs.declared.Checked.{Checked}
 use Rattle.table.specs.declared.Checked.the-variants.{Accepted, Refused}
 use Rattle.tags.specs.Views.{ofClock}
-use Rattle.entries.specs.Entries.{mostHeld, blankValue, blankBucket, ofValue, ofBucket}
+use Rattle.entries.specs.Entries.{roomForEntries, held-fits, blankValue, blankBucket, ofValue, ofBucket}
 use Rattle.entries.specs.Words.{HeldValues, HeldBuckets}
-use Rattle.store_rules.proofs.Kept.{Kept, rules-kept}
+use Rattle.store_rules.proofs.Kept.{Kept as KeptStore, rules-kept}
 use Rattle.machine.specs.Table.{scopes, reactors, actions}
-use Rattle.machine.specs.State.{State, mostWaiting, fresh}
+use Rattle.machine.specs.State.{State, fresh, noState}
 use Rattle.machine.specs.Machine.{rules}
 use Rattle.kept.specs.Steps.{Ruled}
 use Rattle.fresh.specs.Fresh.{Bare, bare-queued, bare-stored}
 use Rattle.slots.specs.Slots as slot
-use Rattle.slots.specs.Slots.{eventOf}
+use Rattle.slots.specs.Slots.{eventOf, roomForEvents, waiting-fits}
 use Rattle.scopes.specs.Scopes as scope
 use Rattle.scopes.specs.Scopes.{mostScopes}
 use Rattle.lens.specs.Padded.{padded, padded-none, padded-take}
 use Rattle.lens.specs.Lens.{Scoped, Queued, Stored, mostReactors}
 use Rattle.lens.specs.declared.Room.{Room}
-use Rattle.lens.specs.Holds.{rowsOf, stateIn, Holds, ruled-holds, most-scopes, most-reactors, rules-table}
+use Rattle.lens.specs.Holds.{rowsOf, stateIn, Holds, Kept, ruled-holds, most-scopes, most-reactors, rules-table}
 use Rattle.state_rules.specs.Sound.{sound, soundIn}
-use Rattle.manager.specs.Arrays.{Arrays, viewOf, packed, isSound, noState, freshOver}
+use Rattle.manager.specs.Arrays.{Arrays, viewOf, packed, isSound, freshOver}
 use Rattle.manager.specs.Views.{joined, arraysOf, arraysIn, Unpacks}
 use Rattle.manager.specs.declared.Manager.{Manager}
 use Rattle.manager.proofs.Front.{front-view, scopes-long}
@@ -40,12 +41,12 @@ use Rattle.manager.proofs.Front.{front-view, scopes-long}
 pub unpacks :
     (img : Image) (m : Manager) (ms sws ews vws bws : List ℕ) {r n : ℕ} →
     length (m .clocks) ≡ mostScopes → length (m .active) ≡ mostScopes → length (m .ever) ≡ mostScopes → length (m .modes) ≡ mostReactors →
-    length (m .slots) ≡ mostWaiting → length (m .store .values) ≡ mostHeld → length (m .store .buckets) ≡ mostHeld →
+    length (m .slots) ≡ roomForEvents → length (m .store .values) ≡ roomForEntries → length (m .store .buckets) ≡ roomForEntries →
     r ≡ reactors img → n ≡ scopes img → ms ≡ padded 0 mostReactors (take r (m .modes)) →
     Scoped (take n (joined (map ofClock (m .clocks)) (m .active) (m .ever))) sws →
-    slot.Held ews (padded slot.blank mostWaiting (take (m .waiting) (map eventOf (m .slots)))) →
-    HeldValues vws (padded blankValue mostHeld (take (m .store .held) (map ofValue (m .store .values)))) →
-    HeldBuckets bws (padded blankBucket mostHeld (take (m .store .«open») (map ofBucket (m .store .buckets)))) →
+    slot.Held ews (padded slot.blank roomForEvents (take (m .waiting) (map eventOf (m .slots)))) →
+    HeldValues vws (padded blankValue roomForEntries (take (m .store .held) (map ofValue (m .store .values)))) →
+    HeldBuckets bws (padded blankBucket roomForEntries (take (m .store .«open») (map ofBucket (m .store .buckets)))) →
     Unpacks img (arraysOf m)
     (record {
       scopes = sws;
@@ -93,7 +94,8 @@ holds-packs img t u h = packs t u (h .moded) (h .scoped) (h .queued) (h .stored)
 module _ (img : Image) (a : Arrays) (s : isSound img a ≡ true) where
   pub rules-of-sound : rules img (viewOf img a) ≡ true
   unfolding isSound sound
-  rules-of-sound = and-right (leb (a .store .«open») mostHeld) _ (and-right (leb (a .store .held) mostHeld) _ (and-right (leb (a .waiting) mostWaiting) _ s))
+  rules-of-sound =
+      let l = limits img in and-right (leb (a .store .«open») (l .held)) _ (and-right (leb (a .store .held) (l .held)) _ (and-right (leb (a .waiting) (l .waiting)) _ s))
 
   pub table-of-sound : isTable img ≡ true
   table-of-sound = rules-table img (viewOf img a) rules-of-sound
@@ -110,12 +112,12 @@ module _ (img : Image) (a : Arrays) (u : Room) (x : Unpacks img a u) where
         front-view scope.blank mostScopes (a .scopes) (f .scopes) (scopes img),
         x .counted,
         x .events .things,
-        front-view slot.blank mostWaiting (a .slots) (f .slots) (a .waiting),
+        front-view slot.blank roomForEvents (a .slots) (f .slots) (a .waiting),
         x .held,
         x .values .things,
-        front-view blankValue mostHeld (a .store .values) (f .values) (a .store .held),
+        front-view blankValue roomForEntries (a .store .values) (f .values) (a .store .held),
         x .buckets .things,
-        front-view blankBucket mostHeld (a .store .buckets) (f .buckets) (a .store .«open»),
+        front-view blankBucket roomForEntries (a .store .buckets) (f .buckets) (a .store .«open»),
       )
 
   pub sound-is : {b : Bool} → b ≡ soundIn img (rowsOf u) → b ≡ isSound img a
@@ -131,19 +133,28 @@ module _ (img : Image) (a : Arrays) (u : Room) (x : Unpacks img a u) where
     unfolding isSound sound
     holds =
         let f = x .full in
-        let v = and-right (leb (a .waiting) mostWaiting) _ s in
-        let w = leb-true _ _ (and-left (leb (a .waiting) mostWaiting) _ s) in
-        let n = leb-true _ _ (and-left (leb (a .store .held) mostHeld) _ v) in
-        let o = leb-true _ _ (and-left (leb (a .store .«open») mostHeld) _ (and-right (leb (a .store .held) mostHeld) _ v)) in
+        let l = limits img in
+        let v = and-right (leb (a .waiting) (l .waiting)) _ s in
+        let w = le-trans (leb-true _ _ (and-left (leb (a .waiting) (l .waiting)) _ s)) (waiting-fits img) in
+        let n = le-trans (leb-true _ _ (and-left (leb (a .store .held) (l .held)) _ v)) (held-fits img) in
+        let o = le-trans (leb-true _ _ (and-left (leb (a .store .«open») (l .held)) _ (and-right (leb (a .store .held) (l .held)) _ v))) (held-fits img) in
         ruled-holds img (viewOf img a) (rules-of-sound img a s) (rowsOf u) (x .moded) (x .scoped)
-        (rw (x .counted) (record { held = x .events; waiting = long (a .waiting) mostWaiting (a .slots) w (f .slots); work = refl }))
+        (rw (x .counted) (record { held = x .events; waiting = long (a .waiting) roomForEvents (a .slots) w (f .slots); work = refl }))
         (rw (x .held)
         (record {
           values = x .values;
           buckets = x .buckets;
-          some-values = long (a .store .held) mostHeld (a .store .values) n (f .values);
-          some-buckets = long (a .store .«open») mostHeld (a .store .buckets) o (f .buckets);
+          some-values = long (a .store .held) roomForEntries (a .store .values) n (f .values);
+          some-buckets = long (a .store .«open») roomForEntries (a .store .buckets) o (f .buckets);
         }))
+
+    pub kept : Kept img (rowsOf u)
+    kept =
+        let e = sym state-is in
+        record {
+          keeps = subst (λ t. rules img t ≡ true) e (rules-of-sound img a s);
+          holds = subst (λ t. Holds img t (rowsOf u)) e holds;
+        }
 
 -- ---- a fresh manager
 
@@ -176,11 +187,11 @@ module _ (img : Image) (s : State) (t : isTable img ≡ true) (h : Ruled img s) 
   pub view-packed : viewOf img (packed s) ≡ s
   view-packed =
       let o = h .sound in
-      let f : Kept (actions img) (s .store) = rules-kept (actions img) (s .store) (o .stored) in
+      let f : KeptStore (limits img .held) (actions img) (s .store) = rules-kept (limits img .held) (actions img) (s .store) (o .stored) in
       rw (
         again {A = ℕ} 0 (reactors img) mostReactors (s .modes) (o .moded .long) (most-reactors img t),
         again scope.blank (scopes img) mostScopes (s .scopes) (o .scoped .long) (most-scopes img t),
-        padded-take slot.blank mostWaiting (s .waiting) (o .queued .room),
-        padded-take blankValue mostHeld (s .store .values) (f .few-values),
-        padded-take blankBucket mostHeld (s .store .buckets) (f .few-buckets),
+        padded-take slot.blank roomForEvents (s .waiting) (le-trans (o .queued .room) (waiting-fits img)),
+        padded-take blankValue roomForEntries (s .store .values) (le-trans (f .few-values) (held-fits img)),
+        padded-take blankBucket roomForEntries (s .store .buckets) (le-trans (f .few-buckets) (held-fits img)),
       )

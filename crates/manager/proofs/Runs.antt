@@ -13,30 +13,27 @@ use Rattle.refusals.specs.declared.Refusal.the-variants as R
 use Rattle.rows.specs.Rows.{modeReactor}
 use Rattle.tags.specs.Tags.{at, within}
 use Rattle.rows.specs.Bytes.{Image}
+use Rattle.rows.specs.Limits.{limits}
 use Rattle.table.specs.Check.{isTable}
-use Rattle.entries.specs.Entries.{mostHeld}
 use Rattle.store.specs.Store as S
 use Rattle.store_rules.proofs.Kept.{Kept, rules-kept}
 use Rattle.machine.specs.Table.{scopes, reactors, modes, actions}
-use Rattle.machine.specs.State.{State, mostWaiting, activeAt, everAt, withStore, fresh}
+use Rattle.machine.specs.State.{State, activeAt, everAt, withStore, fresh}
 use Rattle.machine.specs.Heads as H
 use Rattle.machine.specs.Heads.{Head, peek}
 use Rattle.machine.specs.Transition.{Step, transition}
 use Rattle.machine.specs.Machine as M
-use Rattle.machine.specs.Machine.{Call, Reply, Outcome, settleWith, asked, popAt, foundReply, need, forStore, pushRoot, pushAction, perform, rules, step, run}
+use Rattle.machine.specs.Machine.{Call, Reply, Outcome, settleWith, popAt, foundReply, need, forStore, pushRoot, pushAction, perform, rules, step, run}
 use Rattle.kept.specs.Kept.{rules-tell, rules-pass, step-performs, step-keeps, fresh-rules}
 use Rattle.kept.specs.Steps.{Ruled}
 use Rattle.state_rules.specs.Sound.{sound}
+use Rattle.calls.proofs.CallLaws.{asked-back}
 use Rattle.manager.specs.Arrays.{Arrays, asks, ended, packed, viewOf, isSound, stepOn, runOn, freshOver}
 use Rattle.manager.proofs.Packs.{view-packed, table-of-sound, rules-of-sound}
 
 -- ---- a refusal returns the state as given, and so does a question
 
 module _ (img : Image) (s : State) where
-  asked-back : (r : Result Refusal Reply) → asked s r .state ≡ s
-  asked-back (done r) = refl
-  asked-back (refused n) = refl
-
   settled-back : (r : Reply) (t : Step) {n : Refusal} → (r ≡ M.refusal n → ⊥) → settleWith r s t .reply ≡ M.refusal n → settleWith r s t .state ≡ s
   settled-back r (done t) h e = absurd (h e)
   settled-back r (refused m) h e = refl
@@ -63,10 +60,10 @@ module _ (img : Image) (s : State) where
   asks-back M.peekTag e = refl
   asks-back M.onlyControl e = refl
   asks-back M.ordinaryWork e = refl
-  asks-back (M.activeNow i) e = asked-back (need (ltb i (scopes img)) R.Key (done (M.flag (activeAt s i))))
-  asks-back (M.everActive i) e = asked-back (need (ltb i (scopes img)) R.Key (done (M.flag (everAt s i))))
+  asks-back (M.activeNow i) e = asked-back s (need (ltb i (scopes img)) R.Key (done (M.flag (activeAt s i))))
+  asks-back (M.everActive i) e = asked-back s (need (ltb i (scopes img)) R.Key (done (M.flag (everAt s i))))
   asks-back (M.pushValue a t v) e = no-way e
-  asks-back (M.nextStep a o m) e = asked-back (forStore img a (at o m) (done (foundReply (S.nextMicrostep (s .store) a o m))))
+  asks-back (M.nextStep a o m) e = asked-back s (forStore img a (at o m) (done (foundReply (S.nextMicrostep (s .store) a o m))))
   asks-back (M.takeValue a t) e = no-way e
   asks-back (M.clearBefore a t) e = no-way e
   asks-back (M.moveValue a t u) e = no-way e
@@ -88,14 +85,14 @@ module _ (img : Image) (s : State) where
   refused-back M.ordinaryWork f e = no-way (sym f)
   refused-back (M.activeNow i) f e = no-way (sym f)
   refused-back (M.everActive i) f e = no-way (sym f)
-  refused-back (M.pushValue a t v) f e = settled-back M.ok (forStore img a t (S.pushed (s .store) a t v >>= λ st. done (withStore s st))) not-ok e
+  refused-back (M.pushValue a t v) f e = settled-back M.ok (forStore img a t (S.pushed (limits img .held) (s .store) a t v >>= λ st. done (withStore s st))) not-ok e
   refused-back (M.nextStep a o m) f e = no-way (sym f)
   refused-back (M.takeValue a t) f e =
       let v = S.valueIn a t (s .store .values) in
       settled-back (foundReply v) (forStore img a t (done (withStore s (S.taken (s .store) a t)))) (not-found v) e
   refused-back (M.clearBefore a t) f e = settled-back M.ok (forStore img a t (done (withStore s (S.clearedBefore (s .store) a t)))) not-ok e
   refused-back (M.moveValue a t u) f e =
-      settled-back M.ok (forStore img a t (need (within u) R.ArgumentTag (S.moved (s .store) a t u >>= λ st. done (withStore s st)))) not-ok e
+      settled-back M.ok (forStore img a t (need (within u) R.ArgumentTag (S.moved (limits img .held) (s .store) a t u >>= λ st. done (withStore s st)))) not-ok e
   refused-back (M.clearAction a) f e = settled-back M.ok (need (ltb a (actions img)) R.Key (done (withStore s (S.cleared (s .store) a)))) not-ok e
 
 -- ---- a state that is packed
@@ -103,9 +100,9 @@ module _ (img : Image) (s : State) where
 packed-sound : (img : Image) (t : State) → isTable img ≡ true → Ruled img t → isSound img (packed t) ≡ true
 unfolding isSound sound
 packed-sound img t h r =
-    let f : Kept (actions img) (t .store) = rules-kept (actions img) (t .store) (r .sound .stored) in
-    both (le-leb _ mostWaiting (r .sound .queued .room))
-    (both (le-leb _ mostHeld (f .few-values)) (both (le-leb _ mostHeld (f .few-buckets)) (ap (rules img) (view-packed img t h r) ∙ rules-pass img t h r)))
+    let f : Kept (limits img .held) (actions img) (t .store) = rules-kept (limits img .held) (actions img) (t .store) (r .sound .stored) in
+    both (le-leb _ (limits img .waiting) (r .sound .queued .room))
+    (both (le-leb _ (limits img .held) (f .few-values)) (both (le-leb _ (limits img .held) (f .few-buckets)) (ap (rules img) (view-packed img t h r) ∙ rules-pass img t h r)))
 
 -- ---- one call
 

@@ -8,12 +8,13 @@ use Rattle.rows.specs.Bytes.{Image}
 use Rattle.table.specs.Check.{isTable}
 use Rattle.tags.specs.Tags.{Tag, zeroTag}
 use Rattle.key_set.specs.Sets.{noKeys, wordCount}
-use Rattle.entries.specs.Entries.{mostHeld, blankValue, blankBucket}
-use Rattle.store.specs.Store.{Store, emptyStore}
+use Rattle.entries.specs.Entries.{roomForEntries, blankValue, blankBucket}
+use Rattle.store.specs.Store.{Store}
 use Rattle.value_store.specs.Calls as store
 use Rattle.value_store.specs.Calls.{heldIn}
 use Rattle.machine.specs.Table.{scopes, reactors}
-use Rattle.machine.specs.State.{Event, Scope, State, mostWaiting, fresh}
+use Rattle.machine.specs.State.{Event, Scope, State, fresh, noState}
+use Rattle.slots.specs.Slots.{roomForEvents}
 use Rattle.machine.specs.Heads.{Ready}
 use Rattle.machine.specs.Machine as M
 use Rattle.machine.specs.Machine.{Call, Reply, Outcome, refusal, perform}
@@ -48,9 +49,9 @@ viewOf img a =
 abbrev pub packedStore : Store → store.Arrays
 packedStore st =
     record {
-      values = padded blankValue mostHeld (st .values);
+      values = padded blankValue roomForEntries (st .values);
       held = length (st .values);
-      buckets = padded blankBucket mostHeld (st .buckets);
+      buckets = padded blankBucket roomForEntries (st .buckets);
       «open» = length (st .buckets);
     }
 
@@ -59,15 +60,11 @@ packed s =
     record {
       scopes = padded scope.blank mostScopes (s .scopes);
       modes = padded 0 mostReactors (s .modes);
-      slots = padded slot.blank mostWaiting (s .waiting);
+      slots = padded slot.blank roomForEvents (s .waiting);
       waiting = length (s .waiting);
       work = s .work;
       store = packedStore (s .store);
     }
-
--- no scope, no reactor, and nothing waits or is held
-abbrev pub noState : State
-noState = record { modes = []; scopes = []; waiting = []; work = 0; store = emptyStore }
 
 -- a fresh manager over an accepted table
 unfoldable pub freshOver : Image → Arrays
@@ -151,7 +148,7 @@ shownReady r =
       work = r .work;
       network = r .network;
       reactions = r .reactions;
-      actions = padded 0 mostWaiting (r .actions);
+      actions = padded 0 roomForEvents (r .actions);
       count = length (r .actions);
     }
 

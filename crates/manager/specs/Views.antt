@@ -1,40 +1,40 @@
 -- The code's manager and answers as the definitions', and the manager as rows of words. Assumes nothing.
 use Prim.Native.Nat.{ℕ}
-use mathlib.Core.Bool.{Bool}
+use mathlib.Core.Bool.{Bool, false}
 use mathlib.Core.Path.{_≡_}
+use mathlib.Core.Logic.{_⊎_}
 use mathlib.Core.List.{List, [], _∷_, map}
 use lib.Dec.{ltb}
 use lib.ListN.{length, take}
 use Rattle.rows.specs.Bytes.{Image}
 use Rattle.tags.specs.Views.{ofGlobal, ofClock}
 use Rattle.tags.specs.Tags.{Clock}
-use Rattle.entries.specs.Entries.{mostHeld, blankValue, blankBucket}
+use Rattle.entries.specs.Entries.{roomForEntries, blankValue, blankBucket}
 use Rattle.entries.specs.Words.{HeldValues, HeldBuckets}
-use Rattle.store_calls.specs.declared.Counts as store
-use Rattle.value_store.specs.Calls as C
 use Rattle.value_store.specs.Views as stores
-use Rattle.machine.specs.State.{Scope, mostWaiting}
+use Rattle.machine.specs.State.{Scope}
 use Rattle.slots.specs.Slots as slot
-use Rattle.slots.specs.Slots.{eventOf, eventsOf}
+use Rattle.slots.specs.Slots.{eventOf, eventsOf, roomForEvents}
 use Rattle.scopes.specs.Scopes.{mostScopes, scopesOf}
-use Rattle.lens.specs.Parts.{recounted}
 use Rattle.lens.specs.Padded.{padded}
 use Rattle.lens.specs.Lens.{mostReactors, Scoped}
 use Rattle.machine.specs.Machine as M
 use Rattle.machine.specs.Machine.{Reply}
-use Rattle.lens.specs.declared.Counts.{Counts}
 use Rattle.lens.specs.declared.Room.{Room}
-use Rattle.manager.specs.Arrays.{Arrays, Answered, answered, Shown, Popped, popped, viewOf}
+use Rattle.manager.specs.Arrays.{Arrays, Answered, answered, Shown, Popped, viewOf}
 use Rattle.machine.specs.Heads.{Ready}
-use Rattle.pops.specs.Pops.{popReply}
-use Rattle.pops.specs.declared.Popped as pop
+use Rattle.refusals.specs.declared.Refusal.the-variants.{StateRule}
+use Rattle.ready.specs.Gathering.{readyAt, gatheringOf}
+use Rattle.calls.specs.Calls.{answerReply, replyOf, Tells}
+use Rattle.calls.specs.declared.Answer.the-variants.{Refused}
+use Rattle.calls.specs.declared.Call.{Call}
+use Rattle.calls.specs.declared.Performed.{Performed}
 use Rattle.manager.specs.declared.Answered as code
+use Rattle.manager.specs.declared.Called.{Called}
 use Rattle.manager.specs.declared.Popped as code-popped
 use Rattle.manager.specs.declared.Ready as R
 use Rattle.manager.specs.declared.Pop.{Pop}
 use Rattle.manager.specs.declared.Pop.the-variants as Q
-use Rattle.manager.specs.declared.Answer.{Answer}
-use Rattle.manager.specs.declared.Answer.the-variants as A
 use Rattle.manager.specs.declared.Manager.{Manager}
 
 -- three arrays read as one list of scopes; they are equally long by their types, so that the list tells all three
@@ -73,59 +73,32 @@ arraysIn u =
 pub record Full (a : Arrays) : Type 0 where
   pub scopes : length (a .scopes) ≡ mostScopes
   pub modes : length (a .modes) ≡ mostReactors
-  pub slots : length (a .slots) ≡ mostWaiting
-  pub values : length (a .store .values) ≡ mostHeld
-  pub buckets : length (a .store .buckets) ≡ mostHeld
+  pub slots : length (a .slots) ≡ roomForEvents
+  pub values : length (a .store .values) ≡ roomForEntries
+  pub buckets : length (a .store .buckets) ≡ roomForEntries
 
 -- the rows hold the manager's state and blanks behind it; their counts are those that are handed in, the state's own unless more is counted than an array has
 pub record Unpacks (img : Image) (a : Arrays) (u : Room) : Type 0 where
   pub full : Full a
   pub moded : u .ledger .modes ≡ padded 0 mostReactors (viewOf img a .modes)
   pub scoped : Scoped (viewOf img a .scopes) (u .scopes)
-  pub events : slot.Held (u .events) (padded slot.blank mostWaiting (viewOf img a .waiting))
-  pub values : HeldValues (u .values) (padded blankValue mostHeld (viewOf img a .store .values))
-  pub buckets : HeldBuckets (u .buckets) (padded blankBucket mostHeld (viewOf img a .store .buckets))
+  pub events : slot.Held (u .events) (padded slot.blank roomForEvents (viewOf img a .waiting))
+  pub values : HeldValues (u .values) (padded blankValue roomForEntries (viewOf img a .store .values))
+  pub buckets : HeldBuckets (u .buckets) (padded blankBucket roomForEntries (viewOf img a .store .buckets))
   pub counted : u .ledger .counts ≡ record { waiting = a .waiting; work = a .work }
   pub held : u .ledger .held ≡ record { values = a .store .held; buckets = a .store .«open» }
 
--- the rows with other events
-abbrev pub withEvents : Room → List ℕ → Counts → Room
-withEvents u ws c =
-    record { scopes = u .scopes; events = ws; values = u .values; buckets = u .buckets; ledger = recounted (u .ledger) c (u .ledger .held) }
-
--- the rows with other values
-abbrev pub withValues : Room → List ℕ → List ℕ → store.Counts → Room
-withValues u vs bs h =
-    record { scopes = u .scopes; events = u .events; values = vs; buckets = bs; ledger = recounted (u .ledger) (u .ledger .counts) h }
-
--- ---- the calls of the value store among the machine's, and their answers
-
-abbrev pub valueCall : C.Call → M.Call
-valueCall (C.push a t v) = M.pushValue a t v
-valueCall (C.next a o m) = M.nextStep a o m
-valueCall (C.take-out a t) = M.takeValue a t
-valueCall (C.clear-before a t) = M.clearBefore a t
-valueCall (C.clear a) = M.clearAction a
-valueCall (C.move a t u) = M.moveValue a t u
-
-abbrev pub valueReply : C.Answer → Reply
-valueReply C.ok = M.ok
-valueReply (C.number n) = M.number n
-valueReply C.nothing-there = M.nothing
-valueReply (C.no r) = M.refusal r
-
 -- ---- answers
 
-abbrev pub replyOf : Answer → Reply
-replyOf A.Done = M.ok
-replyOf A.Nothing = M.nothing
-replyOf (A.Tag t) = M.tag (ofGlobal t)
-replyOf (A.Flag b) = M.flag b
-replyOf (A.Number n) = M.number n
-replyOf (A.Refused n) = M.refusal n
-
 abbrev pub answeredOf : code.Answered → Answered
-answeredOf r = answered (replyOf (r .answer)) (arraysOf (r .manager))
+answeredOf r = answered (answerReply (r .answer)) (arraysOf (r .manager))
+
+abbrev pub calledOf : Called → Answered
+calledOf r = answered (replyOf (r .performed) (r .actions)) (arraysOf (r .manager))
+
+-- what is known of an answer by its call, unless it is 11
+abbrev pub TellsOrEleven : Call → Performed → Type 0
+TellsOrEleven c r = Tells c r ⊎ ((r .found ≡ false) × (r .answer ≡ Refused StateRule))
 
 -- the count as a yes or no
 abbrev pub workReply : Reply → Reply
@@ -154,6 +127,10 @@ shownOf r =
       count = r .count;
     }
 
+-- the ready event that a pop found
+abbrev pub readyFrom : Performed → List ℕ → Ready
+readyFrom r keys = readyAt (ofGlobal (r .tag)) (gatheringOf (r .gathered) keys)
+
 abbrev pub readyIn : Shown → Ready
 readyIn r = record { tag = r .tag; terminal = r .terminal; work = r .work; network = r .network; reactions = r .reactions; actions = take (r .count) (r .actions) }
 
@@ -164,7 +141,3 @@ popReplyOf (Q.Refused n) r = M.refusal n
 
 abbrev pub poppedOf : code-popped.Popped → Popped
 poppedOf r = record { answered = answered (popReplyOf (r .outcome) (shownOf (r .ready))) (arraysOf (r .manager)); ready = shownOf (r .ready) }
-
--- what a pop on rows answers and leaves
-abbrev pub poppedIn : Room → List ℕ → List ℕ → pop.Popped → Popped
-poppedIn u ws keys p = popped (answered (popReply p keys) (arraysIn (withEvents u ws (p .counts))))

@@ -7,33 +7,37 @@
 //   ordinaryWork -> nonterminal_work and has_nonterminal_work, activeNow -> scope_active, everActive -> scope_ever_active,
 //   pushValue -> push_value, nextStep -> next_value_microstep, takeValue -> take_value,
 //   clearBefore -> clear_values_older_than, moveValue -> move_value, clearAction -> clear_values.
-ghost use mathlib.Core.Bool.{false};
+ghost use mathlib.Core.Bool.{false, cond, _||_};
 ghost use mathlib.Core.Path.{_≡_};
-ghost use mathlib.Core.List.{map};
-ghost use Prim.Native.Nat.{_≤_, min};
+ghost use mathlib.Core.List.{List, [], map};
+ghost use Prim.Native.Nat.{ℕ, _≤_, min};
 ghost use lib.ListN.{length, take};
 ghost use Rattle.lists.specs.Lent.{was};
 ghost use Rattle.tags.specs.Views.{ofClock, ofGlobal};
-ghost use Rattle.entries.specs.Entries.{mostHeld, blankValue, blankBucket, ofValue, ofBucket};
+ghost use Rattle.entries.specs.Entries.{roomForEntries, blankValue, blankBucket, ofValue, ofBucket};
 ghost use Rattle.entries.specs.Words.{HeldValues, HeldBuckets};
 ghost use Rattle.slots.specs.Slots.{eventOf, eventsOf};
 ghost use Rattle.slots.specs.Slots as slot;
 ghost use Rattle.scopes.specs.Scopes.{mostScopes, scopesOf};
-ghost use Rattle.machine.specs.State.{mostWaiting};
+ghost use Rattle.slots.specs.Slots.{roomForEvents};
 ghost use Rattle.lens.specs.Padded.{padded};
 ghost use Rattle.lens.specs.Lens.{Scoped, mostReactors};
-ghost use Rattle.lens.specs.Holds.{replyOf as replied};
-ghost use Rattle.manager.specs.Arrays.{isSound, asks, isRefusal, endedBy, stepOn, shownReady, noReady, popped, freshOver};
+ghost use Rattle.manager.specs.Arrays.{isSound, asks, isRefusal, stepOn, shownReady, noReady, popped, freshOver};
 ghost use Rattle.table.specs.Check.{check};
-ghost use Rattle.manager.specs.Views.{joined, arraysOf, arraysIn, Unpacks, withEvents, answeredOf, someWork, replyOf};
-ghost use Rattle.manager.specs.Views.{shownOf, readyIn, poppedOf, poppedIn, valueCall, valueReply};
-ghost use Rattle.value_store.specs.Views.{callOf, answerOf};
-ghost use Rattle.pops.specs.Pops.{readyFrom, replyOf as peekedReply};
+ghost use Rattle.manager.specs.Views.{joined, arraysOf, arraysIn, Unpacks, answeredOf, calledOf, workReply, someWork};
+ghost use Rattle.manager.specs.Views.{TellsOrEleven, shownOf, readyFrom, readyIn, poppedOf};
+ghost use Rattle.value_store.specs.Views.{callOf as storeCall};
+ghost use Rattle.calls.specs.Calls.{valueCall, callOf, answerReply, replyOf, isPop};
+ghost use Rattle.calls.specs.declared.Call.the-variants as K;
 ghost use Rattle.machine.specs.Machine.{plain, network, control, action, transit, peekTag, onlyControl, ordinaryWork, activeNow, everActive, pop};
 ghost use Rattle.machine.specs.Machine.{pushValue, nextStep, takeValue, clearBefore, moveValue, clearAction};
+use calls::Answer;
+use calls::Call;
+use calls::Performed;
+use calls::Question;
 use entries::Bucket;
 use entries::BucketRows;
-use entries::MOST_HELD;
+use entries::ROOM_FOR_ENTRIES;
 use entries::Value;
 use entries::ValueRows;
 use key_set::KeySet;
@@ -41,18 +45,16 @@ use lens::Ledger;
 use lens::MOST_REACTORS;
 use lens::Room;
 use plan::Request;
-use pops::Peeked;
 use pushes::ActionPush;
-use refusals::Outcome;
+use pushes::Push;
 use refusals::Refusal;
 use scopes::MOST_SCOPES;
 use scopes::Scope;
-use slots::MOST_WAITING;
+use slots::ROOM_FOR_EVENTS;
 use slots::Slot;
 use table::Checked;
 use tags::GlobalTag;
 use tags::ScopeClock;
-use value_store::Call;
 use value_store::Store;
 
 // Clocks, active now and ever active by scope, modes by reactor, the events that wait and how many of them are ordinary, and the value store.
@@ -61,7 +63,7 @@ pub struct Manager {
     pub active: [bool; MOST_SCOPES],
     pub ever: [bool; MOST_SCOPES],
     pub modes: [u16; MOST_REACTORS],
-    pub slots: [Slot; MOST_WAITING],
+    pub slots: [Slot; ROOM_FOR_EVENTS],
     pub waiting: usize,
     pub work: usize,
     pub store: Store,
@@ -119,11 +121,11 @@ fn scope_rows(
     rows
 }
 
-fn slot_rows(slots: [Slot; MOST_WAITING], n: usize) -> [u64; slots::ROOM]
-    ensures { λ r. ⌜ slot.Held r (padded slot.blank mostWaiting (take n (map eventOf slots))) ⌝ }
-    ensures { λ _. ⌜ length slots ≡ mostWaiting ⌝ }
+fn slot_rows(slots: [Slot; ROOM_FOR_EVENTS], n: usize) -> [u64; slots::ROOM]
+    ensures { λ r. ⌜ slot.Held r (padded slot.blank roomForEvents (take n (map eventOf slots))) ⌝ }
+    ensures { λ _. ⌜ length slots ≡ roomForEvents ⌝ }
 {
-    let end = at_most(n, MOST_WAITING);
+    let end = at_most(n, ROOM_FOR_EVENTS);
     let mut rows = slots::blank_rows();
     let mut i: usize = 0;
     while i < end {
@@ -134,12 +136,12 @@ fn slot_rows(slots: [Slot; MOST_WAITING], n: usize) -> [u64; slots::ROOM]
     rows
 }
 
-fn value_rows(values: [Value; MOST_HELD], n: usize) -> ValueRows
-    ensures { λ r. ⌜ HeldValues r (padded blankValue mostHeld (take n (map ofValue values))) ⌝ }
-    ensures { λ _. ⌜ length values ≡ mostHeld ⌝ }
+fn value_rows(values: [Value; ROOM_FOR_ENTRIES], n: usize) -> ValueRows
+    ensures { λ r. ⌜ HeldValues r (padded blankValue roomForEntries (take n (map ofValue values))) ⌝ }
+    ensures { λ _. ⌜ length values ≡ roomForEntries ⌝ }
 {
-    let end = at_most(n, MOST_HELD);
-    let mut rows: ValueRows = [0; entries::MOST_HELD * entries::VALUE_WORDS];
+    let end = at_most(n, ROOM_FOR_ENTRIES);
+    let mut rows: ValueRows = [0; entries::ROOM_FOR_ENTRIES * entries::VALUE_WORDS];
     let mut i: usize = 0;
     while i < end {
         let v = values[i];
@@ -149,12 +151,12 @@ fn value_rows(values: [Value; MOST_HELD], n: usize) -> ValueRows
     rows
 }
 
-fn bucket_rows(buckets: [Bucket; MOST_HELD], n: usize) -> BucketRows
-    ensures { λ r. ⌜ HeldBuckets r (padded blankBucket mostHeld (take n (map ofBucket buckets))) ⌝ }
-    ensures { λ _. ⌜ length buckets ≡ mostHeld ⌝ }
+fn bucket_rows(buckets: [Bucket; ROOM_FOR_ENTRIES], n: usize) -> BucketRows
+    ensures { λ r. ⌜ HeldBuckets r (padded blankBucket roomForEntries (take n (map ofBucket buckets))) ⌝ }
+    ensures { λ _. ⌜ length buckets ≡ roomForEntries ⌝ }
 {
-    let end = at_most(n, MOST_HELD);
-    let mut rows: BucketRows = [0; entries::MOST_HELD * entries::BUCKET_WORDS];
+    let end = at_most(n, ROOM_FOR_ENTRIES);
+    let mut rows: BucketRows = [0; entries::ROOM_FOR_ENTRIES * entries::BUCKET_WORDS];
     let mut i: usize = 0;
     while i < end {
         let b = buckets[i];
@@ -206,13 +208,13 @@ fn unpack(image: &[u8], m: Manager) -> Room
 
 // ---- and back
 
-fn slots_of(rows: &[u64; slots::ROOM]) -> [Slot; MOST_WAITING]
+fn slots_of(rows: &[u64; slots::ROOM]) -> [Slot; ROOM_FOR_EVENTS]
     ensures { λ r. ⌜ map eventOf r ≡ eventsOf (was rows) ⌝ }
 {
     let blank = Slot::blank();
-    let mut out = [blank; MOST_WAITING];
+    let mut out = [blank; ROOM_FOR_EVENTS];
     let mut i: usize = 0;
-    while i < MOST_WAITING {
+    while i < ROOM_FOR_EVENTS {
         let s = slots::slot_at(rows, i);
         out[i] = s;
         i += 1;
@@ -317,139 +319,10 @@ fn enter(image: &[u8], m: Manager) -> Entered
     Entered { sound, rows }
 }
 
-// The rows with other events.
-fn with_events(u: Room, events: [u64; slots::ROOM], counts: lens::Counts) -> Room
-    ensures { λ r. ⌜ r ≡ withEvents u events counts ⌝ }
-{
-    let mut ledger = u.ledger;
-    ledger.counts = counts;
-    let mut rows = u;
-    rows.events = events;
-    rows.ledger = ledger;
-    rows
-}
-
-// What a call answers.
-pub enum Answer {
-    Done,
-    Nothing,
-    Tag(GlobalTag),
-    Flag(bool),
-    Number(u64),
-    Refused(Refusal),
-}
-
 // The answer, and the manager after the call.
 pub struct Answered {
     pub answer: Answer,
     pub manager: Manager,
-}
-
-// What a push or a transition answers and leaves, of the rows after it: the manager as it was handed in where it is refused.
-fn finish(m: Manager, u: Room, o: Outcome) -> Answered
-    ensures { λ r. ⌜ answeredOf r ≡ endedBy (arraysOf m) false (arraysIn u) (replied o) ⌝ }
-{
-    match o {
-        Outcome::Refused(n) => Answered {
-            answer: Answer::Refused(n),
-            manager: m,
-        },
-        Outcome::Done => {
-            let manager = pack(u);
-            Answered {
-                answer: Answer::Done,
-                manager,
-            }
-        }
-    }
-}
-
-// A call on the values that only asks.
-fn only_asks(call: Call) -> bool
-    ensures { λ r. ⌜ r ≡ asks (valueCall (callOf call)) ⌝ }
-{
-    match call {
-        Call::NextMicrostep(_, _, _) => true,
-        Call::Push(_, _, _) => false,
-        Call::Take(_, _) => false,
-        Call::ClearOlderThan(_, _) => false,
-        Call::Clear(_) => false,
-        Call::MoveValue(_, _, _) => false,
-    }
-}
-
-// The value store's answer as the manager's.
-fn value_answer(said: value_store::Answer) -> Answer
-    ensures { λ r. ⌜ replyOf r ≡ valueReply (answerOf said) ⌝ }
-{
-    match said {
-        value_store::Answer::Done => Answer::Done,
-        value_store::Answer::Nothing => Answer::Nothing,
-        value_store::Answer::Number(n) => Answer::Number(n),
-        value_store::Answer::Refused(n) => Answer::Refused(n),
-    }
-}
-
-fn is_refused(said: value_store::Answer) -> bool
-    ensures { λ r. ⌜ r ≡ isRefusal (valueReply (answerOf said)) ⌝ }
-{
-    match said {
-        value_store::Answer::Done => false,
-        value_store::Answer::Nothing => false,
-        value_store::Answer::Number(_) => false,
-        value_store::Answer::Refused(_) => true,
-    }
-}
-
-// What a call on the values leaves, of the rows after it: the manager as it was handed in where it only asks or is refused.
-fn finish_value(m: Manager, u: Room, call: Call, said: value_store::Answer) -> Answered
-    ensures { λ r. ⌜ answeredOf r ≡ endedBy (arraysOf m) (asks (valueCall (callOf call))) (arraysIn u) (valueReply (answerOf said)) ⌝ }
-{
-    let answer = value_answer(said);
-    if only_asks(call) {
-        return Answered { answer, manager: m };
-    }
-    if is_refused(said) {
-        return Answered { answer, manager: m };
-    }
-    let manager = pack(u);
-    Answered { answer, manager }
-}
-
-// A call on the values: to rows, 11, the call there, and back.
-fn value_call(m: Manager, image: &[u8], call: Call) -> Answered
-    ensures { λ r. ⌜ answeredOf r ≡ stepOn (was image) (arraysOf m) (valueCall (callOf call)) ⌝ }
-{
-    let e = enter(image, m);
-    let u = e.rows;
-    let mut values = u.values;
-    let mut buckets = u.buckets;
-    let mut ledger = u.ledger;
-    let held = ledger.held;
-    if !e.sound {
-        return Answered {
-            answer: Answer::Refused(Refusal::StateRule),
-            manager: m,
-        };
-    }
-    let c = value_store::call_rows(image, &mut values, &mut buckets, held, call);
-    let said = c.answer;
-    let left = c.held;
-    ledger.held = left;
-    let mut rows = u;
-    rows.values = values;
-    rows.buckets = buckets;
-    rows.ledger = ledger;
-    finish_value(m, rows, call, said)
-}
-
-fn peeked(p: Peeked) -> Answer
-    ensures { λ r. ⌜ replyOf r ≡ peekedReply p ⌝ }
-{
-    match p {
-        Peeked::Nothing => Answer::Nothing,
-        Peeked::At(t) => Answer::Tag(t),
-    }
 }
 
 // A ready event: its tag, flags and reactions, and the keys of its actions in order of taking, zeros behind them.
@@ -459,7 +332,7 @@ pub struct Ready {
     pub work: bool,
     pub network: bool,
     pub reactions: KeySet,
-    pub actions: [u16; MOST_WAITING],
+    pub actions: [u16; ROOM_FOR_EVENTS],
     pub count: usize,
 }
 
@@ -487,18 +360,18 @@ fn no_ready() -> Ready
         work: false,
         network: false,
         reactions: none,
-        actions: [0u16; MOST_WAITING],
+        actions: [0u16; ROOM_FOR_EVENTS],
         count: 0,
     }
 }
 
 // The first n keys, and zeros behind them.
-fn own_keys(keys: [u16; MOST_WAITING], n: usize) -> [u16; MOST_WAITING]
-    ensures { λ r. ⌜ r ≡ padded 0 mostWaiting (take n keys) ⌝ }
-    ensures { λ _. ⌜ length keys ≡ mostWaiting ⌝ }
+fn own_keys(keys: [u16; ROOM_FOR_EVENTS], n: usize) -> [u16; ROOM_FOR_EVENTS]
+    ensures { λ r. ⌜ r ≡ padded 0 roomForEvents (take n keys) ⌝ }
+    ensures { λ _. ⌜ length keys ≡ roomForEvents ⌝ }
 {
-    let end = at_most(n, MOST_WAITING);
-    let mut out = [0u16; MOST_WAITING];
+    let end = at_most(n, ROOM_FOR_EVENTS);
+    let mut out = [0u16; ROOM_FOR_EVENTS];
     let mut i: usize = 0;
     while i < end {
         out[i] = keys[i];
@@ -507,8 +380,8 @@ fn own_keys(keys: [u16; MOST_WAITING], n: usize) -> [u16; MOST_WAITING]
     out
 }
 
-fn ready_of(p: pops::Popped, keys: [u16; MOST_WAITING]) -> Ready
-    requires { ⌜ p .gathered .actions ≤ mostWaiting ⌝ }
+fn ready_of(p: Performed, keys: [u16; ROOM_FOR_EVENTS]) -> Ready
+    requires { ⌜ p .gathered .actions ≤ roomForEvents ⌝ }
     ensures { λ r. ⌜ (shownOf r ≡ shownReady (readyFrom p keys)) × (readyIn (shownOf r) ≡ readyFrom p keys) ⌝ }
 {
     let g = p.gathered;
@@ -527,18 +400,166 @@ fn ready_of(p: pops::Popped, keys: [u16; MOST_WAITING]) -> Ready
     }
 }
 
-fn finish_pop(
-    u: Room,
-    events: [u64; slots::ROOM],
-    keys: [u16; MOST_WAITING],
-    p: pops::Popped,
-) -> Popped
-    requires { ⌜ p .gathered .actions ≤ mostWaiting ⌝ }
-    ensures { λ r. ⌜ poppedOf r ≡ poppedIn u events keys p ⌝ }
+// ---- one call
+
+// A call on the values that only asks.
+fn only_reads(call: value_store::Call) -> bool
+    ensures { λ r. ⌜ r ≡ asks (valueCall (storeCall call)) ⌝ }
 {
-    let left = p.counts;
-    let rows = with_events(u, events, left);
-    let manager = pack(rows);
+    match call {
+        value_store::Call::NextMicrostep(_, _, _) => true,
+        value_store::Call::Push(_, _, _) => false,
+        value_store::Call::Take(_, _) => false,
+        value_store::Call::ClearOlderThan(_, _) => false,
+        value_store::Call::Clear(_) => false,
+        value_store::Call::MoveValue(_, _, _) => false,
+    }
+}
+
+// A call that only asks.
+fn only_asks(call: Call) -> bool
+    ensures { λ r. ⌜ ((ks : List ℕ) → r ≡ asks (callOf call ks)) ⌝ }
+{
+    match call {
+        Call::Push(_) => false,
+        Call::Transition(_) => false,
+        Call::Pop => false,
+        Call::Ask(_) => true,
+        Call::Value(c) => only_reads(c),
+    }
+}
+
+fn is_refused(answer: Answer) -> bool
+    ensures { λ r. ⌜ r ≡ isRefusal (answerReply answer) ⌝ }
+{
+    match answer {
+        Answer::Done => false,
+        Answer::Nothing => false,
+        Answer::Tag(_) => false,
+        Answer::Flag(_) => false,
+        Answer::Number(_) => false,
+        Answer::Refused(_) => true,
+    }
+}
+
+// The manager as it was handed in where a call only asks or is refused, else the one of the rows after it.
+fn left_by(m: Manager, u: Room, call: Call, p: Performed) -> Manager
+    ensures { λ r. ⌜ ((ks keys : List ℕ) → arraysOf r ≡ cond (asks (callOf call ks) || isRefusal (replyOf p keys)) (arraysOf m) (arraysIn u)) ⌝ }
+{
+    let answer = p.answer;
+    if only_asks(call) {
+        return m;
+    }
+    if p.found {
+        return pack(u);
+    }
+    if is_refused(answer) {
+        return m;
+    }
+    pack(u)
+}
+
+// What a call answers, a ready event's action keys in an array, and the manager after it.
+struct Called {
+    performed: Performed,
+    actions: [u16; ROOM_FOR_EVENTS],
+    manager: Manager,
+}
+
+// To rows, 11, the call there, and back.
+fn step_on(m: Manager, image: &[u8], call: Call, keys: &[u16]) -> Called
+    ensures { λ r. ⌜ calledOf r ≡ stepOn (was image) (arraysOf m) (callOf call (was keys)) ⌝ }
+    ensures { λ r. ⌜ (r .performed .gathered .actions ≤ roomForEvents) × TellsOrEleven call (r .performed) ⌝ }
+{
+    let e = enter(image, m);
+    let u = e.rows;
+    let given = u.ledger;
+    let mut actions = [0u16; ROOM_FOR_EVENTS];
+    if !e.sound {
+        let performed = calls::told(Answer::Refused(Refusal::StateRule), given);
+        return Called {
+            performed,
+            actions,
+            manager: m,
+        };
+    }
+    let mut scopes = u.scopes;
+    let mut events = u.events;
+    let mut values = u.values;
+    let mut buckets = u.buckets;
+    let counts = given.counts;
+    let mut heads = queue::heads(&events, counts.waiting);
+    let performed = calls::perform(
+        image,
+        &mut scopes,
+        &mut events,
+        &mut values,
+        &mut buckets,
+        &mut heads,
+        &mut actions,
+        given,
+        call,
+        keys,
+    );
+    let ledger = performed.ledger;
+    let rows = Room {
+        scopes,
+        events,
+        values,
+        buckets,
+        ledger,
+    };
+    let manager = left_by(m, rows, call, performed);
+    Called {
+        performed,
+        actions,
+        manager,
+    }
+}
+
+// A call that is no pop.
+fn answer_to(m: Manager, image: &[u8], call: Call, keys: &[u16]) -> Answered
+    requires { ⌜ isPop call ≡ false ⌝ }
+    ensures { λ r. ⌜ answeredOf r ≡ stepOn (was image) (arraysOf m) (callOf call (was keys)) ⌝ }
+{
+    let c = step_on(m, image, call, keys);
+    let p = c.performed;
+    let answer = p.answer;
+    let manager = c.manager;
+    Answered { answer, manager }
+}
+
+// One with no reaction keys.
+fn ask_of(m: Manager, image: &[u8], call: Call) -> Answered
+    requires { ⌜ isPop call ≡ false ⌝ }
+    ensures { λ r. ⌜ answeredOf r ≡ stepOn (was image) (arraysOf m) (callOf call []) ⌝ }
+{
+    answer_to(m, image, call, &[])
+}
+
+// A number as a yes or no.
+fn some_work(answer: Answer) -> Answer
+    ensures { λ r. ⌜ answerReply r ≡ workReply (answerReply answer) ⌝ }
+{
+    match answer {
+        Answer::Done => Answer::Done,
+        Answer::Nothing => Answer::Nothing,
+        Answer::Tag(t) => Answer::Tag(t),
+        Answer::Flag(b) => Answer::Flag(b),
+        Answer::Number(n) => Answer::Flag(0 < n),
+        Answer::Refused(n) => Answer::Refused(n),
+    }
+}
+
+// What a pop answers: the ready event, "nothing", or 11.
+fn popped_of(c: Called) -> Popped
+    requires { ⌜ (c .performed .gathered .actions ≤ roomForEvents) × TellsOrEleven K.Pop (c .performed) ⌝ }
+    ensures { λ r. ⌜ poppedOf r ≡ popped (calledOf c) ⌝ }
+{
+    let manager = c.manager;
+    let p = c.performed;
+    let keys = c.actions;
+    let answer = p.answer;
     if p.found {
         let ready = ready_of(p, keys);
         return Popped {
@@ -548,6 +569,13 @@ fn finish_pop(
         };
     }
     let none = no_ready();
+    if is_refused(answer) {
+        return Popped {
+            outcome: Pop::Refused(Refusal::StateRule),
+            ready: none,
+            manager,
+        };
+    }
     Popped {
         outcome: Pop::Nothing,
         ready: none,
@@ -583,81 +611,28 @@ impl Manager {
     pub fn push_event(self, image: &[u8], tag: GlobalTag, terminal: bool, keys: &[u16]) -> Answered
         ensures { λ r. ⌜ answeredOf r ≡ stepOn (was image) (arraysOf self) (plain (ofGlobal tag) terminal (was keys)) ⌝ }
     {
-        let e = enter(image, self);
-        let u = e.rows;
-        let mut events = u.events;
-        let counts = u.ledger.counts;
-        if !e.sound {
-            return Answered {
-                answer: Answer::Refused(Refusal::StateRule),
-                manager: self,
-            };
-        }
-        let p = pushes::push_event(image, &mut events, counts, tag, terminal, keys);
-        let rows = with_events(u, events, p.counts);
-        let o = p.outcome;
-        finish(self, rows, o)
+        answer_to(self, image, Call::Push(Push::Plain(tag, terminal)), keys)
     }
 
     // An event from the network, to the root at its tag.
     pub fn push_network_event(self, image: &[u8], tag: GlobalTag, keys: &[u16]) -> Answered
         ensures { λ r. ⌜ answeredOf r ≡ stepOn (was image) (arraysOf self) (network (ofGlobal tag) (was keys)) ⌝ }
     {
-        let e = enter(image, self);
-        let u = e.rows;
-        let mut events = u.events;
-        let counts = u.ledger.counts;
-        if !e.sound {
-            return Answered {
-                answer: Answer::Refused(Refusal::StateRule),
-                manager: self,
-            };
-        }
-        let p = pushes::push_network_event(image, &mut events, counts, tag, keys);
-        let rows = with_events(u, events, p.counts);
-        let o = p.outcome;
-        finish(self, rows, o)
+        answer_to(self, image, Call::Push(Push::Network(tag)), keys)
     }
 
     // A control event, to the root at its tag.
     pub fn push_control_event(self, image: &[u8], tag: GlobalTag) -> Answered
         ensures { λ r. ⌜ answeredOf r ≡ stepOn (was image) (arraysOf self) (control (ofGlobal tag)) ⌝ }
     {
-        let e = enter(image, self);
-        let u = e.rows;
-        let mut events = u.events;
-        let counts = u.ledger.counts;
-        if !e.sound {
-            return Answered {
-                answer: Answer::Refused(Refusal::StateRule),
-                manager: self,
-            };
-        }
-        let p = pushes::push_control_event(&mut events, counts, tag);
-        let rows = with_events(u, events, p.counts);
-        let o = p.outcome;
-        finish(self, rows, o)
+        ask_of(self, image, Call::Push(Push::Control(tag)))
     }
 
     // An action's event, to the root or to its scope at the local tag.
     pub fn push_action_event(self, image: &[u8], push: ActionPush, keys: &[u16]) -> Answered
         ensures { λ r. ⌜ answeredOf r ≡ stepOn (was image) (arraysOf self) (action (push .action) (ofGlobal (push .tag)) (push .terminal) (was keys)) ⌝ }
     {
-        let e = enter(image, self);
-        let u = e.rows;
-        let scopes = u.scopes;
-        let mut events = u.events;
-        let counts = u.ledger.counts;
-        if !e.sound {
-            return Answered {
-                answer: Answer::Refused(Refusal::StateRule),
-                manager: self,
-            };
-        }
-        let p = pushes::push_action_event(image, &scopes, &mut events, counts, push, keys);
-        let rows = with_events(u, events, p.counts);
-        let o = p.outcome;
-        finish(self, rows, o)
+        answer_to(self, image, Call::Push(Push::Action(push)), keys)
     }
 
     // ---- transitions
@@ -666,37 +641,7 @@ impl Manager {
     pub fn apply_transition(self, image: &[u8], request: Request) -> Answered
         ensures { λ r. ⌜ answeredOf r ≡ stepOn (was image) (arraysOf self) (transit (request .reactor) (request .mode) (request .reset) (ofGlobal (request .c))) ⌝ }
     {
-        let e = enter(image, self);
-        let u = e.rows;
-        let mut scopes = u.scopes;
-        let mut events = u.events;
-        let mut values = u.values;
-        let mut buckets = u.buckets;
-        if !e.sound {
-            return Answered {
-                answer: Answer::Refused(Refusal::StateRule),
-                manager: self,
-            };
-        }
-        let t = transition::apply_transition(
-            image,
-            &mut scopes,
-            &mut events,
-            &mut values,
-            &mut buckets,
-            u.ledger,
-            request,
-        );
-        let ledger = t.ledger;
-        let rows = Room {
-            scopes,
-            events,
-            values,
-            buckets,
-            ledger,
-        };
-        let o = t.outcome;
-        finish(self, rows, o)
+        ask_of(self, image, Call::Transition(request))
     }
 
     // ---- questions
@@ -705,132 +650,46 @@ impl Manager {
     pub fn peek_tag(self, image: &[u8]) -> Answered
         ensures { λ r. ⌜ answeredOf r ≡ stepOn (was image) (arraysOf self) peekTag ⌝ }
     {
-        let e = enter(image, self);
-        let u = e.rows;
-        let scopes = u.scopes;
-        let events = u.events;
-        let counts = u.ledger.counts;
-        if !e.sound {
-            return Answered {
-                answer: Answer::Refused(Refusal::StateRule),
-                manager: self,
-            };
-        }
-        let answer = peeked(pops::peek_tag(image, &scopes, &events, counts));
-        Answered {
-            answer,
-            manager: self,
-        }
+        ask_of(self, image, Call::Ask(Question::PeekTag))
     }
 
     // Only control events of the root are at the peek tag.
     pub fn peek_is_control_only(self, image: &[u8]) -> Answered
         ensures { λ r. ⌜ answeredOf r ≡ stepOn (was image) (arraysOf self) onlyControl ⌝ }
     {
-        let e = enter(image, self);
-        let u = e.rows;
-        let scopes = u.scopes;
-        let events = u.events;
-        let counts = u.ledger.counts;
-        if !e.sound {
-            return Answered {
-                answer: Answer::Refused(Refusal::StateRule),
-                manager: self,
-            };
-        }
-        let only = pops::peek_is_control_only(image, &scopes, &events, counts);
-        Answered {
-            answer: Answer::Flag(only),
-            manager: self,
-        }
+        ask_of(self, image, Call::Ask(Question::ControlOnly))
     }
 
     // How many ordinary events wait, those of suspended scopes too.
     pub fn nonterminal_work(self, image: &[u8]) -> Answered
         ensures { λ r. ⌜ answeredOf r ≡ stepOn (was image) (arraysOf self) ordinaryWork ⌝ }
     {
-        let e = enter(image, self);
-        if !e.sound {
-            return Answered {
-                answer: Answer::Refused(Refusal::StateRule),
-                manager: self,
-            };
-        }
-        Answered {
-            answer: Answer::Number(self.work as u64),
-            manager: self,
-        }
+        ask_of(self, image, Call::Ask(Question::OrdinaryWork))
     }
 
     // Some ordinary event waits.
     pub fn has_nonterminal_work(self, image: &[u8]) -> Answered
         ensures { λ r. ⌜ answeredOf r ≡ someWork (stepOn (was image) (arraysOf self) ordinaryWork) ⌝ }
     {
-        let e = enter(image, self);
-        if !e.sound {
-            return Answered {
-                answer: Answer::Refused(Refusal::StateRule),
-                manager: self,
-            };
-        }
-        Answered {
-            answer: Answer::Flag(0 < self.work),
-            manager: self,
-        }
+        let r = ask_of(self, image, Call::Ask(Question::OrdinaryWork));
+        let said = r.answer;
+        let answer = some_work(said);
+        let manager = r.manager;
+        Answered { answer, manager }
     }
 
     // The scope is active now.
     pub fn scope_active(self, image: &[u8], scope: u16) -> Answered
         ensures { λ r. ⌜ answeredOf r ≡ stepOn (was image) (arraysOf self) (activeNow scope) ⌝ }
     {
-        let e = enter(image, self);
-        let u = e.rows;
-        let words = u.scopes;
-        if !e.sound {
-            return Answered {
-                answer: Answer::Refused(Refusal::StateRule),
-                manager: self,
-            };
-        }
-        let n = rows::count(image, rows::SCOPE);
-        if n <= scope {
-            return Answered {
-                answer: Answer::Refused(Refusal::Key),
-                manager: self,
-            };
-        }
-        let s = scopes::scope_at(&words, scope as usize);
-        Answered {
-            answer: Answer::Flag(s.active),
-            manager: self,
-        }
+        ask_of(self, image, Call::Ask(Question::Active(scope)))
     }
 
     // The scope was active at some time.
     pub fn scope_ever_active(self, image: &[u8], scope: u16) -> Answered
         ensures { λ r. ⌜ answeredOf r ≡ stepOn (was image) (arraysOf self) (everActive scope) ⌝ }
     {
-        let e = enter(image, self);
-        let u = e.rows;
-        let words = u.scopes;
-        if !e.sound {
-            return Answered {
-                answer: Answer::Refused(Refusal::StateRule),
-                manager: self,
-            };
-        }
-        let n = rows::count(image, rows::SCOPE);
-        if n <= scope {
-            return Answered {
-                answer: Answer::Refused(Refusal::Key),
-                manager: self,
-            };
-        }
-        let s = scopes::scope_at(&words, scope as usize);
-        Answered {
-            answer: Answer::Flag(s.ever),
-            manager: self,
-        }
+        ask_of(self, image, Call::Ask(Question::EverActive(scope)))
     }
 
     // ---- values
@@ -839,7 +698,11 @@ impl Manager {
     pub fn push_value(self, image: &[u8], action: u16, tag: GlobalTag, value: u64) -> Answered
         ensures { λ r. ⌜ answeredOf r ≡ stepOn (was image) (arraysOf self) (pushValue action (ofGlobal tag) value) ⌝ }
     {
-        value_call(self, image, Call::Push(action, tag, value))
+        ask_of(
+            self,
+            image,
+            Call::Value(value_store::Call::Push(action, tag, value)),
+        )
     }
 
     // The larger of the bucket's next microstep and the least, or the least if no bucket; "nothing" at the limit.
@@ -852,35 +715,51 @@ impl Manager {
     ) -> Answered
         ensures { λ r. ⌜ answeredOf r ≡ stepOn (was image) (arraysOf self) (nextStep action offset least) ⌝ }
     {
-        value_call(self, image, Call::NextMicrostep(action, offset, least))
+        ask_of(
+            self,
+            image,
+            Call::Value(value_store::Call::NextMicrostep(action, offset, least)),
+        )
     }
 
     // "Nothing" for a value not held; the bucket stays.
     pub fn take_value(self, image: &[u8], action: u16, tag: GlobalTag) -> Answered
         ensures { λ r. ⌜ answeredOf r ≡ stepOn (was image) (arraysOf self) (takeValue action (ofGlobal tag)) ⌝ }
     {
-        value_call(self, image, Call::Take(action, tag))
+        ask_of(
+            self,
+            image,
+            Call::Value(value_store::Call::Take(action, tag)),
+        )
     }
 
     // The action's values before the tag, and the buckets that have none left.
     pub fn clear_values_older_than(self, image: &[u8], action: u16, tag: GlobalTag) -> Answered
         ensures { λ r. ⌜ answeredOf r ≡ stepOn (was image) (arraysOf self) (clearBefore action (ofGlobal tag)) ⌝ }
     {
-        value_call(self, image, Call::ClearOlderThan(action, tag))
+        ask_of(
+            self,
+            image,
+            Call::Value(value_store::Call::ClearOlderThan(action, tag)),
+        )
     }
 
     // A take and then a push; nothing for equal tags or a value not held.
     pub fn move_value(self, image: &[u8], action: u16, old: GlobalTag, new: GlobalTag) -> Answered
         ensures { λ r. ⌜ answeredOf r ≡ stepOn (was image) (arraysOf self) (moveValue action (ofGlobal old) (ofGlobal new)) ⌝ }
     {
-        value_call(self, image, Call::MoveValue(action, old, new))
+        ask_of(
+            self,
+            image,
+            Call::Value(value_store::Call::MoveValue(action, old, new)),
+        )
     }
 
     // All that the action has.
     pub fn clear_values(self, image: &[u8], action: u16) -> Answered
         ensures { λ r. ⌜ answeredOf r ≡ stepOn (was image) (arraysOf self) (clearAction action) ⌝ }
     {
-        value_call(self, image, Call::Clear(action))
+        ask_of(self, image, Call::Value(value_store::Call::Clear(action)))
     }
 
     // ---- pop
@@ -889,22 +768,7 @@ impl Manager {
     pub fn pop_next_event(self, image: &[u8]) -> Popped
         ensures { λ r. ⌜ poppedOf r ≡ popped (stepOn (was image) (arraysOf self) pop) ⌝ }
     {
-        let e = enter(image, self);
-        let u = e.rows;
-        let scopes = u.scopes;
-        let mut events = u.events;
-        let counts = u.ledger.counts;
-        if !e.sound {
-            let none = no_ready();
-            return Popped {
-                outcome: Pop::Refused(Refusal::StateRule),
-                ready: none,
-                manager: self,
-            };
-        }
-        let mut keys = [0u16; MOST_WAITING];
-        let mut heads = queue::heads(&events, counts.waiting);
-        let p = pops::pop_next_event(image, &scopes, &mut events, counts, &mut keys, &mut heads);
-        finish_pop(u, events, keys, p)
+        let c = step_on(self, image, Call::Pop, &[]);
+        popped_of(c)
     }
 }

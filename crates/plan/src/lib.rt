@@ -1,14 +1,13 @@
 // What a transition goes by, worked out before anything changes: document 01, "the target scope's subtree, itself included", "Set the reactor's mode".
 // What the steps must know of the table and the modes comes in here, in `Plan` and `Planned`; they take it by value and work nothing out twice.
 ghost use mathlib.Core.Path.{_≡_};
-ghost use mathlib.Core.Bool.{true, cond, _&&_};
+ghost use mathlib.Core.Bool.{true, _&&_};
 ghost use mathlib.Core.List.{map};
 ghost use Prim.Native.Nat.{_≤_, _<_};
 ghost use lib.ListN.{length};
 ghost use Rattle.lists.specs.Lists.{from};
 ghost use Rattle.lists.specs.Lent.{was};
 ghost use Rattle.rows.specs.Lineage.{inSubtree};
-ghost use Rattle.key_set.specs.Sets.{insertKey};
 ghost use Rattle.schedule.specs.Schedule.{isActive};
 ghost use Rattle.table.specs.Check.{isTable};
 ghost use Rattle.lens.specs.Padded.{padded};
@@ -39,16 +38,6 @@ pub struct Request {
 
 // ---- sets of scopes
 
-// The key goes into the set where it passes.
-pub fn mark(set: KeySet, test: bool, key: u16) -> KeySet
-    ensures { λ r. ⌜ r .words ≡ cond test (insertKey (set .words) key) (set .words) ⌝ }
-{
-    if test {
-        return set.insert(key as usize);
-    }
-    set
-}
-
 // The target scope's subtree, itself included.
 fn subtree(image: &[u8], target: u16) -> KeySet
     requires { ⌜ isTable (now image) ≡ true ⌝ }
@@ -59,7 +48,7 @@ fn subtree(image: &[u8], target: u16) -> KeySet
     let mut i: u16 = 0;
     while i < n {
         let test = rows::in_subtree(image, target, i);
-        set = mark(set, test, i);
+        set = set.insert_if(test, i as usize);
         i += 1;
     }
     set
@@ -86,7 +75,7 @@ fn active_scopes(image: &[u8], modes: &[u16]) -> KeySet
     let mut i: u16 = 0;
     while i < n {
         let test = schedule::is_active(image, modes, i);
-        set = mark(set, test, i);
+        set = set.insert_if(test, i as usize);
         i += 1;
     }
     set

@@ -19,13 +19,13 @@ use Rattle.tags.specs.Tags.{Tag, zeroTag, sameTag, earlier}
 use Rattle.tags.specs.Views.{ofGlobal, ofQueue}
 use Rattle.tags.specs.declared.GlobalTag.{GlobalTag}
 use Rattle.machine.specs.Table.{scopes}
-use Rattle.machine.specs.State.{Event, State, root, mostWaiting, ordinary, atHead, withQueue}
+use Rattle.machine.specs.State.{Event, State, root, ordinary, atHead, withQueue}
 use Rattle.machine.specs.Heads.{Head, Least, noTag, least, empty, head, leastOf, rootOf, scopeHeadOf, rootHead, headAt, sooner, scopeHead, peek, isAt, controlled, controlAt, controlOnly}
 use Rattle.machine.specs.Heads.{Taking, untaken, taken, takeAt, takeScopes, taking, readyOf}
 use Rattle.machine.specs.Machine as M
 use Rattle.machine.specs.Machine.{Reply, nothing, ready, tag, answer, popAt, peekAt, perform}
 use Rattle.slots.specs.Slots as slot
-use Rattle.slots.specs.Slots.{eventsOf}
+use Rattle.slots.specs.Slots.{eventsOf, roomForEvents}
 use Rattle.scopes.specs.Scopes as scope
 use Rattle.scopes.specs.Scopes.{Scope, mostScopes, scopesOf}
 use Rattle.queue.specs.Queue as queue
@@ -125,7 +125,7 @@ module _ (img : Image) (ws : List ℕ) where
 
 -- ---- a state in the rows
 
-pub queue-is : (s : State) (ev : List ℕ) (c : Counts) → c .waiting ≤ mostWaiting → Queued (s .waiting) (s .work) ev c → take (c .waiting) (eventsOf ev) ≡ s .waiting
+pub queue-is : (s : State) (ev : List ℕ) (c : Counts) → c .waiting ≤ roomForEvents → Queued (s .waiting) (s .work) ev c → take (c .waiting) (eventsOf ev) ≡ s .waiting
 queue-is s ev c f q = queued-is (s .waiting) (s .work) ev c q (rw (← q .waiting) f)
 
 -- the heads that the code finds are the machine's
@@ -137,26 +137,30 @@ pub seen-peek : {img : Image} {s : State} {a b : code.Head} {r : Reply} → Seen
 unfolding peek
 seen-peek w e = e ∙ rw (w .root, w .local)
 
-module _ (img : Image) (s : State) (ev ws : List ℕ) (c : Counts) (few : c .waiting ≤ mostWaiting) (q : Queued (s .waiting) (s .work) ev c) (h : Shows s ws) where
+module _ (img : Image) (s : State) (ws : List ℕ) (h : Shows s ws) where
   local-is : (es : List Event) → scopeHead img (scopesOf ws) es ≡ scopeHead img (s .scopes) es
   unfolding scopeHead headAt
   local-is es = λ k. foldl sooner empty (map (λ i. scopeHeadOf (h i k) i (leastOf i es)) (from 0 (scopes img)))
 
   pub seen :
-      (a b : code.Head) {hs : List ℕ} {n : ℕ} → n ≡ scopes img → queue.Held hs (headsOf (take (c .waiting) (eventsOf ev))) →
+      (a b : code.Head) {hs : List ℕ} {n : ℕ} → n ≡ scopes img → queue.Held hs (headsOf (s .waiting)) →
       headOf a ≡ rootOf (getD (leastsOf hs) mostScopes noTag) → headOf b ≡ leastHead (scopesOf ws) (leastsOf hs) n → Seen img s a b
-  seen a b e k p r =
-      let w = rw (queue-is s ev c few q) at k in
-      record { root = root-head (s .waiting) w p; local = scope-head img ws (s .waiting) e w r ∙ local-is (s .waiting) }
+  seen a b e w p r = record { root = root-head (s .waiting) w p; local = scope-head img ws (s .waiting) e w r ∙ local-is (s .waiting) }
 
   scopes-are : (m : ℕ) (t : Tag) (k : Taking) → takeScopes m img (scopesOf ws) t k ≡ takeScopes m img (s .scopes) t k
   unfolding takeScopes
   scopes-are zero t k = refl
   scopes-are (suc m) t k = rw (local-is (k .waiting), scopes-are m t (takeAt t k (scopeHead img (s .scopes) (k .waiting))))
 
+module _ (img : Image) (s : State) (ev ws : List ℕ) (c : Counts) (few : c .waiting ≤ roomForEvents) (q : Queued (s .waiting) (s .work) ev c) (h : Shows s ws) where
+  pub seen-in :
+      (a b : code.Head) {hs : List ℕ} {n : ℕ} → n ≡ scopes img → queue.Held hs (headsOf (take (c .waiting) (eventsOf ev))) →
+      headOf a ≡ rootOf (getD (leastsOf hs) mostScopes noTag) → headOf b ≡ leastHead (scopesOf ws) (leastsOf hs) n → Seen img s a b
+  seen-in a b e k p r = seen img s ws h a b e (rw (queue-is s ev c few q) at k) p r
+
   taking-is : (t : Tag) → takeScopes (c .waiting) img (scopesOf ws) t (takeAt t (lent ev c) (rootHead (s .waiting))) ≡ taking img (s .scopes) t (untaken (s .waiting) (s .work))
   unfolding taking
-  taking-is t = rw (queue-is s ev c few q, q .work, q .waiting, scopes-are)
+  taking-is t = rw (queue-is s ev c few q, q .work, q .waiting, scopes-are img s ws h)
 
 -- ---- a head by what its peek answers
 
@@ -246,7 +250,7 @@ module _ (ws : List ℕ) (given : T.Taking) (w : Waits ws (given .counts)) where
   abbrev old : List Event
   old = take (given .counts .waiting) (eventsOf ws)
 
-  pub takes-none : (keys : List ℕ) → given .gathered .actions + given .counts .waiting ≤ mostWaiting → Takes (lent ws (given .counts)) given given keys ws keys
+  pub takes-none : (keys : List ℕ) → given .gathered .actions + given .counts .waiting ≤ roomForEvents → Takes (lent ws (given .counts)) given given keys ws keys
   unfolding foldl
   takes-none keys r = record { queued = waits-queued ws (given .counts) w; waits = w; gathered = refl; grown = grown-none (given .gathered .actions) keys; room = r }
 
@@ -258,15 +262,15 @@ module _ (ws : List ℕ) (given : T.Taking) (w : Waits ws (given .counts)) where
         (g : Gathered) (keys next out : List ℕ) → slot.Held out (lay slot.blank (eventsOf ws) (lose (atHead q x) old) (given .counts .waiting)) →
         gatheringOf g next ≡ foldl addedTo (gatheringOf (given .gathered) keys) (keep (atHead q x) old) →
         g .actions ≤ given .gathered .actions + length (keep (atHead q x) old) → Grown (given .gathered .actions) (g .actions) keys next →
-        given .gathered .actions + given .counts .waiting ≤ mostWaiting →
+        given .gathered .actions + given .counts .waiting ≤ roomForEvents →
         Takes (taken q x (lent ws (given .counts))) given (record { gathered = g; counts = record { waiting = m; work = given .counts .work - o } }) keys out next
     unfolding taken
     takes-some g keys next out k s a b r =
         let c = given .counts in
         let was = waits-queued ws c w in
-        let few : length old ≤ mostWaiting = rw (← was .waiting) (w .few) in
+        let few : length old ≤ roomForEvents = rw (← was .waiting) (w .few) in
         let z = both-lengths (atHead q x) old in
-        let left : length (lose (atHead q x) old) ≤ mostWaiting = omega arith in
+        let left : length (lose (atHead q x) old) ≤ roomForEvents = omega arith in
         let new : Queued (lose (atHead q x) old) (c .work - count ordinary (keep (atHead q x) old)) out (record { waiting = m; work = c .work - o }) =
         record { held = queued-laid old (c .work) ws c (lose (atHead q x) old) out was few k; waiting = p; work = rw d } in
         record {
@@ -368,10 +372,10 @@ module _ (img : Image) (ss : List Scope) (t : Tag) where
     pub local : h ≡ scopeHead img ss (take (g .counts .waiting) (eventsOf ws))
     pub waits : Waits ws (g .counts)
     pub long : length keys ≡ length was
-    pub room : g .gathered .actions + g .counts .waiting ≤ mostWaiting
+    pub room : g .gathered .actions + g .counts .waiting ≤ roomForEvents
 
   pub going-start :
-      (turns : ℕ) (ws keys : List ℕ) (given : T.Taking) (h : Head) → Waits ws (given .counts) → given .gathered .actions + given .counts .waiting ≤ mostWaiting →
+      (turns : ℕ) (ws keys : List ℕ) (given : T.Taking) (h : Head) → Waits ws (given .counts) → given .gathered .actions + given .counts .waiting ≤ roomForEvents →
       h ≡ scopeHead img ss (take (given .counts .waiting) (eventsOf ws)) → Going (takeScopes turns img ss t (lent ws (given .counts))) given keys turns ws keys given h
   going-start turns ws keys given h w r e = record { rest = λ _ out next v. v; local = e; waits = w; long = refl; room = r }
 
@@ -411,7 +415,7 @@ unfolding foldl readyOf
 ready-is t es = ap (readyAt t) (rw (← ready-nothing t) (gathered t [] es))
 
 module _ (ev : List ℕ) (c : Counts) (g : Gathered) (o : g ≡ noneYet) (w : Waits ev c) where
-  pub start-room : g .actions + c .waiting ≤ mostWaiting
+  pub start-room : g .actions + c .waiting ≤ roomForEvents
   start-room = rw o (omega (arith, w .few))
 
   -- by what the peek answers

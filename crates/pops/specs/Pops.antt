@@ -7,10 +7,9 @@ use lib.ListN.{take}
 use Rattle.lists.specs.Lists.{foldl}
 use Rattle.tags.specs.Tags.{zeroTag}
 use Rattle.tags.specs.Views.{ofGlobal}
-use Rattle.machine.specs.State.{mostWaiting}
 use Rattle.machine.specs.Heads.{Taking, Ready, untaken}
 use Rattle.machine.specs.Machine.{Reply, Outcome, nothing, ready, tag}
-use Rattle.slots.specs.Slots.{eventsOf}
+use Rattle.slots.specs.Slots.{eventsOf, roomForEvents}
 use Rattle.ready.specs.Gathering.{noneYet, addedTo, readyAt, gatheringOf, Grown}
 use Rattle.lens.specs.declared.Counts.{Counts}
 use Rattle.lens.specs.Lens.{Queued, Waits}
@@ -37,7 +36,7 @@ pub record Takes (k : Taking) (given r : code.Taking) (was ws keys : List ℕ) :
   pub waits : Waits ws (r .counts)
   pub gathered : gatheringOf (r .gathered) keys ≡ foldl addedTo (gatheringOf (given .gathered) was) (k .events)
   pub grown : Grown (given .gathered .actions) (r .gathered .actions) was keys
-  pub room : r .gathered .actions + r .counts .waiting ≤ mostWaiting
+  pub room : r .gathered .actions + r .counts .waiting ≤ roomForEvents
 
 -- ---- a pop
 
@@ -54,5 +53,5 @@ pub record Pops (o : Outcome) (r : Popped) (was ws keys : List ℕ) : Type 0 whe
   pub queued : Queued (o .state .waiting) (o .state .work) ws (r .counts)
   pub waits : Waits ws (r .counts)
   pub grown : Grown 0 (r .gathered .actions) was keys
-  pub room : r .gathered .actions + r .counts .waiting ≤ mostWaiting
+  pub room : r .gathered .actions + r .counts .waiting ≤ roomForEvents
   pub idle : r .found ≡ false → (ofGlobal (r .tag) ≡ zeroTag) × (r .gathered ≡ noneYet)

@@ -1,12 +1,13 @@
 // Pop and peek over the events and scopes in lent rows: document 01, "Pop at peek tag t", "Peek", "Control only"; the contracts cite the machine.
-// Callers lend every queue's least tag to `pop_next_event`, which keeps it.
+// Callers lend every queue's least tag; `pop_next_event` keeps it.
 ghost use mathlib.Core.Path.{_≡_};
 ghost use Prim.Native.Nat.{_+_, _≤_};
 ghost use lib.ListN.{length, take};
 ghost use Rattle.lists.specs.Lent.{was, is};
 ghost use Rattle.lists.specs.Lists.{every};
 ghost use Rattle.tags.specs.Views.{ofGlobal, ofQueue};
-ghost use Rattle.machine.specs.State.{State, mostWaiting};
+ghost use Rattle.machine.specs.State.{State};
+ghost use Rattle.slots.specs.Slots.{roomForEvents};
 ghost use Rattle.machine.specs.Heads.{sooner, isAt, scopeHead, controlled, taken, takeAt, takeScopes};
 ghost use Rattle.machine.specs.Machine.{peekAt, perform, pop, peekTag, onlyControl, flag};
 ghost use Rattle.slots.specs.Slots.{eventsOf, eventOf};
@@ -98,13 +99,13 @@ fn peek_of(root: Head, local: Head) -> Peeked
 // All events at a head.
 fn take_at(
     events: &mut [u64; slots::ROOM],
-    keys: &mut [u16; slots::MOST_WAITING],
+    keys: &mut [u16; slots::ROOM_FOR_EVENTS],
     heads: &mut [u64; queue::HEADS],
     given: Taking,
     h: HeadAt,
 ) -> Taking
     requires { ⌜ Waits (now events) (given .counts) ⌝ }
-    requires { ⌜ (length (now keys) ≡ mostWaiting) × (given .gathered .actions + given .counts .waiting ≤ mostWaiting) ⌝ }
+    requires { ⌜ (length (now keys) ≡ roomForEvents) × (given .gathered .actions + given .counts .waiting ≤ roomForEvents) ⌝ }
     requires { ⌜ Held (now heads) (headsOf (take (given .counts .waiting) (eventsOf (now events)))) ⌝ }
     ensures { λ r. ⌜ Takes (taken (h .queue) (ofQueue (h .stamp)) (lent (was events) (given .counts))) given r (was keys) (is events) (is keys) ⌝ }
     ensures { λ r. ⌜ Held (is heads) (headsOf (take (r .counts .waiting) (eventsOf (is events)))) ⌝ }
@@ -136,14 +137,14 @@ fn take_at(
 // All events at a head, if the head is t.
 fn take_head(
     events: &mut [u64; slots::ROOM],
-    keys: &mut [u16; slots::MOST_WAITING],
+    keys: &mut [u16; slots::ROOM_FOR_EVENTS],
     heads: &mut [u64; queue::HEADS],
     given: Taking,
     h: Head,
     t: GlobalTag,
 ) -> Taking
     requires { ⌜ Waits (now events) (given .counts) ⌝ }
-    requires { ⌜ (length (now keys) ≡ mostWaiting) × (given .gathered .actions + given .counts .waiting ≤ mostWaiting) ⌝ }
+    requires { ⌜ (length (now keys) ≡ roomForEvents) × (given .gathered .actions + given .counts .waiting ≤ roomForEvents) ⌝ }
     requires { ⌜ Held (now heads) (headsOf (take (given .counts .waiting) (eventsOf (now events)))) ⌝ }
     ensures { λ r. ⌜ Takes (takeAt (ofGlobal t) (lent (was events) (given .counts)) (headOf h)) given r (was keys) (is events) (is keys) ⌝ }
     ensures { λ r. ⌜ Held (is heads) (headsOf (take (r .counts .waiting) (eventsOf (is events)))) ⌝ }
@@ -166,13 +167,13 @@ fn take_scopes(
     image: &[u8],
     scopes: &[u64; scopes::ROOM],
     events: &mut [u64; slots::ROOM],
-    keys: &mut [u16; slots::MOST_WAITING],
+    keys: &mut [u16; slots::ROOM_FOR_EVENTS],
     heads: &mut [u64; queue::HEADS],
     given: Taking,
     turn: Turn,
 ) -> Taking
     requires { ⌜ Waits (now events) (given .counts) ⌝ }
-    requires { ⌜ (length (now keys) ≡ mostWaiting) × (given .gathered .actions + given .counts .waiting ≤ mostWaiting) ⌝ }
+    requires { ⌜ (length (now keys) ≡ roomForEvents) × (given .gathered .actions + given .counts .waiting ≤ roomForEvents) ⌝ }
     requires { ⌜ Held (now heads) (headsOf (take (given .counts .waiting) (eventsOf (now events)))) ⌝ }
     requires { ⌜ headOf (turn .local) ≡ scopeHead (now image) (scopesOf (now scopes)) (take (given .counts .waiting) (eventsOf (now events))) ⌝ }
     ensures { λ r. ⌜ Takes (takeScopes (turn .turns) (was image) (scopesOf (was scopes)) (ofGlobal (turn .tag)) (lent (was events) (given .counts))) given r (was keys) (is events) (is keys) ⌝ }
@@ -201,11 +202,11 @@ pub fn pop_next_event(
     scopes: &[u64; scopes::ROOM],
     events: &mut [u64; slots::ROOM],
     counts: Counts,
-    keys: &mut [u16; slots::MOST_WAITING],
+    keys: &mut [u16; slots::ROOM_FOR_EVENTS],
     heads: &mut [u64; queue::HEADS],
 ) -> Popped
     requires { ⌜ Waits (now events) counts ⌝ }
-    requires { ⌜ length (now keys) ≡ mostWaiting ⌝ }
+    requires { ⌜ length (now keys) ≡ roomForEvents ⌝ }
     requires { ⌜ Held (now heads) (headsOf (take (counts .waiting) (eventsOf (now events)))) ⌝ }
     ensures { λ r. ⌜ ((s : State) → Queued (s .waiting) (s .work) (was events) counts → Shows s (was scopes) → Pops (perform (was image) s pop) r (was keys) (is events) (is keys)) ⌝ }
     ensures { λ r. ⌜ Held (is heads) (headsOf (take (r .counts .waiting) (eventsOf (is events)))) ⌝ }
@@ -248,19 +249,12 @@ pub fn pop_next_event(
 
 // ---- peeking
 
-pub fn peek_tag(
-    image: &[u8],
-    scopes: &[u64; scopes::ROOM],
-    events: &[u64; slots::ROOM],
-    counts: Counts,
-) -> Peeked
-    requires { ⌜ counts .waiting ≤ mostWaiting ⌝ }
-    ensures { λ r. ⌜ ((s : State) → Queued (s .waiting) (s .work) (was events) counts → Shows s (was scopes) → replyOf r ≡ perform (was image) s peekTag .reply) ⌝ }
+pub fn peek_tag(image: &[u8], scopes: &[u64; scopes::ROOM], heads: &[u64; queue::HEADS]) -> Peeked
+    ensures { λ r. ⌜ ((s : State) → Held (was heads) (headsOf (s .waiting)) → Shows s (was scopes) → replyOf r ≡ perform (was image) s peekTag .reply) ⌝ }
 {
     let n = rows::count(image, rows::SCOPE);
-    let heads = queue::heads(events, counts.waiting);
-    let root = heads::root_head(&heads);
-    let local = heads::scope_head(&heads, scopes, n);
+    let root = heads::root_head(heads);
+    let local = heads::scope_head(heads, scopes, n);
     peek_of(root, local)
 }
 
@@ -278,7 +272,7 @@ fn is_controlled(s: Slot, t: GlobalTag) -> bool
 }
 
 fn all_controlled(events: &[u64; slots::ROOM], waiting: usize, t: GlobalTag) -> bool
-    requires { ⌜ waiting ≤ mostWaiting ⌝ }
+    requires { ⌜ waiting ≤ roomForEvents ⌝ }
     ensures { λ r. ⌜ r ≡ every (controlled (ofGlobal t)) (take waiting (eventsOf (was events))) ⌝ }
 {
     let mut i: usize = 0;
@@ -298,15 +292,16 @@ pub fn peek_is_control_only(
     scopes: &[u64; scopes::ROOM],
     events: &[u64; slots::ROOM],
     counts: Counts,
+    heads: &[u64; queue::HEADS],
 ) -> bool
-    requires { ⌜ counts .waiting ≤ mostWaiting ⌝ }
+    requires { ⌜ counts .waiting ≤ roomForEvents ⌝ }
+    requires { ⌜ Held (now heads) (headsOf (take (counts .waiting) (eventsOf (now events)))) ⌝ }
     ensures { λ r. ⌜ ((s : State) → Queued (s .waiting) (s .work) (was events) counts → Shows s (was scopes) → flag r ≡ perform (was image) s onlyControl .reply) ⌝ }
 {
     let n = rows::count(image, rows::SCOPE);
     let waiting = counts.waiting;
-    let heads = queue::heads(events, waiting);
-    let root = heads::root_head(&heads);
-    let local = heads::scope_head(&heads, scopes, n);
+    let root = heads::root_head(heads);
+    let local = heads::scope_head(heads, scopes, n);
     match peek_of(root, local) {
         Peeked::Nothing => false,
         Peeked::At(t) => {

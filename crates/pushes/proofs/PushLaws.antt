@@ -17,6 +17,7 @@ use Rattle.lists.specs.Held as H
 use Rattle.refusals.specs.declared.Refusal.{Refusal}
 use Rattle.refusals.specs.declared.Refusal.the-variants as R
 use Rattle.rows.specs.Bytes.{Image}
+use Rattle.rows.specs.Limits.{limits}
 use Rattle.rows.specs.Rows.{none, parent, actionScope, isLogical}
 use Rattle.tags.specs.Tags.{Tag, Answer, within, toLocal, toGlobal}
 use Rattle.tags.specs.Views.{ofLocal, mappedGlobal, mappedLocal}
@@ -29,18 +30,21 @@ use Rattle.tags.specs.declared.MappedLocal.the-variants as ML
 use Rattle.key_set.specs.Sets.{insertKey, noKeys, wordCount}
 use Rattle.schedule.specs.Schedule.{isModal}
 use Rattle.machine.specs.Table.{actions, hasParent, setOf}
-use Rattle.machine.specs.State.{Event, State, root, mostWaiting, ordinary, rootEvent, tally, withQueue, accepted}
+use Rattle.machine.specs.State.{Event, State, root, ordinary, rootEvent, tally, withQueue, accepted}
 use Rattle.machine.specs.Transition.{isTag}
-use Rattle.machine.specs.Machine.{refusal, settle, rootMade, toRoot, localTag, actionEvent, actionPlaced, actionMade}
+use Rattle.machine.specs.Machine.{refusal, settle, rootMade, toRoot, localTag, actionEvent, actionPlaced, actionMade, pushRoot, pushAction, perform}
 use Rattle.slots.specs.Slots as slot
-use Rattle.slots.specs.Slots.{eventsOf}
+use Rattle.slots.specs.Slots.{eventsOf, roomForEvents, waiting-fits}
 use Rattle.scopes.specs.Scopes.{Scope, blank}
-use Rattle.queue.specs.Queue.{acceptedAt}
+use Rattle.queue.specs.Queue.{acceptedAt, acceptedIn}
 use Rattle.queue.specs.declared.Accepted.{Accepted}
 use Rattle.queue.specs.declared.Accepted.the-variants as A
 use Rattle.lens.specs.declared.Counts.{Counts}
-use Rattle.lens.specs.Lens.{Queued, Waits, queued-is, queued-waits, queued-more, waits-queued}
-use Rattle.pushes.specs.Pushes.{madeBy, pushed, Pushes}
+use Rattle.lens.specs.Lens.{Queued, Waits, Shows, queued-is, queued-waits, queued-more, waits-queued}
+use Rattle.lens.specs.Parts.{finished}
+use Rattle.pushes.specs.Pushes.{made, callOf, pushed, Pushes}
+use Rattle.pushes.specs.declared.Push.{Push}
+use Rattle.pushes.specs.declared.Push.the-variants as P
 use Rattle.refusals.specs.declared.Outcome.{Outcome}
 use Rattle.refusals.specs.declared.Outcome.the-variants as O
 
@@ -173,18 +177,21 @@ module _ (img : Image) (ss : List Scope) (a : ℕ) (t : Tag) (terminal : Bool) (
 -- ---- accepting
 
 -- as many wait as may, or there is room
-taken : (n : ℕ) (a : Accepted) → a ≡ acceptedAt n → (mostWaiting ≤ n → a ≡ A.Refused R.Waiting) × (n < mostWaiting → a ≡ A.Count (n + 1))
-taken n a e = (λ h. e ∙ simp (le-leb mostWaiting n h), λ h. e ∙ simp (lt-leb mostWaiting n h))
-
 never-count : {P : Type 0} {n : Refusal} {m : ℕ} → A.Refused n ≡ A.Count m → P
 never-count e = let z : _≡_ {A = ℕ} 0 1 = cc in absurd (omega arith)
 
-module _ (n : ℕ) (a : Accepted) (e : a ≡ acceptedAt n) where
-  pub accept-full : {m : Refusal} → a ≡ A.Refused m → (mostWaiting ≤ n) × (m ≡ R.Waiting)
-  accept-full {m} d = ⊎-elim (λ (h : n < mostWaiting). never-count (sym d ∙ taken n a e .1 h)) (λ (h : mostWaiting ≤ n). (h, (let q = taken n a e .0 h in cc))) (below? n mostWaiting)
+module _ (limit n : ℕ) (a : Accepted) (e : a ≡ acceptedAt limit n) where
+  full : limit ≤ n → a ≡ A.Refused R.Waiting
+  full h = e ∙ simp (le-leb limit n h)
 
-  pub accept-room : {m : ℕ} → a ≡ A.Count m → (n < mostWaiting) × (m ≡ n + 1)
-  accept-room {m} d = ⊎-elim (λ (h : n < mostWaiting). (h, (let q = taken n a e .1 h in cc))) (λ (h : mostWaiting ≤ n). never-count (sym (taken n a e .0 h) ∙ d)) (below? n mostWaiting)
+  room : n < limit → a ≡ A.Count (n + 1)
+  room h = e ∙ simp (lt-leb limit n h)
+
+  pub accept-full : {m : Refusal} → a ≡ A.Refused m → (limit ≤ n) × (m ≡ R.Waiting)
+  accept-full {m} d = ⊎-elim (λ (h : n < limit). never-count (sym d ∙ room h)) (λ (h : limit ≤ n). (h, (let q = full h in cc))) (below? n limit)
+
+  pub accept-room : {m : ℕ} → a ≡ A.Count m → (n < limit) × (m ≡ n + 1)
+  accept-room {m} d = ⊎-elim (λ (h : n < limit). (h, (let q = room h in cc))) (λ (h : limit ≤ n). never-count (sym (full h) ∙ d)) (below? n limit)
 
 -- one more event counts if it is ordinary
 tally-more : (l : List Event) (n : ℕ) (e : Event) → n ≡ count ordinary l → tally e n ≡ count ordinary (l ++ (e ∷ []))
@@ -196,46 +203,62 @@ tally-more l n e h = rw (h, count-append ordinary l (e ∷ [])) (go (ordinary e)
     go false = omega arith
 
 module _ (ws : List ℕ) (c : Counts) (w : Waits ws c) where
-  pub work-small : c .work ≤ mostWaiting
+  pub work-small : c .work ≤ roomForEvents
   work-small =
       let q = waits-queued ws c w .waiting in
       omega (arith, w .counted, w .few, count-shorter ordinary (take (c .waiting) (eventsOf ws)))
 
-  pub give-refused : (o : Outcome) (e : Event) {n : Refusal} → o ≡ O.Refused n → (s : State) → Queued (s .waiting) (s .work) ws c →
-      Pushes (pushed s (madeBy o e)) (record { outcome = O.Refused n; counts = c }) ws
-  give-refused o e d s q = rw d (record { reply = refl; queued = q; waits = w })
+  module _ (img : Image) (o : Outcome) (e : Event) where
+    pub give-refused : {n : Refusal} → o ≡ O.Refused n → (s : State) → Queued (s .waiting) (s .work) ws c → Pushes (pushed img s (finished o e)) (record { outcome = O.Refused n; counts = c }) ws
+    give-refused d s q = rw d (record { reply = refl; queued = q; waits = w })
 
-  module _ (o : Outcome) (e : Event) (d : o ≡ O.Done) (a : Accepted) (f : a ≡ acceptedAt (c .waiting)) (out : List ℕ) (k : slot.Held out (set (eventsOf ws) (c .waiting) e)) where
-    pub give-full : {n : Refusal} → a ≡ A.Refused n → (s : State) → Queued (s .waiting) (s .work) ws c → Pushes (pushed s (madeBy o e)) (record { outcome = O.Refused n; counts = c }) out
-    unfolding accepted
-    give-full {n} r s q =
-        let x = accept-full (c .waiting) a f r in
-        let full : mostWaiting ≤ length (s .waiting) = rw (← (q .waiting)) (x .0) in
-        let same : out ≡ ws =
-        H.rows-back slot.decode slot.encode slot.slotWords mostWaiting slot.encode-long ws out (w .held .whole)
-        (record { whole = k .whole; things = k .things ∙ H.set-past slot.decode slot.encode slot.slotWords mostWaiting slot.encode-long ws (c .waiting) (x .0) e }) in
-        rw (d, same, le-leb mostWaiting _ full) (record { reply = ap refusal (x .1); queued = q; waits = w })
+    -- the image's limit, as the code has it
+    module _ (d : o ≡ O.Done) (limit : ℕ) (m : limit ≡ limits img .waiting) (a : Accepted) (f : a ≡ acceptedAt limit (c .waiting))
+        (out : List ℕ) (k : slot.Held out (acceptedIn limit (c .waiting) e (eventsOf ws))) where
+      pub give-full : {n : Refusal} → a ≡ A.Refused n → (s : State) → Queued (s .waiting) (s .work) ws c →
+          Pushes (pushed img s (finished o e)) (record { outcome = O.Refused n; counts = c }) out
+      unfolding accepted
+      give-full {n} r s q =
+          let x = accept-full limit (c .waiting) a f r in
+          let none : limit ≤ length (s .waiting) = rw (← (q .waiting)) (x .0) in
+          let same : out ≡ ws =
+          H.rows-back slot.decode slot.encode slot.slotWords roomForEvents slot.encode-long ws out (w .held .whole) (rw (le-leb limit (c .waiting) (x .0)) at k) in
+          rw (d, same, ← m, le-leb limit _ none) (record { reply = ap refusal (x .1); queued = q; waits = w })
 
-    pub give-done : {m : ℕ} (n : ℕ) → a ≡ A.Count m → n ≡ cond (ordinary e) (c .work + 1) (c .work) →
-        (s : State) → Queued (s .waiting) (s .work) ws c → Pushes (pushed s (madeBy o e)) (record { outcome = O.Done; counts = record { waiting = m; work = n } }) out
-    unfolding accepted
-    give-done {m} n r t s q =
-        let x = accept-room (c .waiting) a f r in
-        let l = s .waiting in
-        let few : length l < mostWaiting = rw (← (q .waiting)) (x .0) in
-        let longer : length (l ++ (e ∷ [])) ≡ length l + 1 = length-append l (e ∷ []) in
-        let new : Queued (l ++ (e ∷ [])) (tally e (s .work)) out (record { waiting = m; work = n }) =
-        record { held = queued-more l (s .work) ws c e out q k; waiting = omega (arith, x .1, q .waiting); work = t ∙ ap (tally e) (q .work) } in
-        let counted : s .work ≡ count ordinary l = sym (q .work) ∙ (w .counted ∙ ap (count ordinary) (queued-is l (s .work) ws c q (omega arith))) in
-        rw (d, lt-leb mostWaiting _ few)
-        (record { reply = refl; queued = new; waits = queued-waits _ _ out _ new (omega arith) (tally-more l (s .work) e counted) })
+      pub give-done : {p : ℕ} (n : ℕ) → a ≡ A.Count p → n ≡ cond (ordinary e) (c .work + 1) (c .work) →
+          (s : State) → Queued (s .waiting) (s .work) ws c → Pushes (pushed img s (finished o e)) (record { outcome = O.Done; counts = record { waiting = p; work = n } }) out
+      unfolding accepted
+      give-done {p} n r t s q =
+          let x = accept-room limit (c .waiting) a f r in
+          let l = s .waiting in
+          let few : length l < limit = rw (← (q .waiting)) (x .0) in
+          let fits : limit ≤ roomForEvents = rw m (waiting-fits img) in
+          let longer : length (l ++ (e ∷ [])) ≡ length l + 1 = length-append l (e ∷ []) in
+          let held = queued-more l (s .work) ws c e out q (rw (lt-leb limit (c .waiting) (x .0)) at k) in
+          let new : Queued (l ++ (e ∷ [])) (tally e (s .work)) out (record { waiting = p; work = n }) =
+          record { held = held; waiting = omega (arith, x .1, q .waiting); work = t ∙ ap (tally e) (q .work) } in
+          let counted : s .work ≡ count ordinary l = sym (q .work) ∙ (w .counted ∙ ap (count ordinary) (queued-is l (s .work) ws c q (omega arith))) in
+          rw (d, ← m, lt-leb limit _ few)
+          (record { reply = refl; queued = new; waits = queued-waits _ _ out _ new (omega arith) (tally-more l (s .work) e counted) })
 
 -- a push changes the queue and nothing else
-pub push-frame : (s : State) (m : Result Refusal Event) → let t = pushed s m .state in t ≡ withQueue s (t .waiting) (t .work)
+pub push-frame : (img : Image) (s : State) (m : Result Refusal Event) → let t = pushed img s m .state in t ≡ withQueue s (t .waiting) (t .work)
 unfolding accepted
-push-frame s (refused n) = refl
-push-frame s (done e) = go (leb mostWaiting (length (s .waiting)))
+push-frame img s (refused n) = refl
+push-frame img s (done e) = go (leb (limits img .waiting) (length (s .waiting)))
   where
     go : (b : Bool) → let t = settle s (cond b (refused R.Waiting) (done (withQueue s (s .waiting ++ (e ∷ [])) (tally e (s .work))))) .state in t ≡ withQueue s (t .waiting) (t .work)
     go true = refl
     go false = refl
+
+-- the machine's call by its event
+pub performs-made : (img : Image) (s : State) (ws : List ℕ) → Shows s ws → (p : Push) (ks : List ℕ) → perform img s (callOf p ks) ≡ pushed img s (made img ws p ks)
+unfolding perform pushRoot pushAction
+performs-made img s ws h (P.Plain t terminal) ks = refl
+performs-made img s ws h (P.Network t) ks = refl
+performs-made img s ws h (P.Control t) ks = refl
+performs-made img s ws h (P.Action p) ks = rw (h (actionScope img (p .action)))
+
+pub call-frame : (img : Image) (s : State) (ws : List ℕ) → Shows s ws → (p : Push) (ks : List ℕ) →
+    let t = perform img s (callOf p ks) .state in t ≡ withQueue s (t .waiting) (t .work)
+call-frame img s ws h p ks = rw (performs-made img s ws h p ks) (push-frame img s (made img ws p ks))

@@ -1,12 +1,14 @@
 -- What a push hands back: the plain machine's answer and its queue. Document 01, "Push (plain, network, control)" and "Push of an action", is the machine's. Assumes nothing.
 use mathlib.Core.Path.{_≡_}
-use mathlib.Core.List.{List}
+use mathlib.Core.Bool.{true, false}
+use mathlib.Core.List.{List, []}
 use Prim.Native.Nat.{ℕ}
-use Rattle.lists.specs.Walk.{Result, done, refused, _>>=_}
+use Rattle.lists.specs.Walk.{Result, _>>=_}
 use Rattle.refusals.specs.declared.Refusal.{Refusal}
 use Rattle.machine.specs.State.{Event, State, accepted}
 use Rattle.machine.specs.Machine as M
-use Rattle.machine.specs.Machine.{settle}
+use Rattle.machine.specs.Machine.{settle, keysOk, rootMade, actionMade}
+use Rattle.machine.specs.Table.{setOf}
 use lib.ListN.{getD}
 use Rattle.rows.specs.Bytes.{Image}
 use Rattle.rows.specs.Rows.{actionScope}
@@ -14,32 +16,40 @@ use Rattle.tags.specs.Views.{ofGlobal}
 use Rattle.slots.specs.Slots.{eventOf}
 use Rattle.scopes.specs.Scopes.{Scope, scopesOf, blank}
 use Rattle.lens.specs.Lens.{Queued, Waits}
+use Rattle.lens.specs.Parts.{finished}
 pub use Rattle.lens.specs.Holds.{replyOf}
 use Rattle.refusals.specs.declared.Outcome.{Outcome}
-use Rattle.refusals.specs.declared.Outcome.the-variants as O
-use Rattle.pushes.specs.declared.ActionPush.{ActionPush}
+use Rattle.pushes.specs.declared.Push.{Push}
+use Rattle.pushes.specs.declared.Push.the-variants as P
 use Rattle.pushes.specs.declared.Made.{Made}
 use Rattle.pushes.specs.declared.Pushed.{Pushed}
 
 -- the event that is to wait, or the refusal
-abbrev pub madeBy : Outcome → Event → Result Refusal Event
-madeBy O.Done e = done e
-madeBy (O.Refused n) e = refused n
-
 abbrev pub madeOf : Made → Result Refusal Event
-madeOf m = madeBy (m .outcome) (eventOf (m .slot))
+madeOf m = finished (m .outcome) (eventOf (m .slot))
 
 -- the scope of an action, as the rows show it
 abbrev pub scopeFor : Image → List ℕ → ℕ → Scope
 scopeFor img ws a = getD (scopesOf ws) (actionScope img a) blank
 
--- an action's event as a call of the machine
-abbrev pub callOf : ActionPush → List ℕ → M.Call
-callOf p ks = M.action (p .action) (ofGlobal (p .tag)) (p .terminal) ks
+-- a push as a call of the machine
+abbrev pub callOf : Push → List ℕ → M.Call
+callOf (P.Plain t terminal) ks = M.plain (ofGlobal t) terminal ks
+callOf (P.Network t) ks = M.network (ofGlobal t) ks
+callOf (P.Control t) ks = M.control (ofGlobal t)
+callOf (P.Action p) ks = M.action (p .action) (ofGlobal (p .tag)) (p .terminal) ks
+
+-- its event, or its refusal
+abbrev pub made : Image → List ℕ → Push → List ℕ → Result Refusal Event
+made img ws (P.Plain t terminal) ks = rootMade (keysOk img ks) (ofGlobal t) (setOf ks) terminal false false
+made img ws (P.Network t) ks = rootMade (keysOk img ks) (ofGlobal t) (setOf ks) false false true
+made img ws (P.Control t) ks = rootMade (keysOk img []) (ofGlobal t) (setOf []) false true false
+made img ws (P.Action p) ks =
+    actionMade img (scopeFor img ws (p .action)) (p .action) (ofGlobal (p .tag)) (p .terminal) (keysOk img ks) (setOf ks)
 
 -- it comes last, or 8
-abbrev pub pushed : State → Result Refusal Event → M.Outcome
-pushed s m = settle s (m >>= accepted s)
+abbrev pub pushed : Image → State → Result Refusal Event → M.Outcome
+pushed img s m = settle s (m >>= accepted img s)
 
 pub record Pushes (o : M.Outcome) (r : Pushed) (ws : List ℕ) : Type 0 where
   pub reply : replyOf (r .outcome) ≡ o .reply

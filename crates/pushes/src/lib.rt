@@ -1,21 +1,23 @@
 // Pushes over the events and scopes in lent rows: document 01, "Push (plain, network, control)", "Push of an action"; the contracts cite the machine.
-// Refusals in their order: 5, 6, 7, 8. A new one comes in at its place in `root_made` and `action_made`; the event joins in `give`.
+// Refusals in their order: 5, 6, 7, 8. A new one comes in at its place in `root_made` and `action_made`; the event joins in `give`, and a new
+// kind of push gets its variant of `Push` and its event in `event_of`. Callers lend every queue's least tag, which `push_with` keeps.
 ghost use mathlib.Core.Path.{_≡_};
 ghost use mathlib.Core.Bool.{cond, _&&_};
 ghost use Prim.Native.Nat.{_+_, _<_};
-ghost use lib.ListN.{getD};
+ghost use lib.ListN.{getD, take};
 ghost use Rattle.lists.specs.Lent.{was, is};
 ghost use Rattle.lists.specs.Walk as lists;
-ghost use Rattle.rows.specs.Bytes.{Image};
 ghost use Rattle.tags.specs.Views.{ofGlobal, ofLocal, ofQueue, ofClock, mappedLocal};
 ghost use Rattle.tags.specs.Tags.{toGlobal};
 ghost use Rattle.machine.specs.Table.{setOf};
 ghost use Rattle.machine.specs.Transition.{isTag};
 ghost use Rattle.machine.specs.State.{State};
-ghost use Rattle.machine.specs.Machine.{keysOk, rootMade, toRoot, localTag, actionEvent, actionPlaced, actionMade, perform, plain, network, control};
+ghost use Rattle.machine.specs.Machine.{keysOk, rootMade, toRoot, localTag, actionEvent, actionPlaced, actionMade, perform};
+ghost use Rattle.slots.specs.Slots.{eventsOf};
 ghost use Rattle.scopes.specs.Scopes.{scopesOf, blank};
+ghost use Rattle.queue.specs.Queue.{headsOf, Held};
 ghost use Rattle.lens.specs.Lens.{Queued, Waits, Shows};
-ghost use Rattle.pushes.specs.Pushes.{madeOf, scopeFor, callOf, pushed, Pushes};
+ghost use Rattle.pushes.specs.Pushes.{madeOf, scopeFor, made, callOf, pushed, Pushes};
 use key_set::KeySet;
 use lens::Counts;
 use queue::Accepted;
@@ -40,6 +42,14 @@ pub struct ActionPush {
     pub action: u16,
     pub tag: GlobalTag,
     pub terminal: bool,
+}
+
+// What is pushed, at which tag and whether terminal; its reaction keys stand beside it. A control event has none.
+pub enum Push {
+    Plain(GlobalTag, bool),
+    Network(GlobalTag),
+    Control(GlobalTag),
+    Action(ActionPush),
 }
 
 // An event of the root without an action.
@@ -243,9 +253,9 @@ fn tallied(ordinary: bool, work: usize) -> usize
 }
 
 // The event comes last, or 8; or it was refused before.
-fn give(events: &mut [u64; slots::ROOM], counts: Counts, made: Made) -> Pushed
+fn give(image: &[u8], events: &mut [u64; slots::ROOM], counts: Counts, made: Made) -> Pushed
     requires { ⌜ Waits (now events) counts ⌝ }
-    ensures { λ r. ⌜ ((s : State) → Queued (s .waiting) (s .work) (was events) counts → Pushes (pushed s (madeOf made)) r (is events)) ⌝ }
+    ensures { λ r. ⌜ ((s : State) → Queued (s .waiting) (s .work) (was events) counts → Pushes (pushed (was image) s (madeOf made)) r (is events)) ⌝ }
 {
     let before = made.outcome;
     match before {
@@ -256,7 +266,8 @@ fn give(events: &mut [u64; slots::ROOM], counts: Counts, made: Made) -> Pushed
         Outcome::Done => {
             let slot = made.slot;
             let ordinary = slot.is_ordinary();
-            match queue::accept(events, counts.waiting, slot) {
+            let limit = rows::most_waiting(image);
+            match queue::accept(events, counts.waiting, limit, slot) {
                 Accepted::Refused(n) => Pushed {
                     outcome: Outcome::Refused(n),
                     counts,
@@ -276,83 +287,72 @@ fn give(events: &mut [u64; slots::ROOM], counts: Counts, made: Made) -> Pushed
     }
 }
 
-// ---- the calls
+// ---- the call
 
-pub fn push_event(
-    image: &[u8],
-    events: &mut [u64; slots::ROOM],
-    counts: Counts,
-    tag: GlobalTag,
-    terminal: bool,
-    keys: &[u16],
-) -> Pushed
-    requires { ⌜ Waits (now events) counts ⌝ }
-    ensures { λ r. ⌜ ((s : State) → Queued (s .waiting) (s .work) (was events) counts → Pushes (perform (was image) s (plain (ofGlobal tag) terminal (was keys))) r (is events)) ⌝ }
+// The event of a push, or its refusal.
+fn event_of(image: &[u8], scopes: &[u64; scopes::ROOM], push: Push, keys: &[u16]) -> Made
+    ensures { λ r. ⌜ madeOf r ≡ made (was image) (was scopes) push (was keys) ⌝ }
 {
-    let keyed = keys_of(image, keys);
-    let p = RootPush {
-        tag,
-        terminal,
-        control: false,
-        network: false,
-    };
-    let made = root_made(p, keyed);
-    give(events, counts, made)
+    match push {
+        Push::Plain(tag, terminal) => {
+            let keyed = keys_of(image, keys);
+            let p = RootPush {
+                tag,
+                terminal,
+                control: false,
+                network: false,
+            };
+            root_made(p, keyed)
+        }
+        Push::Network(tag) => {
+            let keyed = keys_of(image, keys);
+            let p = RootPush {
+                tag,
+                terminal: false,
+                control: false,
+                network: true,
+            };
+            root_made(p, keyed)
+        }
+        Push::Control(tag) => {
+            let none = KeySet::empty();
+            let keyed = Keyed {
+                known: true,
+                set: none,
+            };
+            let p = RootPush {
+                tag,
+                terminal: false,
+                control: true,
+                network: false,
+            };
+            root_made(p, keyed)
+        }
+        Push::Action(p) => {
+            let keyed = keys_of(image, keys);
+            action_made(image, scopes, p, keyed)
+        }
+    }
 }
 
-pub fn push_network_event(
-    image: &[u8],
-    events: &mut [u64; slots::ROOM],
-    counts: Counts,
-    tag: GlobalTag,
-    keys: &[u16],
-) -> Pushed
-    requires { ⌜ Waits (now events) counts ⌝ }
-    ensures { λ r. ⌜ ((s : State) → Queued (s .waiting) (s .work) (was events) counts → Pushes (perform (was image) s (network (ofGlobal tag) (was keys))) r (is events)) ⌝ }
-{
-    let keyed = keys_of(image, keys);
-    let p = RootPush {
-        tag,
-        terminal: false,
-        control: false,
-        network: true,
-    };
-    let made = root_made(p, keyed);
-    give(events, counts, made)
-}
-
-// A control event has no reactions.
-pub fn push_control_event(events: &mut [u64; slots::ROOM], counts: Counts, tag: GlobalTag) -> Pushed
-    requires { ⌜ Waits (now events) counts ⌝ }
-    ensures { λ r. ⌜ ((img : Image) (s : State) → Queued (s .waiting) (s .work) (was events) counts → Pushes (perform img s (control (ofGlobal tag))) r (is events)) ⌝ }
-{
-    let none = KeySet::empty();
-    let keyed = Keyed {
-        known: true,
-        set: none,
-    };
-    let p = RootPush {
-        tag,
-        terminal: false,
-        control: true,
-        network: false,
-    };
-    let made = root_made(p, keyed);
-    give(events, counts, made)
-}
-
-pub fn push_action_event(
+// The push with its reaction keys. Every queue's least tag is lent, and kept.
+pub fn push_with(
     image: &[u8],
     scopes: &[u64; scopes::ROOM],
     events: &mut [u64; slots::ROOM],
     counts: Counts,
-    push: ActionPush,
+    heads: &mut [u64; queue::HEADS],
+    push: Push,
     keys: &[u16],
 ) -> Pushed
     requires { ⌜ Waits (now events) counts ⌝ }
+    requires { ⌜ Held (now heads) (headsOf (take (counts .waiting) (eventsOf (now events)))) ⌝ }
     ensures { λ r. ⌜ ((s : State) → Queued (s .waiting) (s .work) (was events) counts → Shows s (was scopes) → Pushes (perform (was image) s (callOf push (was keys))) r (is events)) ⌝ }
+    ensures { λ r. ⌜ Held (is heads) (headsOf (take (r .counts .waiting) (eventsOf (is events)))) ⌝ }
 {
-    let keyed = keys_of(image, keys);
-    let made = action_made(image, scopes, push, keyed);
-    give(events, counts, made)
+    let event = event_of(image, scopes, push, keys);
+    let r = give(image, events, counts, event);
+    let after = r.counts;
+    queue::grow(heads, events, counts.waiting, after.waiting);
+    r
 }

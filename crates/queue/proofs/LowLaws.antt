@@ -16,9 +16,9 @@ use Rattle.lists.specs.Tests.{same?, gt-eqb, gt-ltb, and-left, yes-no}
 use Rattle.tags.specs.Tags.{Tag, at, earlier}
 use Rattle.tags.specs.Views.{ofQueue}
 use Rattle.tags.specs.declared.QueueTag.{QueueTag}
-use Rattle.machine.specs.State.{Event, mostWaiting, inQueue, atHead}
+use Rattle.machine.specs.State.{Event, inQueue, atHead}
 use Rattle.machine.specs.Heads.{Least, noTag, least, lesser, leastOf}
-use Rattle.slots.specs.Slots.{blank, eventsOf, IsDue}
+use Rattle.slots.specs.Slots.{blank, eventsOf, IsDue, roomForEvents}
 use Rattle.slots.specs.declared.Due.{Due}
 use Rattle.slots.proofs.SlotLaws.{events-long}
 use Rattle.queue.specs.Queue.{queues, ofEarliest, lowers, isLower, entryOf, queueOf, leastsOf, Held, headsOf}
@@ -228,7 +228,7 @@ module _ (rows : List ℕ) (before after : ℕ) {ws : List ℕ} (w : Held ws (he
   pub grow-none : after ≡ before → Held ws (headsOf (take after (eventsOf rows)))
   grow-none e = rw e w
 
-  pub grow-one : (d : Due) {out : List ℕ} → before ≤ after → after ≤ before + 1 → after ≤ mostWaiting → (after ≡ before → ⊥) → IsDue d (getD (eventsOf rows) before blank) →
+  pub grow-one : (d : Due) {out : List ℕ} → before ≤ after → after ≤ before + 1 → after ≤ roomForEvents → (after ≡ before → ⊥) → IsDue d (getD (eventsOf rows) before blank) →
       Held out (set (leastsOf ws) (entryOf (d .queue)) (lesser (ofQueue (d .tag)) (getD (leastsOf ws) (entryOf (d .queue)) noTag))) →
       Held out (headsOf (take after (eventsOf rows)))
   grow-one d a b f n r o =

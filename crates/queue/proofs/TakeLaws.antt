@@ -16,7 +16,8 @@ use Rattle.key_set.specs.Sets.{has}
 use Rattle.tags.specs.Tags.{sameTag}
 use Rattle.tags.specs.Views.{ofQueue}
 use Rattle.tags.specs.declared.QueueTag.{QueueTag}
-use Rattle.machine.specs.State.{Event, mostWaiting, ordinary, atHead, inQueue}
+use Rattle.machine.specs.State.{Event, ordinary, atHead, inQueue}
+use Rattle.slots.specs.Slots.{roomForEvents}
 use Rattle.slots.specs.Slots.{slotWords, blank, encode, decode, encode-long, eventsOf, Whole, Held, IsDue}
 use Rattle.slots.specs.declared.Due.{Due}
 use Rattle.slots.proofs.SlotLaws.{events-long}
@@ -74,15 +75,15 @@ module _ (p : Event → Bool) (es : List Event) (i : ℕ) (e : Event) (h : i < l
 -- ---- the loop's state: those that stay over the front, and the ordinary ones that went
 
 pub record Taken (p : Event → Bool) (ws : List ℕ) (i m k : ℕ) (out : List ℕ) : Type 0 where
-  pub kept : loops.Compacted decode encode slotWords mostWaiting encode-long p ws i m out
+  pub kept : loops.Compacted decode encode slotWords roomForEvents encode-long p ws i m out
   pub went : k ≡ count ordinary (keep p (take i (eventsOf ws)))
   pub short : k ≤ i
 
 pub taken-none : (p : Event → Bool) (ws : List ℕ) → Whole ws → Taken p ws 0 0 0 ws
 unfolding keep count
-taken-none p ws h = record { kept = loops.compact-none decode encode slotWords mostWaiting encode-long p ws h; went = refl; short = omega arith }
+taken-none p ws h = record { kept = loops.compact-none decode encode slotWords roomForEvents encode-long p ws h; went = refl; short = omega arith }
 
-module _ (p : Event → Bool) (ws : List ℕ) (n i m k : ℕ) (out : List ℕ) (b : i < n) (f : n ≤ mostWaiting) (h : Taken p ws i m k out) (e : Event)
+module _ (p : Event → Bool) (ws : List ℕ) (n i m k : ℕ) (out : List ℕ) (b : i < n) (f : n ≤ roomForEvents) (h : Taken p ws i m k out) (e : Event)
     (r : e ≡ getD (eventsOf out) i blank) (x : Bool) (t : x ≡ p e) where
   pub original : e ≡ getD (eventsOf ws) i blank
   original =
@@ -96,7 +97,7 @@ module _ (p : Event → Bool) (ws : List ℕ) (n i m k : ℕ) (out : List ℕ) (
   pub taken-goes : (y : ℕ) → x ≡ true → y ≡ oneIf (ordinary e) → y < 2 → Taken p ws (i + 1) m (k + y) out
   taken-goes y c d z =
       record {
-        kept = loops.compact-goes decode encode slotWords mostWaiting encode-long p ws n i m out b f (h .kept) blank e r x t c;
+        kept = loops.compact-goes decode encode slotWords roomForEvents encode-long p ws n i m out b f (h .kept) blank e r x t c;
         went = went-yes p (eventsOf ws) i e inside original k y (sym t ∙ c) (h .went) d;
         short = omega (arith, h .short);
       }
@@ -104,27 +105,27 @@ module _ (p : Event → Bool) (ws : List ℕ) (n i m k : ℕ) (out : List ℕ) (
   pub taken-stays : (next : List ℕ) → x ≡ false → Held next (set (eventsOf out) m (getD (eventsOf out) i blank)) → Taken p ws (i + 1) (m + 1) k next
   taken-stays next c q =
       record {
-        kept = loops.compact-stays decode encode slotWords mostWaiting encode-long p ws n i m out b f (h .kept) blank e r x t c next (rw (← r) at q);
+        kept = loops.compact-stays decode encode slotWords roomForEvents encode-long p ws n i m out b f (h .kept) blank e r x t c next (rw (← r) at q);
         went = went-no p (eventsOf ws) i e inside original k (sym t ∙ c) (h .went);
         short = omega (arith, h .short);
       }
 
 -- the row that is written lies at or before the one that is read
 pub taken-room : (p : Event → Bool) (ws : List ℕ) (i m k : ℕ) (out : List ℕ) → Taken p ws i m k out → m ≤ i
-taken-room p ws i m k out h = loops.lose-room decode encode slotWords mostWaiting encode-long blank p ws i (h .kept .count)
+taken-room p ws i m k out h = loops.lose-room decode encode slotWords roomForEvents encode-long blank p ws i (h .kept .count)
 
 pub stay-same : (ws : List ℕ) (from to : ℕ) → to ≡ from → Whole ws → Held ws (set (eventsOf ws) to (getD (eventsOf ws) from blank))
 stay-same ws from to e h = record { whole = h; things = rw e (sym (set-getD (eventsOf ws) from blank)) }
 
 module _ (p : Event → Bool) (ws : List ℕ) (n i m k : ℕ) (out : List ℕ) (a : i ≤ n) (b : n ≤ i) (h : Taken p ws i m k out) where
   pub taken-count : m ≡ length (lose p (take n (eventsOf ws)))
-  taken-count = loops.compact-count decode encode slotWords mostWaiting encode-long p ws n i m out a b (h .kept)
+  taken-count = loops.compact-count decode encode slotWords roomForEvents encode-long p ws n i m out a b (h .kept)
 
   pub taken-went : k ≡ count ordinary (keep p (take n (eventsOf ws)))
   taken-went = let e : i ≡ n = omega arith in rw (← e) (h .went)
 
   pub taken-held : Held out (over (lose p (take n (eventsOf ws))) (eventsOf ws))
-  taken-held = loops.compact-held decode encode slotWords mostWaiting encode-long p ws n i m out a b (h .kept)
+  taken-held = loops.compact-held decode encode slotWords roomForEvents encode-long p ws n i m out a b (h .kept)
 
 -- ---- blanks behind them
 
@@ -133,21 +134,21 @@ Blanked ws w i out = Held out (lay blank (eventsOf ws) (take w (eventsOf ws)) i)
 
 module _ (ws : List ℕ) (w : ℕ) where
   pub clear-none : Whole ws → Blanked ws w w ws
-  clear-none h = loops.blank-none decode encode slotWords mostWaiting encode-long blank ws w h
+  clear-none h = loops.blank-none decode encode slotWords roomForEvents encode-long blank ws w h
 
   pub clear-one : (i : ℕ) (out next : List ℕ) (e : Event) → w ≤ i → e ≡ blank → Blanked ws w i out → Held next (set (eventsOf out) i e) → Blanked ws w (i + 1) next
-  clear-one i out next e b r h q = loops.blank-one decode encode slotWords mostWaiting encode-long blank ws w i out next e b r h q
+  clear-one i out next e b r h q = loops.blank-one decode encode slotWords roomForEvents encode-long blank ws w i out next e b r h q
 
   pub clear-all : (n i : ℕ) (out : List ℕ) → i ≤ n → n ≤ i → Blanked ws w i out → Blanked ws w n out
-  clear-all n i out a b h = loops.blank-all decode encode slotWords mostWaiting encode-long blank ws w n i out a b h
+  clear-all n i out a b h = loops.blank-all decode encode slotWords roomForEvents encode-long blank ws w n i out a b h
 
 -- ---- both
 
 module _ (p : Event → Bool) (ws : List ℕ) (n : ℕ) where
   pub remove-room : (k : ℕ) → k ≡ length (lose p (take n (eventsOf ws))) → k ≤ n
-  remove-room k e = loops.lose-room decode encode slotWords mostWaiting encode-long blank p ws n e
+  remove-room k e = loops.lose-room decode encode slotWords roomForEvents encode-long blank p ws n e
 
   pub remove-held :
-      (k : ℕ) (mid out : List ℕ) → n ≤ mostWaiting → k ≡ length (lose p (take n (eventsOf ws))) → Held mid (over (lose p (take n (eventsOf ws))) (eventsOf ws)) →
+      (k : ℕ) (mid out : List ℕ) → n ≤ roomForEvents → k ≡ length (lose p (take n (eventsOf ws))) → Held mid (over (lose p (take n (eventsOf ws))) (eventsOf ws)) →
       Blanked mid k n out → Held out (lay blank (eventsOf ws) (lose p (take n (eventsOf ws))) n)
-  remove-held k mid out f e h q = loops.lose-done decode encode slotWords mostWaiting encode-long blank p ws n k mid out f e h q
+  remove-held k mid out f e h q = loops.lose-done decode encode slotWords roomForEvents encode-long blank p ws n k mid out f e h q

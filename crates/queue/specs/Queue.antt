@@ -3,7 +3,7 @@ use mathlib.Core.Bool.{Bool, true, false, cond, not, _&&_, _||_}
 use mathlib.Core.Path.{_≡_, refl}
 use mathlib.Core.List.{List, [], _∷_, _++_, map}
 use Prim.Native.Nat.{ℕ, _+_, _%_}
-use lib.ListN.{length, take, getD, replicate}
+use lib.ListN.{length, take, getD, set, replicate}
 use lib.Dec.{leb, ltb, eqb}
 use Rattle.lists.specs.Held as H
 use Rattle.lists.specs.Lists.{lose, keep, count}
@@ -11,7 +11,7 @@ use Rattle.lists.specs.Rows.{tab}
 use Rattle.refusals.specs.declared.Refusal.the-variants as R
 use Rattle.tags.specs.Tags.{Tag, at, earlier}
 use Rattle.tags.specs.Views.{ofQueue}
-use Rattle.machine.specs.State.{Event, root, mostWaiting, inQueue, atHead, ordinary}
+use Rattle.machine.specs.State.{Event, root, inQueue, atHead, ordinary}
 use Rattle.machine.specs.Heads.{Least, noTag, least, lesser, leastOf}
 use Rattle.scopes.specs.Scopes.{mostScopes}
 use Rattle.key_set.specs.Sets.{has}
@@ -23,8 +23,12 @@ use Rattle.queue.specs.declared.Accepted.the-variants as A
 
 -- ---- accepting
 
-abbrev pub acceptedAt : ℕ → Accepted
-acceptedAt n = cond (leb mostWaiting n) (A.Refused R.Waiting) (A.Count (n + 1))
+abbrev pub acceptedAt : ℕ → ℕ → Accepted
+acceptedAt limit n = cond (leb limit n) (A.Refused R.Waiting) (A.Count (n + 1))
+
+-- the slots after it
+abbrev pub acceptedIn : ℕ → ℕ → Event → List Event → List Event
+acceptedIn limit n e es = cond (leb limit n) es (set es n e)
 
 -- ---- the least tag of every queue, in one array: the scopes' by their numbers, then the root's
 

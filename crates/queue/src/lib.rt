@@ -8,12 +8,12 @@ ghost use Rattle.lists.specs.Lists.{lose, keep, count};
 ghost use Rattle.lists.specs.Lists as lists;
 ghost use Rattle.lists.specs.Lent.{was, is};
 ghost use Rattle.lists.specs.Lay.{lay};
-ghost use Rattle.machine.specs.State.{Event, mostWaiting, ordinary, atHead};
+ghost use Rattle.machine.specs.State.{Event, ordinary, atHead};
 ghost use Rattle.machine.specs.Heads.{noTag, least, lesser};
 ghost use Rattle.tags.specs.Views.{ofQueue};
-ghost use Rattle.slots.specs.Slots.{eventsOf, eventOf, blank, IsDue};
+ghost use Rattle.slots.specs.Slots.{eventsOf, eventOf, blank, IsDue, roomForEvents};
 ghost use Rattle.slots.specs.Slots as slot;
-ghost use Rattle.queue.specs.Queue.{acceptedAt, ofEarliest, isLower, entryOf, leastsOf, Whole, Held, headsOf, goesOf, oneIf};
+ghost use Rattle.queue.specs.Queue.{acceptedAt, acceptedIn, ofEarliest, isLower, entryOf, leastsOf, Whole, Held, headsOf, goesOf, oneIf};
 use key_set::KeySet;
 use refusals::Refusal;
 use slots::Due;
@@ -41,16 +41,16 @@ pub const HEADS: usize = QUEUES * LEAST_WORDS;
 
 // ---- accepting
 
-// One more event comes last; 8 where as many wait as may.
-pub fn accept(rows: &mut [u64; slots::ROOM], n: usize, s: Slot) -> Accepted
+// One more event comes last, behind n; 8 where as many wait as may, which is the limit.
+pub fn accept(rows: &mut [u64; slots::ROOM], n: usize, limit: usize, s: Slot) -> Accepted
     requires { ⌜ slot.Whole (now rows) ⌝ }
-    ensures { λ r. ⌜ r ≡ acceptedAt n ⌝ }
-    ensures { λ _. ⌜ slot.Held (now (rows .exit)) (set (eventsOf (now (rows .entry))) n (eventOf s)) ⌝ }
+    ensures { λ r. ⌜ r ≡ acceptedAt limit n ⌝ }
+    ensures { λ _. ⌜ slot.Held (is rows) (acceptedIn limit n (eventOf s) (eventsOf (was rows))) ⌝ }
 {
-    slots::put_slot(rows, n, s);
-    if slots::MOST_WAITING <= n {
+    if limit <= n {
         return Accepted::Refused(Refusal::Waiting);
     }
+    slots::put_slot(rows, n, s);
     Accepted::Count(n + 1)
 }
 
@@ -133,7 +133,7 @@ fn note(heads: &mut [u64; HEADS], d: Due)
 
 // Every queue's least tag, in one pass.
 pub fn heads(rows: &[u64; slots::ROOM], n: usize) -> [u64; HEADS]
-    requires { ⌜ n ≤ mostWaiting ⌝ }
+    requires { ⌜ n ≤ roomForEvents ⌝ }
     ensures { λ r. ⌜ Held r (headsOf (take n (eventsOf (now (rows .entry))))) ⌝ }
 {
     let mut out = [0u64; HEADS];
@@ -151,7 +151,7 @@ pub fn heads(rows: &[u64; slots::ROOM], n: usize) -> [u64; HEADS]
 // One event more may wait: the entry of its queue is rewritten.
 pub fn grow(heads: &mut [u64; HEADS], rows: &[u64; slots::ROOM], before: usize, after: usize)
     requires { ⌜ Held (now heads) (headsOf (take before (eventsOf (now rows)))) ⌝ }
-    requires { ⌜ (before ≤ after) × (after ≤ before + 1) × (after ≤ mostWaiting) ⌝ }
+    requires { ⌜ (before ≤ after) × (after ≤ before + 1) × (after ≤ roomForEvents) ⌝ }
     ensures { λ _. ⌜ Held (now (heads .exit)) (headsOf (take after (eventsOf (now (rows .entry))))) ⌝ }
 {
     if after == before {
@@ -245,7 +245,7 @@ pub fn one_if(b: bool) -> usize
 // The event of row `from` stays, in row `to`.
 pub fn stay(rows: &mut [u64; slots::ROOM], from: usize, to: usize)
     requires { ⌜ slot.Whole (now rows) ⌝ }
-    requires { ⌜ (from < mostWaiting) × (to ≤ from) ⌝ }
+    requires { ⌜ (from < roomForEvents) × (to ≤ from) ⌝ }
     ensures { λ _. ⌜ slot.Held (now (rows .exit)) (set (eventsOf (now (rows .entry))) to (getD (eventsOf (now (rows .entry))) from blank)) ⌝ }
 {
     if to == from {
@@ -257,7 +257,7 @@ pub fn stay(rows: &mut [u64; slots::ROOM], from: usize, to: usize)
 // Those that stay, over the front.
 fn compact(rows: &mut [u64; slots::ROOM], n: usize, which: Which) -> Removed
     requires { ⌜ slot.Whole (now rows) ⌝ }
-    requires { ⌜ n ≤ mostWaiting ⌝ }
+    requires { ⌜ n ≤ roomForEvents ⌝ }
     ensures { λ r. ⌜ r .count ≡ length (lose (goesOf which) (take n (eventsOf (now (rows .entry))))) ⌝ }
     ensures { λ r. ⌜ r .ordinary ≡ count ordinary (keep (goesOf which) (take n (eventsOf (now (rows .entry))))) ⌝ }
     ensures { λ _. ⌜ slot.Held (now (rows .exit)) (lists.over (lose (goesOf which) (take n (eventsOf (now (rows .entry))))) (eventsOf (now (rows .entry)))) ⌝ }
@@ -283,7 +283,7 @@ fn compact(rows: &mut [u64; slots::ROOM], n: usize, which: Which) -> Removed
 // The rows from w to n blank.
 pub fn clear(rows: &mut [u64; slots::ROOM], w: usize, n: usize)
     requires { ⌜ slot.Whole (now rows) ⌝ }
-    requires { ⌜ (w ≤ n) × (n ≤ mostWaiting) ⌝ }
+    requires { ⌜ (w ≤ n) × (n ≤ roomForEvents) ⌝ }
     ensures { λ _. ⌜ slot.Held (now (rows .exit)) (lay blank (eventsOf (now (rows .entry))) (take w (eventsOf (now (rows .entry)))) n) ⌝ }
 {
     let b = Slot::blank();
@@ -297,7 +297,7 @@ pub fn clear(rows: &mut [u64; slots::ROOM], w: usize, n: usize)
 // The events that go are taken out; the slots that they free are blank.
 pub fn remove(rows: &mut [u64; slots::ROOM], n: usize, which: Which) -> Removed
     requires { ⌜ slot.Whole (now rows) ⌝ }
-    requires { ⌜ n ≤ mostWaiting ⌝ }
+    requires { ⌜ n ≤ roomForEvents ⌝ }
     ensures { λ r. ⌜ r .count ≡ length (lose (goesOf which) (take n (eventsOf (now (rows .entry))))) ⌝ }
     ensures { λ r. ⌜ r .ordinary ≡ count ordinary (keep (goesOf which) (take n (eventsOf (now (rows .entry))))) ⌝ }
     ensures { λ _. ⌜ slot.Held (now (rows .exit)) (lay blank (eventsOf (now (rows .entry))) (lose (goesOf which) (take n (eventsOf (now (rows .entry))))) n) ⌝ }

@@ -7,7 +7,8 @@ use native.Mathlib.Omega.{arith}
 use lib.ListN.{length, getD, set, take}
 use Rattle.lists.specs.Lists.{lose, over}
 use Rattle.lists.specs.Lay.{lay}
-use Rattle.machine.specs.State.{Event, mostWaiting, ordinary}
+use Rattle.machine.specs.State.{Event, ordinary}
+use Rattle.slots.specs.Slots.{roomForEvents}
 use Rattle.slots.specs.Slots.{blank, eventsOf, Whole, Held}
 use Rattle.slots.proofs.SlotLaws.{events-long}
 use Rattle.tags.specs.Views.{ofQueue}
@@ -44,10 +45,10 @@ module _ {q : ℕ} {p : Event → Bool} {ws : List ℕ} {n : ℕ} {f : Gathered}
   pub sifting-room : w ≤ i
   sifting-room = T.taken-room p ws i w k out (s .taken)
 
-  pub sifting-keys : i < n → f .actions + n ≤ mostWaiting → g .actions < mostWaiting
+  pub sifting-keys : i < n → f .actions + n ≤ roomForEvents → g .actions < roomForEvents
   sifting-keys b r = omega (arith, going-room p (eventsOf ws) (gatheringOf f was) (f .actions) i (gatheringOf g keys) (g .actions) (s .going))
 
-  module _ (b : i < n) (o : n ≤ mostWaiting) {e : Event} (r : e ≡ getD (eventsOf out) i blank) {x : Bool} (t : x ≡ p e) where
+  module _ (b : i < n) (o : n ≤ roomForEvents) {e : Event} (r : e ≡ getD (eventsOf out) i blank) {x : Bool} (t : x ≡ p e) where
     original : e ≡ getD (eventsOf ws) i blank
     original = T.original p ws n i w k out b o (s .taken) e r x t
 

@@ -7,7 +7,8 @@ ghost use lib.ListN.{length, take};
 ghost use lib.Dec.{eqb};
 ghost use Rattle.lists.specs.Lists.{any, lose, over};
 ghost use Rattle.lists.specs.Lay.{lay};
-ghost use Rattle.machine.specs.State.{mostWaiting, ordinary};
+ghost use Rattle.machine.specs.State.{ordinary};
+ghost use Rattle.slots.specs.Slots.{roomForEvents};
 ghost use Rattle.slots.specs.Slots.{eventsOf, eventOf, blank, Whole, Held};
 ghost use Rattle.queue.specs.Queue.{goesOf};
 ghost use Rattle.ready.specs.Gathering.{noneYet, addedTo, gatheringOf, countAfter, keysAfter, Grown, Sifted};
@@ -41,8 +42,8 @@ impl Gathered {
 }
 
 // The key stands among the first n.
-fn has_key(keys: &[u16; slots::MOST_WAITING], n: usize, a: u16) -> bool
-    requires { ⌜ (length (now keys) ≡ mostWaiting) × (n ≤ mostWaiting) ⌝ }
+fn has_key(keys: &[u16; slots::ROOM_FOR_EVENTS], n: usize, a: u16) -> bool
+    requires { ⌜ (length (now keys) ≡ roomForEvents) × (n ≤ roomForEvents) ⌝ }
     ensures { λ r. ⌜ r ≡ any (eqb a) (take n (now (keys .entry))) ⌝ }
 {
     let mut i: usize = 0;
@@ -57,8 +58,8 @@ fn has_key(keys: &[u16; slots::MOST_WAITING], n: usize, a: u16) -> bool
 }
 
 // An action's key comes last, if it is one and is not there yet; how many there are then.
-fn add_key(keys: &mut [u16; slots::MOST_WAITING], n: usize, a: u16) -> usize
-    requires { ⌜ (length (now keys) ≡ mostWaiting) × (n < mostWaiting) ⌝ }
+fn add_key(keys: &mut [u16; slots::ROOM_FOR_EVENTS], n: usize, a: u16) -> usize
+    requires { ⌜ (length (now keys) ≡ roomForEvents) × (n < roomForEvents) ⌝ }
     ensures { λ r. ⌜ r ≡ countAfter (now (keys .entry)) n a ⌝ }
     ensures { λ _. ⌜ now (keys .exit) ≡ keysAfter (now (keys .entry)) n a ⌝ }
 {
@@ -73,8 +74,8 @@ fn add_key(keys: &mut [u16; slots::MOST_WAITING], n: usize, a: u16) -> usize
 }
 
 // One event more.
-fn add(keys: &mut [u16; slots::MOST_WAITING], g: Gathered, s: Slot) -> Gathered
-    requires { ⌜ (length (now keys) ≡ mostWaiting) × (g .actions < mostWaiting) ⌝ }
+fn add(keys: &mut [u16; slots::ROOM_FOR_EVENTS], g: Gathered, s: Slot) -> Gathered
+    requires { ⌜ (length (now keys) ≡ roomForEvents) × (g .actions < roomForEvents) ⌝ }
     ensures { λ r. ⌜ gatheringOf r (now (keys .exit)) ≡ addedTo (gatheringOf g (now (keys .entry))) (eventOf s) ⌝ }
     ensures { λ r. ⌜ (r .actions ≤ g .actions + 1) × Grown (g .actions) (r .actions) (now (keys .entry)) (now (keys .exit)) ⌝ }
 {
@@ -115,11 +116,11 @@ fn sift(
     rows: &mut [u64; slots::ROOM],
     n: usize,
     which: Which,
-    keys: &mut [u16; slots::MOST_WAITING],
+    keys: &mut [u16; slots::ROOM_FOR_EVENTS],
     g: Gathered,
 ) -> Taken
-    requires { ⌜ Whole (now rows) × (n ≤ mostWaiting) ⌝ }
-    requires { ⌜ (length (now keys) ≡ mostWaiting) × (g .actions + n ≤ mostWaiting) ⌝ }
+    requires { ⌜ Whole (now rows) × (n ≤ roomForEvents) ⌝ }
+    requires { ⌜ (length (now keys) ≡ roomForEvents) × (g .actions + n ≤ roomForEvents) ⌝ }
     ensures { λ r. ⌜ Sifted (which .queue) (goesOf which) (take n (eventsOf (now (rows .entry)))) g (now (keys .entry)) r (now (keys .exit)) ⌝ }
     ensures { λ _. ⌜ Held (now (rows .exit)) (over (lose (goesOf which) (take n (eventsOf (now (rows .entry))))) (eventsOf (now (rows .entry)))) ⌝ }
 {
@@ -158,11 +159,11 @@ pub fn take_out(
     rows: &mut [u64; slots::ROOM],
     n: usize,
     which: Which,
-    keys: &mut [u16; slots::MOST_WAITING],
+    keys: &mut [u16; slots::ROOM_FOR_EVENTS],
     g: Gathered,
 ) -> Taken
-    requires { ⌜ Whole (now rows) × (n ≤ mostWaiting) ⌝ }
-    requires { ⌜ (length (now keys) ≡ mostWaiting) × (g .actions + n ≤ mostWaiting) ⌝ }
+    requires { ⌜ Whole (now rows) × (n ≤ roomForEvents) ⌝ }
+    requires { ⌜ (length (now keys) ≡ roomForEvents) × (g .actions + n ≤ roomForEvents) ⌝ }
     ensures { λ r. ⌜ Sifted (which .queue) (goesOf which) (take n (eventsOf (now (rows .entry)))) g (now (keys .entry)) r (now (keys .exit)) ⌝ }
     ensures { λ _. ⌜ Held (now (rows .exit)) (lay blank (eventsOf (now (rows .entry))) (lose (goesOf which) (take n (eventsOf (now (rows .entry))))) n) ⌝ }
 {

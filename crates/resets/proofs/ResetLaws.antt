@@ -18,6 +18,7 @@ use Rattle.lists.specs.Rows.{tab, tab-length, tab-at, tab-set}
 use Rattle.lists.specs.Steps.{from-next, from-end}
 use Rattle.lists.specs.Every.{set-self, count-split}
 use Rattle.rows.specs.Bytes.{Image}
+use Rattle.rows.specs.Limits.{limits}
 use Rattle.rows.specs.Rows.{actionScope, isLogical}
 use Rattle.tags.specs.Tags.{Clock, freshClock}
 use Rattle.table.specs.Check.{isTable}
@@ -27,10 +28,10 @@ use Rattle.store.specs.Store.{Store, ofAction, bucketOf}
 use Rattle.store_calls.specs.declared.Counts as store
 use Rattle.store_calls.specs.Lent.{storeOf, Laid}
 use Rattle.machine.specs.Table.{scopes, actions}
-use Rattle.machine.specs.State.{Event, State, mostWaiting, ordinary, without, withModes, withScopes, withStore}
+use Rattle.machine.specs.State.{Event, State, ordinary, without, withModes, withScopes, withStore}
 use Rattle.machine.specs.Transition.{dropped, resetScopes, resetStore, resetModes, step1}
 use Rattle.slots.specs.Slots as slot
-use Rattle.slots.specs.Slots.{eventsOf}
+use Rattle.slots.specs.Slots.{eventsOf, roomForEvents}
 use Rattle.scopes.specs.Scopes as scope
 use Rattle.scopes.specs.Scopes.{Scope, mostScopes, scopesOf, blank}
 use Rattle.lens.specs.declared.Counts.{Counts}
@@ -53,13 +54,13 @@ module _ (p : Event → Bool) (es : List ℕ) (c : Counts) (w : Waits es c) wher
     abbrev after : Counts
     after = record { waiting = m; work = c .work - k }
 
-    few : length here ≤ mostWaiting
+    few : length here ≤ roomForEvents
     few = rw (← (waits-queued es c w .waiting)) (w .few)
 
     now-queued : Queued (lose p here) (c .work - k) out after
     now-queued = record { held = queued-laid here (c .work) es c (lose p here) out (waits-queued es c w) few o; waiting = e; work = refl }
 
-    fewer : length (lose p here) ≤ mostWaiting
+    fewer : length (lose p here) ≤ roomForEvents
     fewer = omega (arith, lose-shorter p here, few)
 
     pub gone-waits : Waits out after
@@ -136,17 +137,22 @@ holds-front img s r h = rw (scopes-are img s r h) (h .scoped)
 
 -- ---- values
 
-cleared-fits : (st : Store) (a : ℕ) → Fits st → Fits (S.cleared st a)
+cleared-fits : (limit : ℕ) (st : Store) (a : ℕ) → Fits limit st → Fits limit (S.cleared st a)
 unfolding S.cleared
-cleared-fits st a f = record { values = omega (arith, f .values, lose-shorter (ofAction a) (st .values)); buckets = omega (arith, f .buckets, lose-shorter (bucketOf a) (st .buckets)) }
+cleared-fits limit st a f =
+    record {
+      values = omega (arith, f .values, lose-shorter (ofAction a) (st .values));
+      buckets = omega (arith, f .buckets, lose-shorter (bucketOf a) (st .buckets));
+      room = f .room;
+    }
 
-module _ (img : Image) (marks : List ℕ) (vs bs : List ℕ) (h : store.Counts) (k : Keeps vs bs h) (a : ℕ) where
+module _ (img : Image) (marks : List ℕ) (vs bs : List ℕ) (h : store.Counts) (k : Keeps (limits img .held) vs bs h) (a : ℕ) where
   pub clear-yes : {b : Bool} (vs-end bs-end : List ℕ) (m : store.Counts) → b ≡ (has marks (actionScope img a) && isLogical img a) → b ≡ true →
       Laid vs bs h (S.cleared (storeOf vs bs h) a) vs-end bs-end m →
-      Keeps vs-end bs-end m × (storeOf vs-end bs-end m ≡ clearStep img marks (storeOf vs bs h) a)
+      Keeps (limits img .held) vs-end bs-end m × (storeOf vs-end bs-end m ≡ clearStep img marks (storeOf vs bs h) a)
   unfolding clearStep
   clear-yes vs-end bs-end m e f l =
-      let g = cleared-fits (storeOf vs bs h) a (k .fits) in
+      let g = cleared-fits (limits img .held) (storeOf vs bs h) a (k .fits) in
       (laid-holds vs bs h k (S.cleared (storeOf vs bs h) a) vs-end bs-end m g l, laid-is vs bs h k (S.cleared (storeOf vs bs h) a) vs-end bs-end m g l ∙ sym (rw (sym e ∙ f)))
 
   pub clear-no : {b : Bool} → b ≡ (has marks (actionScope img a) && isLogical img a) → b ≡ false → storeOf vs bs h ≡ clearStep img marks (storeOf vs bs h) a
@@ -272,7 +278,7 @@ module _ (img : Image) (marks : List ℕ) (ins : List Bool) (inner : (i : ℕ) �
         scopes-hold img s r h l xs (reset-length ins (s .scopes) ∙ h .scopes-long)
         (subst (λ x. Scoped x xs) (ap (zeroedScopes marks) (scopes-are img s r h) ∙ scopes-after (s .scopes)) z)
 
-    pub holds-cleared : Scoped (zeroedScopes marks (take (scopes img) (scopesOf (r .scopes)))) xs → Waits es c → Keeps vs bs k →
+    pub holds-cleared : Scoped (zeroedScopes marks (take (scopes img) (scopesOf (r .scopes)))) xs → Waits es c → Keeps (limits img .held) vs bs k →
         storeOf vs bs k ≡ foldl (clearStep img marks) (storeOf (r .values) (r .buckets) (r .ledger .held)) (from 0 (actions img)) →
         ((t : State) → droppedIn marks (queueIn t (r .events) (r .ledger .counts)) ≡ queueIn t es c) →
         Holds img (cleared img ins s) room

@@ -6,6 +6,7 @@ ghost use mathlib.Core.List.{map};
 ghost use lib.ListN.{getD, set, take};
 ghost use Rattle.lists.specs.Lent.{was, is};
 ghost use Rattle.lists.specs.Lists.{foldl, from};
+ghost use Rattle.rows.specs.Limits.{limits};
 ghost use Rattle.rows.specs.Rows.{actionScope, isLogical};
 ghost use Rattle.key_set.specs.Sets.{has};
 ghost use Rattle.table.specs.Check.{isTable};
@@ -125,8 +126,8 @@ fn clear_if(
     held: store_calls::Counts,
     a: u16,
 ) -> store_calls::Counts
-    requires { ⌜ Keeps (now values) (now buckets) held ⌝ }
-    ensures { λ r. ⌜ Keeps (is values) (is buckets) r ⌝ }
+    requires { ⌜ Keeps (limits (now image) .held) (now values) (now buckets) held ⌝ }
+    ensures { λ r. ⌜ Keeps (limits (was image) .held) (is values) (is buckets) r ⌝ }
     ensures { λ r. ⌜ storeOf (is values) (is buckets) r ≡ clearStep (was image) (inside .words) (storeOf (was values) (was buckets) held) a ⌝ }
 {
     if is_cleared(image, inside, a) {
@@ -142,8 +143,8 @@ fn clear_actions(
     inside: KeySet,
     held: store_calls::Counts,
 ) -> store_calls::Counts
-    requires { ⌜ Keeps (now values) (now buckets) held ⌝ }
-    ensures { λ r. ⌜ Keeps (is values) (is buckets) r ⌝ }
+    requires { ⌜ Keeps (limits (now image) .held) (now values) (now buckets) held ⌝ }
+    ensures { λ r. ⌜ Keeps (limits (was image) .held) (is values) (is buckets) r ⌝ }
     ensures { λ r. ⌜ storeOf (is values) (is buckets) r ≡ foldl (clearStep (was image) (inside .words)) (storeOf (was values) (was buckets) held) (from 0 (actions (was image))) ⌝ }
 {
     let n = rows::count(image, rows::ACTION);

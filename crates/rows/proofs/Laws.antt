@@ -1,20 +1,23 @@
 -- Laws of the image's bytes, kinds and rows, in the form that the code meets them. Assumes nothing.
-use mathlib.Core.Path.{_≡_, sym}
+use mathlib.Core.Path.{_≡_, refl, sym}
 use mathlib.Core.Bool.{Bool, _&&_}
-use Prim.Native.Nat.{ℕ, suc, _+_, _-_, _*_, _^_, _≤_, _<_}
+use mathlib.Core.List.{List, [], _∷_}
+use Prim.Native.Nat.{ℕ, zero, suc, _+_, _-_, _*_, _^_, _≤_, _<_}
 use native.Mathlib.Numerals.{add-one}
-use native.Mathlib.Nat.{mul-le-mul, le-of-lt, pow-le-pow-right}
+use native.Mathlib.Nat.{le-trans, mul-le-mul, le-of-lt, pow-le-pow-right}
 use native.Mathlib.Omega.{arith}
 use lib.Dec.{T, leb, leb→le, lit<}
 use lib.ListN.{length, getD, List·getD-eq-default}
 use Rattle.lists.specs.Tests.{T-left, T-right}
 use Rattle.lists.specs.Lists.{every, entry-at}
 use Rattle.rows.specs.Bytes.{Image, be, be-room}
-use Rattle.rows.specs.Kinds.{kind, kinds, widest, kindOf, count, place}
+use Rattle.rows.specs.Kinds.{kind, kinds, kindCount, widest, kindOf, count, place}
+use Rattle.rows.specs.Limits.{version1, versions, limits, most, limits-fit}
 use Rattle.rows.specs.Rows.{rowPlace, field}
 use Rattle.rows.specs.Fields.{fields, fieldTable, fieldsOf, fieldOf}
 use Rattle.rows.specs.declared.Fields.{Fields}
 use Rattle.rows.specs.declared.Kind.{Kind}
+use Rattle.rows.specs.declared.Limits.{Limits}
 
 -- past the end stand zeros
 module _ (s : Image) (at k : ℕ) where
@@ -33,16 +36,41 @@ thin q = leb (q .width) widest
 
 pub width-le : (k : ℕ) → kindOf k .width ≤ widest
 unfolding kinds kindOf thin every
-width-le k = leb→le (kindOf k .width) widest (entry-at thin kinds (kind 0 0 0) tt tt k)
+width-le k = leb→le (kindOf k .width) widest (entry-at thin kinds (kind 0 0) tt tt k)
 
 -- no kind past the nine has rows
-pub kind-past : (k : ℕ) → length kinds ≤ k → kind 0 0 0 ≡ kindOf k
+pub kind-past : (k : ℕ) → length kinds ≤ k → kind 0 0 ≡ kindOf k
 unfolding kindOf
-kind-past k h = sym (List·getD-eq-default kinds (kind 0 0 0) h)
+kind-past k h = sym (List·getD-eq-default kinds (kind 0 0) h)
 
 pub fields-past : (k : ℕ) → length fieldTable ≤ k → fields 0 0 0 ≡ fieldsOf k
 unfolding fieldsOf
 fields-past k h = sym (List·getD-eq-default fieldTable (fields 0 0 0) h)
+
+-- what a row in the table holds is the same, whatever stands past its end
+same-entry : (l : List Limits) (k : ℕ) (d e : Limits) → k < length l → getD l k d ≡ getD l k e
+same-entry [] k d e h = absurd (omega arith)
+same-entry (x ∷ l) zero d e h = refl
+same-entry (x ∷ l) (suc k) d e h = same-entry l k d e (omega arith)
+
+-- the limits by the version that the code read
+module _ (s : Image) {v : ℕ} (e : v ≡ be 1 s 4) where
+  pub limits-none : v < 1 → version1 ≡ limits s
+  unfolding limits versions
+  limits-none h = let z : be 1 s 4 - 1 ≡ 0 = omega arith in rw z
+
+  pub limits-row : (d : Limits) → v - 1 < length versions → getD versions (v - 1) d ≡ limits s
+  unfolding limits
+  limits-row d h = rw (← e) (same-entry versions (v - 1) d version1 h)
+
+  pub limits-past : length versions ≤ v - 1 → version1 ≡ limits s
+  unfolding limits
+  limits-past h = rw (← e) (sym (List·getD-eq-default versions version1 h))
+
+-- no version has rows of a kind past the nine
+pub most-past : (s : Image) (k : ℕ) → kindCount ≤ k → 0 ≡ most s k
+unfolding versions every
+most-past s k h = sym (List·getD-eq-default (limits s .most) 0 (le-trans (limits-fit (λ l. length (l .most)) kindCount tt s) h))
 
 -- no field has more than eight bytes
 slim : Fields → Bool

@@ -5,21 +5,21 @@ use lib.ListN.{getD}
 use Rattle.rows.specs.Bytes.{Image, be}
 use Rattle.rows.specs.declared.Kind.{Kind}
 
-abbrev pub kind : ℕ → ℕ → ℕ → Kind
-kind l m w = record { least = l; most = m; width = w }
+abbrev pub kind : ℕ → ℕ → Kind
+kind l w = record { least = l; width = w }
 
--- "Kind | Most | Row (bytes)", and the least: at least one scope and one reactor
+-- "Kind | Row (bytes)", and the least: at least one scope and one reactor; the most are in Limits
 unfoldable pub kinds : List Kind
 kinds =
-    kind 1 32 6 ∷
-    kind 1 16 4 ∷
-    kind 0 32 4 ∷
-    kind 0 128 1 ∷
-    kind 0 64 3 ∷
-    kind 0 256 4 ∷
-    kind 0 64 6 ∷
-    kind 0 64 4 ∷
-    kind 0 64 14 ∷ []
+    kind 1 6 ∷
+    kind 1 4 ∷
+    kind 0 4 ∷
+    kind 0 1 ∷
+    kind 0 3 ∷
+    kind 0 4 ∷
+    kind 0 6 ∷
+    kind 0 4 ∷
+    kind 0 14 ∷ []
 
 -- their numbers, in the order of the rows
 abbrev pub scope : ℕ
@@ -58,7 +58,7 @@ widest = 14
 
 -- no kind past the nine has rows
 unfoldable pub kindOf : ℕ → Kind
-kindOf k = getD kinds k (kind 0 0 0)
+kindOf k = getD kinds k (kind 0 0)
 
 -- "Length (4 bytes, counting all that follows), version byte 1, nine 2-byte counts"
 unfoldable pub countPlace : ℕ → ℕ

@@ -1,5 +1,6 @@
 pub mod Bytes
 pub mod Kinds
+pub mod Limits
 pub mod Rows
 pub mod Fields
 pub mod Lineage

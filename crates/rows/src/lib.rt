@@ -1,6 +1,7 @@
 // The table image's bytes, counts and rows, and the way up from a scope: document 01, "nine 2-byte counts, then rows in this order".
 // Every reader is total: past the end stand zeros.
-// A kind's most and width are in `TABLE`, its fields in `FIELDS`; a new field gets its name here, and callers use the names.
+// A kind's least and width are in `TABLE`, its fields in `FIELDS`; a new field gets its name here, and callers use the names.
+// All limits are in `LIMITS`, a row for each version: a limit is asked of the image, and is not the length of an array.
 ghost use mathlib.Core.Path.{_≡_};
 ghost use Prim.Native.Nat.{_+_, _*_, _^_, _≤_, _<_};
 ghost use lib.ListN.{getD};
@@ -8,6 +9,7 @@ ghost use Rattle.rows.specs.Bytes.{be};
 ghost use Rattle.rows.specs.Kinds.{widest, kindOf, countPlace, count as countOf, place as placeOf};
 ghost use Rattle.rows.specs.Rows.{rowPlace, field, isLogical};
 ghost use Rattle.rows.specs.Fields.{fieldsOf, fieldOf};
+ghost use Rattle.rows.specs.Limits.{limits, most};
 ghost use Rattle.rows.specs.Rows as fields;
 ghost use Rattle.rows.specs.Lineage.{inSubtree, under as underOf};
 
@@ -41,61 +43,44 @@ pub const TIMER: u8 = 8;
 
 pub const KINDS: u8 = 9;
 
-// A kind of row: the least and the most rows of it, and a row's bytes.
+// How many versions of the image there are.
+pub const VERSIONS: usize = 1;
+
+// A kind of row: the least rows of it, and a row's bytes.
 pub struct Kind {
     pub least: u16,
-    pub most: u16,
     pub width: usize,
 }
 
-// The limits and widths of version 1: they drive the count checks, the total length and each row's place.
+// The leasts and widths, of every version: with `LIMITS` they drive the count checks, the total length and each row's place.
 const TABLE: [Kind; KINDS as usize] = [
-    Kind {
-        least: 1,
-        most: 32,
-        width: 6,
-    },
-    Kind {
-        least: 1,
-        most: 16,
-        width: 4,
-    },
+    Kind { least: 1, width: 6 },
+    Kind { least: 1, width: 4 },
+    Kind { least: 0, width: 4 },
+    Kind { least: 0, width: 1 },
+    Kind { least: 0, width: 3 },
+    Kind { least: 0, width: 4 },
+    Kind { least: 0, width: 6 },
+    Kind { least: 0, width: 4 },
     Kind {
         least: 0,
-        most: 32,
-        width: 4,
-    },
-    Kind {
-        least: 0,
-        most: 128,
-        width: 1,
-    },
-    Kind {
-        least: 0,
-        most: 64,
-        width: 3,
-    },
-    Kind {
-        least: 0,
-        most: 256,
-        width: 4,
-    },
-    Kind {
-        least: 0,
-        most: 64,
-        width: 6,
-    },
-    Kind {
-        least: 0,
-        most: 64,
-        width: 4,
-    },
-    Kind {
-        least: 0,
-        most: 64,
         width: 14,
     },
 ];
+
+// How many rows of each kind there may be, how many events may wait, and how many values and how many buckets may be held.
+pub struct Limits {
+    pub most: [u16; KINDS as usize],
+    pub waiting: usize,
+    pub held: usize,
+}
+
+// The limits of each version, version 1 first.
+const LIMITS: [Limits; VERSIONS] = [Limits {
+    most: [32, 16, 32, 128, 64, 256, 64, 64, 64],
+    waiting: 256,
+    held: 256,
+}];
 
 // The bytes of a row's first, second and third field, 0 for one that the kind does not have.
 pub struct Fields {
@@ -212,7 +197,7 @@ pub fn eight_bytes(image: &[u8], at: usize) -> u64
     number(image, at, 8)
 }
 
-// The kind's limits and width; a kind past the nine has no rows.
+// The kind's least and width; a kind past the nine has no rows.
 pub fn kind_at(k: u8) -> Kind
     ensures { λ r. ⌜ (r ≡ kindOf k) × (r .width ≤ widest) ⌝ }
 {
@@ -220,11 +205,50 @@ pub fn kind_at(k: u8) -> Kind
     if k < KINDS {
         return TABLE[j];
     }
-    Kind {
-        least: 0,
-        most: 0,
-        width: 0,
+    Kind { least: 0, width: 0 }
+}
+
+// The limits of the image's version; of one that there is not, which the check refuses, those of version 1.
+fn limits_of(image: &[u8]) -> Limits
+    ensures { λ r. ⌜ r ≡ limits (now (image .entry)) ⌝ }
+{
+    let version = one_byte(image, 4) as usize;
+    if version < 1 {
+        return LIMITS[0];
     }
+    let row = version - 1;
+    if row < VERSIONS {
+        return LIMITS[row];
+    }
+    LIMITS[0]
+}
+
+// How many events may wait.
+pub fn most_waiting(image: &[u8]) -> usize
+    ensures { λ r. ⌜ r ≡ limits (now (image .entry)) .waiting ⌝ }
+{
+    let limits = limits_of(image);
+    limits.waiting
+}
+
+// How many values, and how many buckets, may be held.
+pub fn most_held(image: &[u8]) -> usize
+    ensures { λ r. ⌜ r ≡ limits (now (image .entry)) .held ⌝ }
+{
+    let limits = limits_of(image);
+    limits.held
+}
+
+// How many rows of the kind k there may be.
+pub fn most_rows(image: &[u8], k: u8) -> u16
+    ensures { λ r. ⌜ r ≡ most (now (image .entry)) k ⌝ }
+{
+    let limits = limits_of(image);
+    let j = k as usize;
+    if k < KINDS {
+        return limits.most[j];
+    }
+    0
 }
 
 // The bytes of each field of a row of the kind k; a kind past the nine has none.

@@ -97,21 +97,12 @@ fn belongs(image: &[u8], key: u16, subtree: bool, x: u16) -> bool
     x == key
 }
 
-fn insert_if(set: KeySet, test: bool, key: u16) -> KeySet
-    ensures { λ r. ⌜ r .words ≡ cond test (insertKey (set .words) key) (set .words) ⌝ }
-{
-    if test {
-        return set.insert(key as usize);
-    }
-    set
-}
-
 // The set with the reaction of a row whose first field is x, if that is the key, or a scope in its subtree.
 fn with_row(image: &[u8], key: u16, subtree: bool, x: u16, reaction: u16, set: KeySet) -> KeySet
     ensures { λ r. ⌜ r .words ≡ cond (belongsTo (now (image .entry)) key subtree x) (insertKey (set .words) reaction) (set .words) ⌝ }
 {
     let test = belongs(image, key, subtree, x);
-    insert_if(set, test, reaction)
+    set.insert_if(test, reaction as usize)
 }
 
 // The reactions of so many rows that begin at the place and have their reaction at the byte `gap`, where they end. One reader goes from row to row.

@@ -1,30 +1,24 @@
 -- What the word functions of scopes go by. Assumes nothing.
-use mathlib.Core.Bool.{Bool, true, false}
 use mathlib.Core.Path.{_≡_, refl, sym, _∙_}
 use mathlib.Core.List.{List, [], _∷_}
 use Prim.Native.Nat.{ℕ, _+_, _*_, _/_, _%_, _<_, _≤_}
 use native.Mathlib.Omega.{arith}
 use native.Mathlib.Nat.{mod-eq-of-lt}
-use lib.ListN.{length, getD, set, replicate}
-use lib.Dec.{eqb}
+use lib.ListN.{getD, set, replicate}
+use Rattle.lists.specs.Lists.{every}
+use Rattle.lists.specs.Tests.{bitOf, bit-small, bit-back}
 use Rattle.lists.specs.Rows.{tab, stores}
 use Rattle.lists.specs.Held as H
-use Rattle.rows.specs.Kinds.{kinds, kindOf, scope}
-use Rattle.scopes.specs.Scopes.{Scope, mostScopes, scopeWords, blank, bitOf, marksWord, encode, decode, encode-long, scopesOf, Whole, Held}
+use Rattle.rows.specs.Bytes.{Image}
+use Rattle.rows.specs.Kinds.{scope}
+use Rattle.rows.specs.Limits.{versions, most, limits-fit}
+use Rattle.scopes.specs.Scopes.{Scope, mostScopes, scopeWords, blank, marksWord, encode, decode, encode-long, scopesOf, Whole, Held}
 
 -- what is known of a scope in the code
 pub record Proper (s : Scope) : Type 0 where
   pub global : s .clock .G .microstep < 4294967296
   pub local : s .clock .L .microstep < 4294967296
   pub suspended : s .clock .S .microstep < 4294967296
-
-bit-small : (b : Bool) → bitOf b < 2
-bit-small true = omega arith
-bit-small false = omega arith
-
-bit-back : (b : Bool) {n : ℕ} → n ≡ bitOf b → eqb n 1 ≡ b
-bit-back true e = rw e
-bit-back false e = rw e
 
 -- three marks in one number
 module _ (w a e : ℕ) (hw : w < 2) (ha : a < 2) (he : e < 2) where
@@ -85,6 +79,6 @@ blank-held =
     }
 
 -- as many as a table's count allows
-pub scopes-fit : kindOf scope .most ≡ mostScopes
-unfolding kindOf kinds
-scopes-fit = refl
+pub scopes-fit : (s : Image) → most s scope ≤ mostScopes
+unfolding versions every
+scopes-fit s = limits-fit (λ l. getD (l .most) scope 0) mostScopes tt s

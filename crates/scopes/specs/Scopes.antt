@@ -1,10 +1,11 @@
 -- A scope as a row of words, and all scopes of an array of words: an instance of `Held` of crate lists. Any words are scopes. Assumes nothing.
-use mathlib.Core.Bool.{Bool, true, false, cond}
+use mathlib.Core.Bool.{false}
 use mathlib.Core.Path.{_≡_, refl}
 use mathlib.Core.List.{List, [], _∷_}
 use Prim.Native.Nat.{ℕ, _+_, _*_, _/_, _%_}
 use lib.ListN.{length, getD}
 use lib.Dec.{eqb}
+use Rattle.lists.specs.Tests.{bitOf}
 use Rattle.lists.specs.Held as H
 use Rattle.tags.specs.Tags.{at}
 use Rattle.tags.specs.Views.{ofClock}
@@ -27,9 +28,6 @@ blank = freshScope false
 
 abbrev pub scopeWords : ℕ
 scopeWords = 7
-
-abbrev pub bitOf : Bool → ℕ
-bitOf b = cond b 1 0
 
 -- allowed, active and ever active in one word
 unfoldable pub marksWord : Scope → ℕ

@@ -3,7 +3,7 @@
 ghost use mathlib.Core.Path.{_≡_};
 ghost use Prim.Native.Nat.{_<_};
 ghost use lib.ListN.{getD, set, replicate};
-ghost use Rattle.scopes.specs.Scopes.{mostScopes, scopeOf, blank, bitOf, marksWord, scopesOf, Whole, Held};
+ghost use Rattle.scopes.specs.Scopes.{mostScopes, scopeOf, blank, marksWord, scopesOf, Whole, Held};
 use tags::GlobalTag;
 use tags::LocalTag;
 use tags::ScopeClock;
@@ -21,15 +21,6 @@ pub struct Scope {
     pub clock: ScopeClock,
     pub active: bool,
     pub ever: bool,
-}
-
-fn bit(b: bool) -> u64
-    ensures { λ r. ⌜ (r ≡ bitOf b) × (r < 2) ⌝ }
-{
-    if b {
-        return 1;
-    }
-    0
 }
 
 impl Scope {
@@ -55,9 +46,9 @@ fn marks_word(s: Scope) -> u64
     ensures { λ r. ⌜ r ≡ marksWord (scopeOf s) ⌝ }
 {
     let c = s.clock;
-    let allowed = bit(c.allowed);
-    let active = bit(s.active);
-    let ever = bit(s.ever);
+    let allowed = lists::bit(c.allowed);
+    let active = lists::bit(s.active);
+    let ever = lists::bit(s.ever);
     allowed + active * 2 + ever * 4
 }
 

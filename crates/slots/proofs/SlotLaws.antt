@@ -1,19 +1,16 @@
 -- What the two word functions go by, and what others may ask of slots in rows. Assumes nothing.
-use mathlib.Core.Bool.{Bool, true, false}
 use mathlib.Core.Path.{_≡_, refl, sym, ap, _∙_}
 use mathlib.Core.List.{List, [], _∷_}
 use Prim.Native.Nat.{ℕ, _+_, _*_, _/_, _%_, _<_, _≤_}
 use native.Mathlib.Omega.{arith}
 use native.Mathlib.Nat.{mod-eq-of-lt}
 use lib.ListN.{length, getD, set, replicate}
-use lib.Dec.{eqb}
+use Rattle.lists.specs.Tests.{bitOf, bit-small, bit-back}
 use Rattle.lists.specs.Rows.{tab, stores}
 use Rattle.lists.specs.Held as H
 use Rattle.key_set.specs.Sets.{wordCount}
-use Rattle.tags.specs.Tags.{at}
-use Rattle.machine.specs.State.{Event, mostWaiting}
-use Rattle.slots.specs.Slots.{slotWords, blank, bitOf, headWord, stepsWord, encode, decode, encode-long, eventOf, eventsOf, Whole, Held, IsDue}
-use Rattle.slots.specs.declared.Slot.{Slot}
+use Rattle.machine.specs.State.{Event}
+use Rattle.slots.specs.Slots.{roomForEvents, slotWords, blank, headWord, stepsWord, encode, decode, encode-long, eventsOf, Whole, Held, IsDue}
 use Rattle.slots.specs.declared.Due.{Due}
 
 -- what is known of an event in the code
@@ -23,14 +20,6 @@ pub record Proper (e : Event) : Type 0 where
   pub action : e .action < 65536
   pub stored : e .stored .microstep < 4294967296
   pub reactions : length (e .reactions) ≡ wordCount
-
-bit-small : (b : Bool) → bitOf b < 2
-bit-small true = omega arith
-bit-small false = omega arith
-
-bit-back : (b : Bool) {n : ℕ} → n ≡ bitOf b → eqb n 1 ≡ b
-bit-back true e = rw e
-bit-back false e = rw e
 
 -- a number of three flags above two halves
 module _ (q a t c n : ℕ) (hq : q < 65536) (ha : a < 65536) (ht : t < 2) (hc : c < 2) (hn : n < 2) where
@@ -90,47 +79,47 @@ decode-encode e p =
 -- ---- the returns of the two word functions
 
 module _ (ws : List ℕ) (k : ℕ) where
-  pub read-past : {r : Event} → r ≡ blank → mostWaiting ≤ k → r ≡ getD (eventsOf ws) k blank
-  read-past e h = e ∙ sym (H.thing-past decode encode slotWords mostWaiting encode-long ws k blank h)
+  pub read-past : {r : Event} → r ≡ blank → roomForEvents ≤ k → r ≡ getD (eventsOf ws) k blank
+  read-past e h = e ∙ sym (H.thing-past decode encode slotWords roomForEvents encode-long ws k blank h)
 
-  pub read-there : k < mostWaiting → decode (tab (λ j. getD ws (k * slotWords + j) 0) 0 slotWords) ≡ getD (eventsOf ws) k blank
-  read-there h = sym (H.thing-get decode encode slotWords mostWaiting encode-long ws k blank h)
+  pub read-there : k < roomForEvents → decode (tab (λ j. getD ws (k * slotWords + j) 0) 0 slotWords) ≡ getD (eventsOf ws) k blank
+  read-there h = sym (H.thing-get decode encode slotWords roomForEvents encode-long ws k blank h)
 
   pub due-there :
-      {d : Due} → k < mostWaiting → d .queue ≡ getD ws (k * slotWords + 0) 0 % 65536 → d .tag .0 ≡ getD ws (k * slotWords + 1) 0 →
+      {d : Due} → k < roomForEvents → d .queue ≡ getD ws (k * slotWords + 0) 0 % 65536 → d .tag .0 ≡ getD ws (k * slotWords + 1) 0 →
       d .tag .1 ≡ getD ws (k * slotWords + 2) 0 % 4294967296 → IsDue d (getD (eventsOf ws) k blank)
   unfolding decode tab
   due-there h q o m = record { queue = q ∙ ap (λ e. e .queue) (read-there h); tag = rw (o, m) (ap (λ e. e .tag) (read-there h)) }
 
   module _ (s : Event) (h : Whole ws) where
-    pub put-none : mostWaiting ≤ k → Held ws (set (eventsOf ws) k s)
-    put-none b = H.held-past decode encode slotWords mostWaiting encode-long ws k s h b
+    pub put-none : roomForEvents ≤ k → Held ws (set (eventsOf ws) k s)
+    put-none b = H.held-past decode encode slotWords roomForEvents encode-long ws k s h b
 
     pub put-there :
-        {t m : ℕ} → t ≡ headWord s → m ≡ stepsWord s → Proper s → k < mostWaiting → {out : List ℕ} →
+        {t m : ℕ} → t ≡ headWord s → m ≡ stepsWord s → Proper s → k < roomForEvents → {out : List ℕ} →
         out ≡ stores ws (k * slotWords) 0 (t ∷ s .tag .offset ∷ m ∷ s .stored .offset ∷ getD (s .reactions) 0 0 ∷ getD (s .reactions) 1 0 ∷ []) →
         Held out (set (eventsOf ws) k s)
     unfolding encode
     put-there {t} {m} e f p b o =
         let row = t ∷ s .tag .offset ∷ m ∷ s .stored .offset ∷ getD (s .reactions) 0 0 ∷ getD (s .reactions) 1 0 ∷ [] in
         let q : row ≡ encode s = rw (e, f) in
-        H.held-stores decode encode slotWords mostWaiting encode-long ws k s row h (decode-encode s p) b q o
+        H.held-stores decode encode slotWords roomForEvents encode-long ws k s row h (decode-encode s p) b q o
 
 -- ---- the returns of `copy_slot` and `blank_rows`
 
 pub copied :
-    (ws : List ℕ) (from to : ℕ) {out : List ℕ} → Whole ws → from < mostWaiting → to < mostWaiting →
+    (ws : List ℕ) (from to : ℕ) {out : List ℕ} → Whole ws → from < roomForEvents → to < roomForEvents →
     out ≡ stores ws (to * slotWords) 0 (tab (λ j. getD ws (from * slotWords + j) 0) 0 slotWords) →
     Held out (set (eventsOf ws) to (getD (eventsOf ws) from blank))
-copied ws from to h f t o = H.held-copy decode encode slotWords mostWaiting encode-long ws from to blank h f t o
+copied ws from to h f t o = H.held-copy decode encode slotWords roomForEvents encode-long ws from to blank h f t o
 
-pub blank-held : Held (replicate (mostWaiting * slotWords) 0) (replicate mostWaiting blank)
+pub blank-held : Held (replicate (roomForEvents * slotWords) 0) (replicate roomForEvents blank)
 unfolding decode encode headWord stepsWord
 blank-held =
     record {
-      whole = H.whole-zero decode encode slotWords mostWaiting encode-long blank refl refl;
-      things = H.zero-things decode encode slotWords mostWaiting encode-long blank refl refl (mostWaiting * slotWords);
+      whole = H.whole-zero decode encode slotWords roomForEvents encode-long blank refl refl;
+      things = H.zero-things decode encode slotWords roomForEvents encode-long blank refl refl (roomForEvents * slotWords);
     }
 
-pub events-long : (ws : List ℕ) → length (eventsOf ws) ≡ mostWaiting
-events-long ws = H.things-length decode encode slotWords mostWaiting encode-long ws
+pub events-long : (ws : List ℕ) → length (eventsOf ws) ≡ roomForEvents
+events-long ws = H.things-length decode encode slotWords roomForEvents encode-long ws

@@ -1,17 +1,29 @@
 -- An event as a row of words, and all events of an array of words: an instance of `Held` of crate lists. Any words are events. Assumes nothing.
-use mathlib.Core.Bool.{Bool, true, false, cond}
+use mathlib.Core.Bool.{false}
 use mathlib.Core.Path.{_≡_, refl}
 use mathlib.Core.List.{List, [], _∷_}
-use Prim.Native.Nat.{ℕ, _+_, _*_, _/_, _%_}
-use lib.ListN.{length, getD, replicate}
+use Prim.Native.Nat.{ℕ, _+_, _*_, _/_, _%_, _≤_}
+use lib.ListN.{length, getD}
 use lib.Dec.{eqb}
+use Rattle.lists.specs.Lists.{every}
+use Rattle.lists.specs.Tests.{bitOf}
 use Rattle.lists.specs.Held as H
+use Rattle.rows.specs.Bytes.{Image}
+use Rattle.rows.specs.Limits.{versions, limits, limits-fit}
 use Rattle.key_set.specs.Sets.{noKeys, wordCount}
 use Rattle.tags.specs.Tags.{at, zeroTag}
 use Rattle.tags.specs.Views.{ofGlobal, ofQueue}
-use Rattle.machine.specs.State.{Event, mostWaiting}
+use Rattle.machine.specs.State.{Event}
 use Rattle.slots.specs.declared.Slot.{Slot}
 use Rattle.slots.specs.declared.Due.{Due}
+
+-- how many events the array has room for: no fewer than any image lets wait
+abbrev pub roomForEvents : ℕ
+roomForEvents = 256
+
+pub waiting-fits : (s : Image) → limits s .waiting ≤ roomForEvents
+unfolding versions every
+waiting-fits s = limits-fit (λ l. l .waiting) roomForEvents tt s
 
 -- the event in a slot
 abbrev pub eventOf : Slot → Event
@@ -41,9 +53,6 @@ blank =
 
 abbrev pub slotWords : ℕ
 slotWords = 6
-
-abbrev pub bitOf : Bool → ℕ
-bitOf b = cond b 1 0
 
 -- queue, action and the three flags in one word
 unfoldable pub headWord : Event → ℕ
@@ -75,12 +84,12 @@ encode-long e = refl
 
 -- the events that an array of words holds
 abbrev pub eventsOf : List ℕ → List Event
-eventsOf ws = H.thingsOf decode encode slotWords mostWaiting encode-long ws
+eventsOf ws = H.thingsOf decode encode slotWords roomForEvents encode-long ws
 
 -- the words are those of the events that they hold, and no others
 abbrev pub Whole : List ℕ → Type 0
-Whole ws = H.Whole decode encode slotWords mostWaiting encode-long ws
+Whole ws = H.Whole decode encode slotWords roomForEvents encode-long ws
 
 -- and these are the events
 abbrev pub Held : List ℕ → List Event → Type 0
-Held ws l = H.Held decode encode slotWords mostWaiting encode-long ws l
+Held ws l = H.Held decode encode slotWords roomForEvents encode-long ws l

@@ -4,20 +4,20 @@
 ghost use mathlib.Core.Path.{_≡_};
 ghost use Prim.Native.Nat.{_<_};
 ghost use lib.ListN.{getD, set, replicate};
-ghost use Rattle.slots.specs.Slots.{blank, bitOf, headWord, stepsWord, eventsOf, Whole, Held, eventOf, IsDue};
-ghost use Rattle.machine.specs.State.{ordinary, mostWaiting};
+ghost use Rattle.slots.specs.Slots.{blank, headWord, stepsWord, eventsOf, Whole, Held, eventOf, IsDue, roomForEvents};
+ghost use Rattle.machine.specs.State.{ordinary};
 use key_set::KeySet;
 use tags::GlobalTag;
 use tags::QueueTag;
 
-// How many events may wait; `mostWaiting` of specs/ says the same.
-pub const MOST_WAITING: usize = 256;
+// How many events there is room for; `roomForEvents` of specs/ says the same.
+pub const ROOM_FOR_EVENTS: usize = 256;
 
 // How many words a slot takes; `slotWords` of specs/ says the same.
 pub const SLOT_WORDS: usize = 6;
 
 // All slots.
-pub const ROOM: usize = MOST_WAITING * SLOT_WORDS;
+pub const ROOM: usize = ROOM_FOR_EVENTS * SLOT_WORDS;
 
 // The number that means "no scope" (the root's queue) and "no action".
 pub const NONE: u16 = 65535;
@@ -39,15 +39,6 @@ pub struct Slot {
 pub struct Due {
     pub queue: u16,
     pub tag: QueueTag,
-}
-
-fn bit(b: bool) -> u64
-    ensures { λ r. ⌜ (r ≡ bitOf b) × (r < 2) ⌝ }
-{
-    if b {
-        return 1;
-    }
-    0
 }
 
 impl Slot {
@@ -84,9 +75,9 @@ impl Slot {
 fn head_word(s: Slot) -> u64
     ensures { λ r. ⌜ r ≡ headWord (eventOf s) ⌝ }
 {
-    let terminal = bit(s.terminal);
-    let control = bit(s.control);
-    let network = bit(s.network);
+    let terminal = lists::bit(s.terminal);
+    let control = lists::bit(s.control);
+    let network = lists::bit(s.network);
     (s.queue as u64)
         + (s.action as u64) * 65536
         + terminal * 4294967296
@@ -105,7 +96,7 @@ fn steps_word(s: Slot) -> u64
 pub fn slot_at(rows: &[u64; ROOM], k: usize) -> Slot
     ensures { λ r. ⌜ eventOf r ≡ getD (eventsOf (now (rows .entry))) k blank ⌝ }
 {
-    if MOST_WAITING <= k {
+    if ROOM_FOR_EVENTS <= k {
         return Slot::blank();
     }
     let b = k * SLOT_WORDS;
@@ -132,7 +123,7 @@ pub fn slot_at(rows: &[u64; ROOM], k: usize) -> Slot
 
 // When the event in row k is due: what a search through the rows asks for.
 pub fn due_at(rows: &[u64; ROOM], k: usize) -> Due
-    requires { ⌜ k < mostWaiting ⌝ }
+    requires { ⌜ k < roomForEvents ⌝ }
     ensures { λ r. ⌜ IsDue r (getD (eventsOf (now (rows .entry))) k blank) ⌝ }
 {
     let b = k * SLOT_WORDS;
@@ -150,7 +141,7 @@ pub fn put_slot(rows: &mut [u64; ROOM], k: usize, s: Slot)
     requires { ⌜ Whole (now rows) ⌝ }
     ensures { λ _. ⌜ Held (now (rows .exit)) (set (eventsOf (now (rows .entry))) k (eventOf s)) ⌝ }
 {
-    if MOST_WAITING <= k {
+    if ROOM_FOR_EVENTS <= k {
         return;
     }
     let b = k * SLOT_WORDS;
@@ -167,7 +158,7 @@ pub fn put_slot(rows: &mut [u64; ROOM], k: usize, s: Slot)
 // The slot of row `from` into row `to`, word by word.
 pub fn copy_slot(rows: &mut [u64; ROOM], from: usize, to: usize)
     requires { ⌜ Whole (now rows) ⌝ }
-    requires { ⌜ (from < mostWaiting) × (to < mostWaiting) ⌝ }
+    requires { ⌜ (from < roomForEvents) × (to < roomForEvents) ⌝ }
     ensures { λ _. ⌜ Held (now (rows .exit)) (set (eventsOf (now (rows .entry))) to (getD (eventsOf (now (rows .entry))) from blank)) ⌝ }
 {
     let a = from * SLOT_WORDS;
@@ -188,7 +179,7 @@ pub fn copy_slot(rows: &mut [u64; ROOM], from: usize, to: usize)
 
 // Rows of blank slots.
 pub fn blank_rows() -> [u64; ROOM]
-    ensures { λ r. ⌜ Held r (replicate mostWaiting blank) ⌝ }
+    ensures { λ r. ⌜ Held r (replicate roomForEvents blank) ⌝ }
 {
     [0; ROOM]
 }

@@ -2,15 +2,14 @@
 use mathlib.Core.Bool.{Bool, true, false, cond, not, _&&_, _||_}
 use mathlib.Core.Path.{_≡_, refl, ap, _∙_, sym}
 use mathlib.Core.List.{List, [], _∷_}
-use Prim.Native.Nat.{ℕ, _+_, _-_, _≤_, _<_}
+use Prim.Native.Nat.{ℕ, _+_, _≤_, _<_}
 use native.Mathlib.Nat.{sub-zero}
 use native.Mathlib.Omega.{arith}
 use lib.Dec.{leb, eqb}
-use lib.ListN.{getD, set as put}
+use lib.ListN.{getD}
 use borrow.Author.Tests.{le-leb, lt-ltb, leb-false}
 use Rattle.lists.specs.Lists.{keep, any, from, count-shorter}
 use Rattle.lists.specs.Ranges.{those, those-same, those-any}
-use Rattle.lists.specs.Steps.{from-next, from-end}
 use Rattle.lists.specs.Every.{by-test}
 use Rattle.lists.specs.Walk.{done, refused, _>>=_, walk}
 use Rattle.refusals.specs.declared.Refusal.{Refusal}
@@ -18,6 +17,7 @@ use Rattle.refusals.specs.declared.Refusal.the-variants as R
 use Rattle.refusals.specs.declared.Outcome.{Outcome}
 use Rattle.refusals.specs.declared.Outcome.the-variants as O
 use Rattle.rows.specs.Bytes.{Image}
+use Rattle.rows.specs.Limits.{limits}
 use Rattle.rows.specs.Kinds as K
 use Rattle.rows.specs.Kinds.{count}
 use Rattle.rows.specs.Rows.{none, startupScope, startupAction, resetScope, timerAction}
@@ -40,90 +40,24 @@ use Rattle.store_calls.specs.declared.Changed.{Changed}
 use Rattle.store_calls.specs.Lent.{storeOf, Did}
 use Rattle.queue.specs.declared.Accepted.{Accepted}
 use Rattle.queue.specs.declared.Accepted.the-variants as A
-use Rattle.queue.specs.Queue.{acceptedAt}
+use Rattle.queue.specs.Queue.{acceptedAt, acceptedIn}
 use Rattle.machine.specs.Table.{scopes, hasParent}
-use Rattle.machine.specs.State.{Event, State, mostWaiting, ordinary, everAt, tally, accepted}
+use Rattle.machine.specs.State.{Event, State, ordinary, everAt, tally, accepted}
 use Rattle.machine.specs.Transition.{Step, ifSome, held, plainEvent, firsts, startupRows, startups, step4, timerScope, timerImage, timerEvent, timer, timerRows, resetRows, resetEvent}
 use Rattle.slots.specs.Slots as slot
-use Rattle.slots.specs.Slots.{eventsOf}
+use Rattle.slots.specs.Slots.{eventsOf, roomForEvents}
 use Rattle.lens.specs.declared.Counts.{Counts}
-use Rattle.lens.specs.declared.Ledger.{Ledger}
 use Rattle.lens.specs.Lens.{Shows}
-use Rattle.lens.specs.Holds.{Rows, Holds, Held, After, Steps, not-both, steps-then, steps-end, shows}
+use Rattle.lens.specs.Holds.{Rows, Holds, Held, Steps, steps-refused, steps-same, shows}
 use Rattle.lens.specs.Parts.{Good, queueIn, storeIn, push-holds, push-step, more-waits, more-step, changed, holds-good, steps-by}
 use Rattle.plan.specs.declared.Plan.{Plan}
 use Rattle.plan.specs.Plans.{planIn, Marks}
 use Rattle.plan.proofs.PlanLaws.{map-at, marks-in}
-use Rattle.starts.specs.declared.NewScopes.{NewScopes}
-use Rattle.starts.specs.Starting.{firstTime, keysOf, rowIn, someRow, startupsOn, valueStep, allValues, eventStep, startupsAt, timersOn, resetsOn, timerStep, putStep, clockIn, imageIn}
+use Rattle.starts.specs.declared.Chosen.{Chosen}
+use Rattle.starts.specs.declared.What.the-variants as W
+use Rattle.starts.specs.Starting.{firstTime, keysOf, rowIn, someRow, startupsOn, valueStep, eventStep, timersOn, resetsOn, timerStep, putStep, clockIn, imageIn, allRows, startupsAt}
 
--- ---- a step on the room
-
-module _ (img : Image) (f : State → Step) (a : Rows) where
-  -- nothing happens
-  pub steps-done : ((s : State) → Holds img s a → f s ≡ done s) → Steps img f a O.Done a
-  steps-done h s k = rw (h s k) (refl, k)
-
-  pub steps-refused : {x : Refusal} (b : Rows) → ((s : State) → Holds img s a → f s ≡ refused x) → Steps img f a (O.Refused x) b
-  steps-refused b h s k = rw (h s k) refl
-
-  module _ (o : Outcome) (b : Rows) where
-    -- another comes to the same
-    pub steps-same : (g : State → Step) → ((s : State) → Holds img s a → f s ≡ g s) → Steps img g a o b → Steps img f a o b
-    steps-same g h k s w = rw (h s w) (k s w)
-
-    -- the rows hold a state after it
-    pub steps-held : Held img a → Steps img f a o b → o ≡ O.Done → Held img b
-    steps-held h k e = go (f (h .state)) (k (h .state) (h .holds))
-      where
-        go : (r : Step) → After img r o b → Held img b
-        go (done t) x = record { state = t; holds = x .1 }
-        go (refused n) x = not-both (sym e ∙ x)
-
--- ---- a walk row by row, until it is done or a row is refused
-
-abbrev pub room : List ℕ → List ℕ → List ℕ → List ℕ → Ledger → Rows
-room xs es vs bs l = record { scopes = xs; events = es; values = vs; buckets = bs; ledger = l }
-
-module _ (f : State → ℕ → Step) (n : ℕ) where
-  -- what is left of it from row j on
-  abbrev left : ℕ → State → Step
-  left j s = walk f s (from j (n - j))
-
-  left-next : (j : ℕ) (s : State) → j < n → left j s ≡ (f s j >>= left (j + 1))
-  unfolding walk
-  left-next j s h = rw (from-next n j h)
-
-  left-end : (j : ℕ) (s : State) → n ≤ j → left j s ≡ done s
-  unfolding walk
-  left-end j s h = rw (from-end n j h)
-
-  -- b holds a state, and what the rest does from there, the whole walk did from a
-  pub record Walked (img : Image) (a : Rows) (j : ℕ) (b : Rows) : Type 0 where
-    pub holds : Held img b
-    pub rest : (o : Outcome) (c : Rows) → Steps img (left j) b o c → Steps img (λ s. walk f s (from 0 n)) a o c
-
-pub walked-none : {f : State → ℕ → Step} {n : ℕ} {img : Image} {a : Rows} → Held img a → Walked f n img a 0 a
-walked-none h = record { holds = h; rest = λ o c k s w. rw sub-zero at (k s w) }
-
-module _ {f : State → ℕ → Step} {n : ℕ} {img : Image} {a : Rows} {j : ℕ} {b : Rows} (w : Walked f n img a j b) where
-  pub walked-end : {m : ℕ} → n ≤ j → n ≡ m → Steps img (λ s. walk f s (from 0 m)) a O.Done b
-  walked-end h e = rw (← e) (w .rest O.Done b (steps-done img (left f n j) b (λ s k. left-end f n j s h)))
-
-  module _ (h : j < n) (o : Outcome) (c : Rows) (k : Steps img (λ s. f s j) b o c) where
-    -- the row, then the rest
-    first-then : (p : Outcome) (d : Rows) → Steps img (λ s. f s j >>= left f n (j + 1)) b p d → Steps img (λ s. walk f s (from 0 n)) a p d
-    first-then p d r = w .rest p d (steps-same img (left f n j) b p d _ (λ s v. left-next f n j s h) r)
-
-    pub walked-next : o ≡ O.Done → Walked f n img a (j + 1) c
-    walked-next e =
-        record {
-          holds = steps-held img (λ s. f s j) b o c (w .holds) k e;
-          rest = λ p d r. first-then p d (steps-then img (λ s. f s j) (left f n (j + 1)) b c d o p k e r);
-        }
-
-    pub walked-refused : {m : ℕ} {x : Refusal} → n ≡ m → o ≡ O.Refused x → Steps img (λ s. walk f s (from 0 m)) a o c
-    walked-refused q e = rw (← q) (first-then o c (steps-end img (λ s. f s j) (left f n (j + 1)) b c c o o k e e))
+-- ---- a walk over those rows that are chosen
 
 bind-same : (r : Step) (k l : State → Step) → ((t : State) → k t ≡ l t) → (r >>= k) ≡ (r >>= l)
 bind-same (done t) k l h = h t
@@ -143,48 +77,50 @@ walk-keep f p (j ∷ l) s = go (p j) (f s j) (λ t. walk-keep f p l t)
 -- ---- one value, one event
 
 module _ (img : Image) (a : Rows) (k : Held img a) where
-  held-good : Good (a .events) (a .values) (a .buckets) (a .ledger .counts) (a .ledger .held)
+  held-good : Good (limits img .held) (a .events) (a .values) (a .buckets) (a .ledger .counts) (a .ledger .held)
   held-good = holds-good img (k .state) a (k .holds)
 
   abbrev counts : Counts
   counts = a .ledger .counts
 
   pub hold-steps : (x : ℕ) (t : Tag) (vs bs : List ℕ) (m : Changed) →
-      Did (a .values) (a .buckets) (a .ledger .held) (pushed (storeOf (a .values) (a .buckets) (a .ledger .held)) x t 0) vs bs m →
-      Steps img (held x t) a (m .outcome) (changed a (a .events) vs bs counts (m .held))
+      Did (a .values) (a .buckets) (a .ledger .held) (pushed (limits img .held) (storeOf (a .values) (a .buckets) (a .ledger .held)) x t 0) vs bs m →
+      Steps img (held img x t) a (m .outcome) (changed a (a .events) vs bs counts (m .held))
   hold-steps x t vs bs m d =
       let g = held-good in
-      steps-by img (held x t) a (m .outcome) (a .events) vs bs counts (m .held)
-      (record { waits = g .waits; keeps = push-holds _ _ _ (g .keeps) x t vs bs m d })
-      (λ s v. push-step _ _ _ (g .keeps) x t vs bs m d (queueIn s (a .events) counts))
+      steps-by img (held img x t) a (m .outcome) (a .events) vs bs counts (m .held)
+      (record { waits = g .waits; keeps = push-holds img _ _ _ (g .keeps) x t vs bs m d })
+      (λ s v. push-step img _ _ _ (g .keeps) x t vs bs m d (queueIn s (a .events) counts))
 
-  pub work-fits : counts .work ≤ mostWaiting
+  pub work-fits : counts .work ≤ roomForEvents
   work-fits = omega (arith, k .holds .queued .work, k .holds .counted, k .holds .few, count-shorter ordinary (k .state .waiting))
 
-  module _ (e : Event) (es : List ℕ) (o : slot.Held es (put (eventsOf (a .events)) (counts .waiting) e)) {q : Accepted} (p : q ≡ acceptedAt (counts .waiting)) where
+  module _ (e : Event) (es : List ℕ) {limit : ℕ} (l : limit ≡ limits img .waiting) (o : slot.Held es (acceptedIn limit (counts .waiting) e (eventsOf (a .events))))
+      {q : Accepted} (p : q ≡ acceptedAt limit (counts .waiting)) where
     pub accept-count : {m n : ℕ} → q ≡ A.Count m → n ≡ tally e (counts .work) →
-        Steps img (λ s. accepted s e) a O.Done (changed a es (a .values) (a .buckets) (record { waiting = m; work = n }) (a .ledger .held))
+        Steps img (λ s. accepted img s e) a O.Done (changed a es (a .values) (a .buckets) (record { waiting = m; work = n }) (a .ledger .held))
     accept-count {m} {n} f h =
-        by-test (leb mostWaiting (counts .waiting))
+        by-test (leb limit (counts .waiting))
         (λ t. absurd (let r : A.Count m ≡ A.Refused R.Waiting = sym f ∙ p ∙ rw t in let z : _≡_ {A = ℕ} 0 1 = cc in omega arith))
         λ t.
         let r : A.Count m ≡ A.Count (counts .waiting + 1) = sym f ∙ p ∙ rw t in
         let i : m ≡ counts .waiting + 1 = cc in
         let g = held-good in
-        let w = leb-false _ _ t in
+        let w : counts .waiting < limits img .waiting = rw l at (leb-false limit (counts .waiting) t) in
+        let last = rw t at o in
         let c : Counts = record { waiting = m; work = n } in
-        steps-by img (λ s. accepted s e) a O.Done es (a .values) (a .buckets) c (a .ledger .held)
-        (record { waits = more-waits _ _ (g .waits) e es o w c i h; keeps = g .keeps })
-        (λ s v. more-step _ _ (g .waits) e es o w c i h (storeIn s (a .values) (a .buckets) (a .ledger .held)))
+        steps-by img (λ s. accepted img s e) a O.Done es (a .values) (a .buckets) c (a .ledger .held)
+        (record { waits = more-waits _ _ (g .waits) e es last img w c i h; keeps = g .keeps })
+        (λ s v. more-step _ _ (g .waits) e es last img w c i h (storeIn s (a .values) (a .buckets) (a .ledger .held)))
 
-    pub accept-refused : {x : Refusal} (b : Rows) → q ≡ A.Refused x → Steps img (λ s. accepted s e) a (O.Refused x) b
+    pub accept-refused : {x : Refusal} (b : Rows) → q ≡ A.Refused x → Steps img (λ s. accepted img s e) a (O.Refused x) b
     unfolding accepted
     accept-refused {x} b f =
-        by-test (leb mostWaiting (counts .waiting))
+        by-test (leb limit (counts .waiting))
         (λ t.
         let r : A.Refused x ≡ A.Refused R.Waiting = sym f ∙ p ∙ rw t in
         let i : R.Waiting ≡ x = cc in
-        steps-refused img (λ s. accepted s e) a b λ s h. rw (← (h .queued .waiting), t) (ap refused i))
+        steps-refused img (λ s. accepted img s e) a b λ s h. rw (← (h .queued .waiting), ← l, t) (ap refused i))
         (λ t. absurd (let r : A.Refused x ≡ A.Count (counts .waiting + 1) = sym f ∙ p ∙ rw t in let z : _≡_ {A = ℕ} 0 1 = cc in omega arith))
 
 -- ---- lists of rows
@@ -210,30 +146,30 @@ some-is p a b (j ∷ l) = go (p j) (some-is p a b l)
 module _ (img : Image) where
   -- ---- step 4
 
-  module _ (f : NewScopes) (a : Rows) where
-    abbrev first : List ℕ
-    first = f .first .words
+  module _ (f : Chosen) (a : Rows) where
+    abbrev chosen : List ℕ
+    chosen = f .set .words
 
     abbrev there : Tag
     there = ofGlobal (f .there)
 
     module _ (j : ℕ) where
-      pub value-none : has first (startupScope img j) ≡ false → Steps img (λ s. valueStep img f s j) a O.Done a
+      pub value-none : has chosen (startupScope img j) ≡ false → Steps img (λ s. valueStep img f s j) a O.Done a
       unfolding valueStep
       value-none e s k = rw e (refl, k)
 
-      pub value-held : {x : ℕ} (o : Outcome) (b : Rows) → has first (startupScope img j) ≡ true → x ≡ startupAction img j → Steps img (held x there) a o b →
+      pub value-held : {x : ℕ} (o : Outcome) (b : Rows) → has chosen (startupScope img j) ≡ true → x ≡ startupAction img j → Steps img (held img x there) a o b →
           Steps img (λ s. valueStep img f s j) a o b
       unfolding valueStep
       value-held o b e q h s k = rw (e, ← q) (h s k)
 
     module _ (i : ℕ) where
-      pub event-none : has first i ≡ false → Steps img (λ s. eventStep img f s i) a O.Done a
+      pub event-none : has chosen i ≡ false → Steps img (λ s. eventStep img f s i) a O.Done a
       unfolding eventStep
       event-none e s k = rw e (refl, k)
 
-      pub event-made : {ks : List ℕ} {x : Event} (o : Outcome) (b : Rows) → has first i ≡ true → ks ≡ startupsOf img i → x ≡ plainEvent there ks →
-          Steps img (λ s. accepted s x) a o b → Steps img (λ s. eventStep img f s i) a o b
+      pub event-made : {ks : List ℕ} {x : Event} (o : Outcome) (b : Rows) → has chosen i ≡ true → ks ≡ startupsOf img i → x ≡ plainEvent there ks →
+          Steps img (λ s. accepted img s x) a o b → Steps img (λ s. eventStep img f s i) a o b
       unfolding eventStep
       event-made o b e q r h s k = rw (e, ← q, ← r) (h s k)
 
@@ -249,12 +185,12 @@ module _ (img : Image) where
     startup-rows t = keep-same _ asked (count img K.startup) λ j h. any-key (has (first .words)) (startupScope img j) (scopes img) (startup-scope img (table-is img t) j h)
 
     walk-startups : (x : GlobalTag) (s : State) →
-        startups img (ofGlobal x) (keysOf img (first .words)) (keep asked rows) s ≡ startupsAt img (record { first = first; there = x }) s
+        startups img (ofGlobal x) (keysOf img (first .words)) (keep asked rows) s ≡ startupsAt img (record { set = first; there = x }) s
     unfolding startups valueStep eventStep
     walk-startups x s =
-        let f : NewScopes = record { first = first; there = x } in
-        rw (walk-keep (λ t j. held (startupAction img j) (ofGlobal x) t) asked rows s)
-        (bind-same (allValues img f s) _ _ (walk-keep (λ u i. accepted u (plainEvent (ofGlobal x) (startupsOf img i))) (has (first .words)) (from 0 (scopes img))))
+        let f : Chosen = record { set = first; there = x } in
+        rw (walk-keep (λ t j. held img (startupAction img j) (ofGlobal x) t) asked rows s)
+        (bind-same (allRows img W.Value f s) _ _ (walk-keep (λ u i. accepted img u (plainEvent (ofGlobal x) (startupsOf img i))) (has (first .words)) (from 0 (scopes img))))
 
     module _ (p : Plan) (a : Rows) where
       pub startups-none : someRow img K.startup (first .words) ≡ false → Steps img (startupsOn img p (first .words)) a O.Done a
@@ -266,7 +202,7 @@ module _ (img : Image) where
         unfolding step4
         startups-refused q s k = rw (startup-rows (k .table), some-is asked _ _ rows, e, ← h, q) refl
 
-        pub startups-all : {x : GlobalTag} (o : Outcome) → d ≡ D.Tag x → Steps img (startupsAt img (record { first = first; there = x })) a o b →
+        pub startups-all : {x : GlobalTag} (o : Outcome) → d ≡ D.Tag x → Steps img (startupsAt img (record { set = first; there = x })) a o b →
             Steps img (startupsOn img p (first .words)) a o b
         unfolding step4
         startups-all {x} o q r s k = rw (startup-rows (k .table), some-is asked _ _ rows, e, ← h, q, walk-startups) (r s k)
@@ -313,7 +249,7 @@ module _ (img : Image) where
         unfolding timerStep timer
         timer-refused q s k = rw (e, same-image s k, ← h, q) refl
 
-        pub timer-put : {g : GlobalTag} {x : Event} (o : Outcome) → m ≡ M.Tag g → x ≡ timerEvent img j (ofGlobal g) → Steps img (putStep x) a o b →
+        pub timer-put : {g : GlobalTag} {x : Event} (o : Outcome) → m ≡ M.Tag g → x ≡ timerEvent img j (ofGlobal g) → Steps img (putStep img x) a o b →
             Steps img (λ s. timerStep img set s j) a o b
         unfolding timerStep timer putStep timerEvent
         timer-put o q f r s k = rw (e, same-image s k, ← h, q) (let z = r s k in rw f at z)
@@ -325,7 +261,7 @@ module _ (img : Image) where
     at-row : (i : ℕ) → i < scopes img → getD (planIn img p .inside) i false ≡ has inside i
     at-row i h = map-at (has inside) (scopes img) i false h
 
-    pub timers-are : (o : Outcome) (b : Rows) → Steps img (λ s. walk (timerStep img inside) s (from 0 (count img K.timer))) a o b → Steps img (timersOn img p) a o b
+    pub timers-are : (o : Outcome) (b : Rows) → Steps img (allRows img W.Timer (record { set = p .inside; there = p .c })) a o b → Steps img (timersOn img p) a o b
     unfolding timerRows timerStep
     timers-are o b h =
         let asked : ℕ → Bool = λ j. has inside (timerScope img j) in
@@ -353,6 +289,6 @@ module _ (img : Image) where
       resets-refused q s k = rw (reset-rows (k .table), some-is marked _ _ (from 0 (count img K.reset)), e, ← h, q) refl
 
       pub resets-made : {x : GlobalTag} {ks : List ℕ} {v : Event} (o : Outcome) → d ≡ D.Tag x → ks ≡ resetsOf img (p .target) → v ≡ plainEvent (ofGlobal x) ks →
-          Steps img (λ s. accepted s v) a o b → Steps img (resetsOn img p) a o b
+          Steps img (λ s. accepted img s v) a o b → Steps img (resetsOn img p) a o b
       unfolding resetEvent
       resets-made o q f g r s k = rw (reset-rows (k .table), some-is marked _ _ (from 0 (count img K.reset)), e, ← h, q, ← f, ← g) (r s k)

@@ -20,7 +20,9 @@ use Rattle.machine.specs.Transition.{Step, held, plainEvent, step4, timerScope,
 use Rattle.scopes.specs.Scopes.{scopesOf, blank}
 use Rattle.plan.specs.declared.Plan.{Plan}
 use Rattle.plan.specs.Plans.{planIn}
-use Rattle.starts.specs.declared.NewScopes.{NewScopes}
+use Rattle.starts.specs.declared.Chosen.{Chosen}
+use Rattle.starts.specs.declared.What.{What}
+use Rattle.starts.specs.declared.What.the-variants as W
 
 -- a scope is active now and never was before
 abbrev pub firstTime : List ℕ → List ℕ → ℕ → Bool
@@ -42,22 +44,12 @@ someRow img k set = any (rowIn img k set) (from 0 (count img k))
 abbrev pub startupsOn : Image → Plan → List ℕ → State → Step
 startupsOn img p set = step4 img (ofGlobal (p .c)) (keysOf img set)
 
--- one row's part, one scope's part: nothing where it is not asked for
-unfoldable pub valueStep : Image → NewScopes → State → ℕ → Step
-valueStep img f s j = cond (has (f .first .words) (startupScope img j)) (held (startupAction img j) (ofGlobal (f .there)) s) (done s)
+-- one row's part, one scope's part: nothing where it is not chosen
+unfoldable pub valueStep : Image → Chosen → State → ℕ → Step
+valueStep img f s j = cond (has (f .set .words) (startupScope img j)) (held img (startupAction img j) (ofGlobal (f .there)) s) (done s)
 
-unfoldable pub eventStep : Image → NewScopes → State → ℕ → Step
-eventStep img f s i = cond (has (f .first .words) i) (accepted s (plainEvent (ofGlobal (f .there)) (startupsOf img i))) (done s)
-
--- all values, then all events
-abbrev pub allValues : Image → NewScopes → State → Step
-allValues img f s = walk (valueStep img f) s (from 0 (count img K.startup))
-
-abbrev pub allEvents : Image → NewScopes → State → Step
-allEvents img f s = walk (eventStep img f) s (from 0 (scopes img))
-
-abbrev pub startupsAt : Image → NewScopes → State → Step
-startupsAt img f s = allValues img f s >>= allEvents img f
+unfoldable pub eventStep : Image → Chosen → State → ℕ → Step
+eventStep img f s i = cond (has (f .set .words) i) (accepted img s (plainEvent (ofGlobal (f .there)) (startupsOf img i))) (done s)
 
 -- ---- step 5
 
@@ -76,8 +68,8 @@ unfoldable pub timerStep : Image → List ℕ → State → ℕ → Step
 timerStep img set s j = cond (has set (timerScope img j)) (timer img s j) (done s)
 
 -- "a value before its event"
-unfoldable pub putStep : Event → State → Step
-putStep e s = held (e .action) (e .stored) s >>= λ t. accepted t e
+unfoldable pub putStep : Image → Event → State → Step
+putStep img e s = held img (e .action) (e .stored) s >>= λ t. accepted img t e
 
 -- a timer's global image by the rows' clocks
 abbrev pub clockIn : List ℕ → ℕ → Clock
@@ -85,3 +77,23 @@ clockIn ws i = getD (scopesOf ws) i blank .clock
 
 unfoldable pub imageIn : Image → List ℕ → ℕ → Answer
 imageIn img ws j = cond (hasParent img (timerScope img j)) (toGlobal (clockIn ws (timerScope img j)) (timerTag img j)) (done (timerTag img j))
+
+-- ---- row by row
+
+-- the rows that start it, one row's part, all of them
+abbrev pub kindOver : What → ℕ
+kindOver W.Value = K.startup
+kindOver W.Event = K.scope
+kindOver W.Timer = K.timer
+
+abbrev pub rowStep : Image → What → Chosen → State → ℕ → Step
+rowStep img W.Value f = valueStep img f
+rowStep img W.Event f = eventStep img f
+rowStep img W.Timer f = timerStep img (f .set .words)
+
+abbrev pub allRows : Image → What → Chosen → State → Step
+allRows img w f s = walk (rowStep img w f) s (from 0 (count img (kindOver w)))
+
+-- all values, then all events
+abbrev pub startupsAt : Image → Chosen → State → Step
+startupsAt img f s = allRows img W.Value f s >>= allRows img W.Event f

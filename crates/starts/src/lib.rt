@@ -10,13 +10,13 @@ ghost use Rattle.key_set.specs.Sets.{has};
 ghost use Rattle.tags.specs.Views.{ofGlobal, mappedGlobal};
 ghost use Rattle.table.specs.Check.{isTable};
 ghost use Rattle.machine.specs.Table.{scopes as scopesIn, hasParent};
-ghost use Rattle.machine.specs.State.{mostWaiting, tally, accepted};
+ghost use Rattle.machine.specs.State.{tally, accepted};
 ghost use Rattle.machine.specs.Transition as T;
-ghost use Rattle.slots.specs.Slots.{eventOf};
+ghost use Rattle.slots.specs.Slots.{eventOf, roomForEvents};
 ghost use Rattle.scopes.specs.Scopes.{scopeOf};
 ghost use Rattle.lens.specs.Holds.{rows, were, are, Held, Steps};
 ghost use Rattle.plan.specs.Plans.{Marks};
-ghost use Rattle.starts.specs.Starting.{firstTime, startupsOn, restartsOn, someRow, valueStep, allValues, eventStep, allEvents, startupsAt, putStep, imageIn, timerStep, timersOn, resetsOn};
+ghost use Rattle.starts.specs.Starting.{firstTime, startupsOn, restartsOn, someRow, valueStep, eventStep, putStep, imageIn, timerStep, kindOver, rowStep, allRows, startupsAt, resetsOn};
 use entries::BucketRows;
 use entries::ValueRows;
 use key_set::KeySet;
@@ -47,10 +47,11 @@ fn hold(
     tag: GlobalTag,
 ) -> Stepped
     requires { ⌜ Held (now image) (rows scopes events values buckets ledger) ⌝ }
-    ensures { λ r. ⌜ Steps (was image) (T.held action (ofGlobal tag)) (were scopes events values buckets ledger) (r .outcome) (are scopes events values buckets (r .ledger)) ⌝ }
+    ensures { λ r. ⌜ Steps (was image) (T.held (was image) action (ofGlobal tag)) (were scopes events values buckets ledger) (r .outcome) (are scopes events values buckets (r .ledger)) ⌝ }
 {
     let held = ledger.held;
-    let p = store_calls::push(values, buckets, held, action, tag, 0);
+    let limit = rows::most_held(image);
+    let p = store_calls::push(values, buckets, held, limit, action, tag, 0);
     let outcome = p.outcome;
     let more = p.held;
     let mut next = ledger;
@@ -62,7 +63,7 @@ fn hold(
 }
 
 fn more_work(s: Slot, work: usize) -> usize
-    requires { ⌜ work ≤ mostWaiting ⌝ }
+    requires { ⌜ work ≤ roomForEvents ⌝ }
     ensures { λ r. ⌜ r ≡ tally (eventOf s) work ⌝ }
 {
     if s.is_ordinary() {
@@ -82,11 +83,12 @@ fn accept(
     s: Slot,
 ) -> Stepped
     requires { ⌜ Held (now image) (rows scopes events values buckets ledger) ⌝ }
-    ensures { λ r. ⌜ Steps (was image) (λ t. accepted t (eventOf s)) (were scopes events values buckets ledger) (r .outcome) (are scopes events values buckets (r .ledger)) ⌝ }
+    ensures { λ r. ⌜ Steps (was image) (λ t. accepted (was image) t (eventOf s)) (were scopes events values buckets ledger) (r .outcome) (are scopes events values buckets (r .ledger)) ⌝ }
 {
     let counts = ledger.counts;
     let work = more_work(s, counts.work);
-    let a = queue::accept(events, counts.waiting, s);
+    let limit = rows::most_waiting(image);
+    let a = queue::accept(events, counts.waiting, limit, s);
     match a {
         Accepted::Count(waiting) => {
             let more = Counts { waiting, work };
@@ -121,23 +123,7 @@ fn plain(there: GlobalTag, reactions: KeySet) -> Slot
     }
 }
 
-// Some row of the kind has a scope of the set in its first field.
-fn some_row(image: &[u8], kind: u8, set: KeySet) -> bool
-    ensures { λ r. ⌜ r ≡ someRow (was image) kind (set .words) ⌝ }
-{
-    let n = rows::count(image, kind);
-    let mut j: u16 = 0;
-    while j < n {
-        let scope = rows::field16(image, kind, j, 0);
-        if set.contains(scope as usize) {
-            return true;
-        }
-        j += 1;
-    }
-    false
-}
-
-// ---- 4. scopes active for the first time
+// ---- 4. a scope that is active for the first time
 
 fn is_first(active: KeySet, s: Scope, i: u16) -> bool
     ensures { λ r. ⌜ r ≡ (has (active .words) i && not (scopeOf s .ever)) ⌝ }
@@ -160,19 +146,19 @@ pub fn firsts(image: &[u8], scopes: &[u64; scopes::ROOM], plan: Plan) -> KeySet
     while i < n {
         let s = scopes::scope_at(scopes, i as usize);
         let test = is_first(active, s, i);
-        set = plan::mark(set, test, i);
+        set = set.insert_if(test, i as usize);
         i += 1;
     }
     set
 }
 
-// The first-time scopes, and the tag of their startups.
-struct NewScopes {
-    first: KeySet,
+// The scopes whose rows are taken, and the tag of a startup; a timer has its own.
+struct Chosen {
+    set: KeySet,
     there: GlobalTag,
 }
 
-// A startup row's value, where its scope is a first-time scope.
+// A startup row's value, where its scope is chosen.
 fn hold_startup(
     image: &[u8],
     scopes: &[u64; scopes::ROOM],
@@ -180,16 +166,16 @@ fn hold_startup(
     values: &mut ValueRows,
     buckets: &mut BucketRows,
     ledger: Ledger,
-    f: NewScopes,
+    f: Chosen,
     j: u16,
 ) -> Stepped
     requires { ⌜ Held (now image) (rows scopes events values buckets ledger) ⌝ }
     ensures { λ r. ⌜ Steps (was image) (λ s. valueStep (was image) f s j) (were scopes events values buckets ledger) (r .outcome) (are scopes events values buckets (r .ledger)) ⌝ }
 {
-    let first = f.first;
+    let set = f.set;
     let there = f.there;
     let scope = rows::startup_scope(image, j);
-    if first.contains(scope as usize) {
+    if set.contains(scope as usize) {
         let action = rows::startup_action(image, j);
         return hold(
             image,
@@ -208,40 +194,7 @@ fn hold_startup(
     }
 }
 
-// The values of all startup rows of the first-time scopes.
-fn hold_startups(
-    image: &[u8],
-    scopes: &[u64; scopes::ROOM],
-    events: &mut [u64; slots::ROOM],
-    values: &mut ValueRows,
-    buckets: &mut BucketRows,
-    ledger: Ledger,
-    f: NewScopes,
-) -> Stepped
-    requires { ⌜ Held (now image) (rows scopes events values buckets ledger) ⌝ }
-    ensures { λ r. ⌜ Steps (was image) (allValues (was image) f) (were scopes events values buckets ledger) (r .outcome) (are scopes events values buckets (r .ledger)) ⌝ }
-{
-    let n = rows::count(image, rows::STARTUP);
-    let mut current = ledger;
-    let mut j: u16 = 0;
-    while j < n {
-        let r = hold_startup(image, scopes, events, values, buckets, current, f, j);
-        let o = r.outcome;
-        let next = r.ledger;
-        current = next;
-        j += 1;
-        match o {
-            Outcome::Done => {}
-            Outcome::Refused(_) => return r,
-        }
-    }
-    Stepped {
-        outcome: Outcome::Done,
-        ledger: current,
-    }
-}
-
-// A scope's event, where it is a first-time scope.
+// A scope's event, where it is chosen.
 fn accept_startup(
     image: &[u8],
     scopes: &[u64; scopes::ROOM],
@@ -249,17 +202,17 @@ fn accept_startup(
     values: &mut ValueRows,
     buckets: &mut BucketRows,
     ledger: Ledger,
-    f: NewScopes,
+    f: Chosen,
     i: u16,
 ) -> Stepped
     requires { ⌜ Held (now image) (rows scopes events values buckets ledger) ⌝ }
     ensures { λ r. ⌜ Steps (was image) (λ s. eventStep (was image) f s i) (were scopes events values buckets ledger) (r .outcome) (are scopes events values buckets (r .ledger)) ⌝ }
 {
-    let first = f.first;
+    let set = f.set;
     let there = f.there;
-    if first.contains(i as usize) {
-        let set = schedule::startups(image, i);
-        let s = plain(there, set);
+    if set.contains(i as usize) {
+        let reactions = schedule::startups(image, i);
+        let s = plain(there, reactions);
         return accept(image, scopes, events, values, buckets, ledger, s);
     }
     Stepped {
@@ -268,98 +221,7 @@ fn accept_startup(
     }
 }
 
-// The events of all first-time scopes.
-fn accept_startups(
-    image: &[u8],
-    scopes: &[u64; scopes::ROOM],
-    events: &mut [u64; slots::ROOM],
-    values: &mut ValueRows,
-    buckets: &mut BucketRows,
-    ledger: Ledger,
-    f: NewScopes,
-) -> Stepped
-    requires { ⌜ Held (now image) (rows scopes events values buckets ledger) ⌝ }
-    ensures { λ r. ⌜ Steps (was image) (allEvents (was image) f) (were scopes events values buckets ledger) (r .outcome) (are scopes events values buckets (r .ledger)) ⌝ }
-{
-    let n = rows::count(image, rows::SCOPE);
-    let mut current = ledger;
-    let mut i: u16 = 0;
-    while i < n {
-        let r = accept_startup(image, scopes, events, values, buckets, current, f, i);
-        let o = r.outcome;
-        let next = r.ledger;
-        current = next;
-        i += 1;
-        match o {
-            Outcome::Done => {}
-            Outcome::Refused(_) => return r,
-        }
-    }
-    Stepped {
-        outcome: Outcome::Done,
-        ledger: current,
-    }
-}
-
-// All values, then all events.
-fn start_all(
-    image: &[u8],
-    scopes: &[u64; scopes::ROOM],
-    events: &mut [u64; slots::ROOM],
-    values: &mut ValueRows,
-    buckets: &mut BucketRows,
-    ledger: Ledger,
-    f: NewScopes,
-) -> Stepped
-    requires { ⌜ Held (now image) (rows scopes events values buckets ledger) ⌝ }
-    ensures { λ r. ⌜ Steps (was image) (startupsAt (was image) f) (were scopes events values buckets ledger) (r .outcome) (are scopes events values buckets (r .ledger)) ⌝ }
-{
-    let h = hold_startups(image, scopes, events, values, buckets, ledger, f);
-    let o = h.outcome;
-    match o {
-        Outcome::Done => {
-            let next = h.ledger;
-            accept_startups(image, scopes, events, values, buckets, next, f)
-        }
-        Outcome::Refused(_) => h,
-    }
-}
-
-// Step 4: the startups of the first-time scopes, at c delayed by zero.
-pub fn startups(
-    image: &[u8],
-    scopes: &[u64; scopes::ROOM],
-    events: &mut [u64; slots::ROOM],
-    values: &mut ValueRows,
-    buckets: &mut BucketRows,
-    ledger: Ledger,
-    first: KeySet,
-    plan: Plan,
-) -> Stepped
-    requires { ⌜ Held (now image) (rows scopes events values buckets ledger) ⌝ }
-    ensures { λ r. ⌜ Steps (was image) (startupsOn (was image) plan (first .words)) (were scopes events values buckets ledger) (r .outcome) (are scopes events values buckets (r .ledger)) ⌝ }
-{
-    let c = plan.c;
-    if !some_row(image, rows::STARTUP, first) {
-        return Stepped {
-            outcome: Outcome::Done,
-            ledger,
-        };
-    }
-    let d = c.delay();
-    match d {
-        DelayedGlobal::Tag(there) => {
-            let f = NewScopes { first, there };
-            start_all(image, scopes, events, values, buckets, ledger, f)
-        }
-        DelayedGlobal::Refused(x) => Stepped {
-            outcome: Outcome::Refused(x),
-            ledger,
-        },
-    }
-}
-
-// ---- 5. timers
+// ---- 5. a timer
 
 fn has_parent(image: &[u8], i: u16) -> bool
     ensures { λ r. ⌜ r ≡ hasParent (was image) i ⌝ }
@@ -432,7 +294,7 @@ fn put(
     s: Slot,
 ) -> Stepped
     requires { ⌜ Held (now image) (rows scopes events values buckets ledger) ⌝ }
-    ensures { λ r. ⌜ Steps (was image) (putStep (eventOf s)) (were scopes events values buckets ledger) (r .outcome) (are scopes events values buckets (r .ledger)) ⌝ }
+    ensures { λ r. ⌜ Steps (was image) (putStep (was image) (eventOf s)) (were scopes events values buckets ledger) (r .outcome) (are scopes events values buckets (r .ledger)) ⌝ }
 {
     let stored = s.stored;
     let h = hold(
@@ -489,25 +351,70 @@ fn start_timer(
     }
 }
 
-// The timers of the reset subtree.
-fn timers(
+// ---- row by row
+
+// What a row starts: a startup row its value, a scope its event, a timer row its timer.
+enum What {
+    Value,
+    Event,
+    Timer,
+}
+
+// The kind of rows that start it.
+fn kind_of(what: What) -> u8
+    ensures { λ r. ⌜ r ≡ kindOver what ⌝ }
+{
+    match what {
+        What::Value => rows::STARTUP,
+        What::Event => rows::SCOPE,
+        What::Timer => rows::TIMER,
+    }
+}
+
+fn take_row(
     image: &[u8],
     scopes: &[u64; scopes::ROOM],
     events: &mut [u64; slots::ROOM],
     values: &mut ValueRows,
     buckets: &mut BucketRows,
     ledger: Ledger,
-    plan: Plan,
+    what: What,
+    f: Chosen,
+    j: u16,
 ) -> Stepped
     requires { ⌜ Held (now image) (rows scopes events values buckets ledger) ⌝ }
-    ensures { λ r. ⌜ Steps (was image) (timersOn (was image) plan) (were scopes events values buckets ledger) (r .outcome) (are scopes events values buckets (r .ledger)) ⌝ }
+    ensures { λ r. ⌜ Steps (was image) (λ s. rowStep (was image) what f s j) (were scopes events values buckets ledger) (r .outcome) (are scopes events values buckets (r .ledger)) ⌝ }
 {
-    let n = rows::count(image, rows::TIMER);
-    let inside = plan.inside;
+    match what {
+        What::Value => hold_startup(image, scopes, events, values, buckets, ledger, f, j),
+        What::Event => accept_startup(image, scopes, events, values, buckets, ledger, f, j),
+        What::Timer => {
+            let set = f.set;
+            start_timer(image, scopes, events, values, buckets, ledger, set, j)
+        }
+    }
+}
+
+// All of its rows, until one is refused.
+fn take_rows(
+    image: &[u8],
+    scopes: &[u64; scopes::ROOM],
+    events: &mut [u64; slots::ROOM],
+    values: &mut ValueRows,
+    buckets: &mut BucketRows,
+    ledger: Ledger,
+    what: What,
+    f: Chosen,
+) -> Stepped
+    requires { ⌜ Held (now image) (rows scopes events values buckets ledger) ⌝ }
+    ensures { λ r. ⌜ Steps (was image) (allRows (was image) what f) (were scopes events values buckets ledger) (r .outcome) (are scopes events values buckets (r .ledger)) ⌝ }
+{
+    let kind = kind_of(what);
+    let n = rows::count(image, kind);
     let mut current = ledger;
     let mut j: u16 = 0;
     while j < n {
-        let r = start_timer(image, scopes, events, values, buckets, current, inside, j);
+        let r = take_row(image, scopes, events, values, buckets, current, what, f, j);
         let o = r.outcome;
         let next = r.ledger;
         current = next;
@@ -523,7 +430,90 @@ fn timers(
     }
 }
 
-// ---- and the reset reactions
+// ---- the two steps
+
+// Some row of the kind has a scope of the set in its first field.
+fn some_row(image: &[u8], kind: u8, set: KeySet) -> bool
+    ensures { λ r. ⌜ r ≡ someRow (was image) kind (set .words) ⌝ }
+{
+    let n = rows::count(image, kind);
+    let mut j: u16 = 0;
+    while j < n {
+        let scope = rows::field16(image, kind, j, 0);
+        if set.contains(scope as usize) {
+            return true;
+        }
+        j += 1;
+    }
+    false
+}
+
+// All values, then all events.
+fn start_all(
+    image: &[u8],
+    scopes: &[u64; scopes::ROOM],
+    events: &mut [u64; slots::ROOM],
+    values: &mut ValueRows,
+    buckets: &mut BucketRows,
+    ledger: Ledger,
+    f: Chosen,
+) -> Stepped
+    requires { ⌜ Held (now image) (rows scopes events values buckets ledger) ⌝ }
+    ensures { λ r. ⌜ Steps (was image) (startupsAt (was image) f) (were scopes events values buckets ledger) (r .outcome) (are scopes events values buckets (r .ledger)) ⌝ }
+{
+    let h = take_rows(
+        image,
+        scopes,
+        events,
+        values,
+        buckets,
+        ledger,
+        What::Value,
+        f,
+    );
+    let o = h.outcome;
+    match o {
+        Outcome::Done => {
+            let next = h.ledger;
+            take_rows(image, scopes, events, values, buckets, next, What::Event, f)
+        }
+        Outcome::Refused(_) => h,
+    }
+}
+
+// Step 4: the startups of the first-time scopes, at c delayed by zero.
+pub fn startups(
+    image: &[u8],
+    scopes: &[u64; scopes::ROOM],
+    events: &mut [u64; slots::ROOM],
+    values: &mut ValueRows,
+    buckets: &mut BucketRows,
+    ledger: Ledger,
+    first: KeySet,
+    plan: Plan,
+) -> Stepped
+    requires { ⌜ Held (now image) (rows scopes events values buckets ledger) ⌝ }
+    ensures { λ r. ⌜ Steps (was image) (startupsOn (was image) plan (first .words)) (were scopes events values buckets ledger) (r .outcome) (are scopes events values buckets (r .ledger)) ⌝ }
+{
+    let c = plan.c;
+    if !some_row(image, rows::STARTUP, first) {
+        return Stepped {
+            outcome: Outcome::Done,
+            ledger,
+        };
+    }
+    let d = c.delay();
+    match d {
+        DelayedGlobal::Tag(there) => {
+            let f = Chosen { set: first, there };
+            start_all(image, scopes, events, values, buckets, ledger, f)
+        }
+        DelayedGlobal::Refused(x) => Stepped {
+            outcome: Outcome::Refused(x),
+            ledger,
+        },
+    }
+}
 
 // One event with the reset reactions of the subtree, at c delayed by zero.
 fn reset_reactions(
@@ -574,7 +564,19 @@ pub fn restarts(
     requires { ⌜ Held (now image) (rows scopes events values buckets ledger) ⌝ }
     ensures { λ r. ⌜ Steps (was image) (restartsOn (was image) plan) (were scopes events values buckets ledger) (r .outcome) (are scopes events values buckets (r .ledger)) ⌝ }
 {
-    let t = timers(image, scopes, events, values, buckets, ledger, plan);
+    let set = plan.inside;
+    let there = plan.c;
+    let f = Chosen { set, there };
+    let t = take_rows(
+        image,
+        scopes,
+        events,
+        values,
+        buckets,
+        ledger,
+        What::Timer,
+        f,
+    );
     let o = t.outcome;
     match o {
         Outcome::Done => {

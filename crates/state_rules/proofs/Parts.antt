@@ -29,11 +29,11 @@ use Rattle.key_set.specs.declared.Found.{Found}
 use Rattle.key_set.specs.declared.Found.the-variants.{Key, Nothing}
 use Rattle.key_set.proofs.Laws.{bit-zero, told-key, told-nothing, lowest-key, lowest-range, none-from}
 use Rattle.machine.specs.Table.{scopes, reactions, actions, hasParent}
-use Rattle.machine.specs.State.{Event, root, mostWaiting, ordinary, scopeIn}
+use Rattle.machine.specs.State.{Event, root, ordinary, scopeIn}
 use Rattle.machine.specs.Transition.{isTag}
 use Rattle.machine.specs.Machine.{eventRules, queueRules, scopeRules, imageRules}
 use Rattle.slots.specs.Slots as slot
-use Rattle.slots.specs.Slots.{eventsOf}
+use Rattle.slots.specs.Slots.{eventsOf, roomForEvents}
 use Rattle.scopes.specs.Scopes as scope
 use Rattle.scopes.specs.Scopes.{Scope, mostScopes, scopesOf}
 use Rattle.schedule.specs.Schedule.{isActive}
@@ -204,15 +204,15 @@ unfolding every
 every-nil p = refl
 
 module _ (p : Event → Bool) (ws : List ℕ) (n i : ℕ) where
-  module _ (e : Event) (b : Bool) (h : i < n) (m : n ≤ mostWaiting) (r : e ≡ getD (eventsOf ws) i slot.blank) (q : b ≡ p e) where
+  module _ (e : Event) (b : Bool) (h : i < n) (m : n ≤ roomForEvents) (r : e ≡ getD (eventsOf ws) i slot.blank) (q : b ≡ p e) where
     pub event-on : {s : Bool} → b ≡ true → s ≡ every p (drop i (take n (eventsOf ws))) → s ≡ every p (drop (i + 1) (take n (eventsOf ws)))
-    event-on y k = test-on slot.decode slot.encode slot.slotWords mostWaiting slot.encode-long (every p) (λ a l. p a) (every-cons p) (every-nil p) ws n i slot.blank e b h m r q y k
+    event-on y k = test-on slot.decode slot.encode slot.slotWords roomForEvents slot.encode-long (every p) (λ a l. p a) (every-cons p) (every-nil p) ws n i slot.blank e b h m r q y k
 
     pub event-fails : {s : Bool} → b ≡ false → s ≡ every p (drop i (take n (eventsOf ws))) → false ≡ s
-    event-fails y k = test-fails slot.decode slot.encode slot.slotWords mostWaiting slot.encode-long (every p) (λ a l. p a) (every-cons p) (every-nil p) ws n i slot.blank e b h m r q y k
+    event-fails y k = test-fails slot.decode slot.encode slot.slotWords roomForEvents slot.encode-long (every p) (λ a l. p a) (every-cons p) (every-nil p) ws n i slot.blank e b h m r q y k
 
   pub event-all : {s : Bool} → i ≤ n → n ≤ i → s ≡ every p (drop i (take n (eventsOf ws))) → true ≡ s
-  event-all h k q = test-all slot.decode slot.encode slot.slotWords mostWaiting slot.encode-long (every p) (λ a l. p a) (every-cons p) (every-nil p) ws n i h k q
+  event-all h k q = test-all slot.decode slot.encode slot.slotWords roomForEvents slot.encode-long (every p) (λ a l. p a) (every-cons p) (every-nil p) ws n i h k q
 
 abbrev fits : Scope → Bool
 fits x = withinClock (x .clock)
@@ -259,10 +259,10 @@ module _ (p : ℕ → Bool) (n i : ℕ) {s : Bool} (k : s ≡ every p (from i (n
 
 -- ---- ordinary work
 
-module _ (ws : List ℕ) (n i : ℕ) (h : 0 < i) (g : i ≤ n) (m : n ≤ mostWaiting) (e : Event) (r : e ≡ getD (eventsOf ws) (i - 1) slot.blank) (b : Bool)
+module _ (ws : List ℕ) (n i : ℕ) (h : 0 < i) (g : i ≤ n) (m : n ≤ roomForEvents) (e : Event) (r : e ≡ getD (eventsOf ws) (i - 1) slot.blank) (b : Bool)
     (q : b ≡ ordinary e) {w : ℕ} (k : w ≡ count ordinary (drop i (take n (eventsOf ws)))) where
   one-more : drop (i - 1) (take n (eventsOf ws)) ≡ e ∷ drop i (take n (eventsOf ws))
-  one-more = rw r (drop-pred (eventsOf ws) n i slot.blank h g (rw (H.things-length slot.decode slot.encode slot.slotWords mostWaiting slot.encode-long ws) m))
+  one-more = rw r (drop-pred (eventsOf ws) n i slot.blank h g (rw (H.things-length slot.decode slot.encode slot.slotWords roomForEvents slot.encode-long ws) m))
 
   pub work-more : b ≡ true → w + 1 ≡ count ordinary (drop (i - 1) (take n (eventsOf ws)))
   work-more y = rw (one-more, count-yes ordinary e (drop i (take n (eventsOf ws))) (sym q ∙ y), k) (omega arith)

@@ -3,7 +3,7 @@ use mathlib.Core.Bool.{Bool, true, false, not, _&&_, _||_}
 use mathlib.Core.Path.{_≡_, refl, ap, _∙_, sym}
 use mathlib.Core.List.{List, [], _∷_, map}
 use Prim.Native.Nat.{ℕ, zero, suc, _+_, _≤_, _<_}
-use native.Mathlib.Nat.{min-eq-left}
+use native.Mathlib.Nat.{le-trans, min-eq-left}
 use native.Mathlib.Omega.{arith}
 use lib.Dec.{ltb, leb, eqb}
 use lib.ListN.{length, take, getD, length-take, length-map, List·getD-map}
@@ -15,6 +15,7 @@ use Rattle.lists.specs.Every.{by-test, no-way}
 use Rattle.lists.specs.Held as H
 use Rattle.lists.specs.Loops.{front-long}
 use Rattle.rows.specs.Bytes.{Image}
+use Rattle.rows.specs.Limits.{limits}
 use Rattle.rows.specs.Kinds as K
 use Rattle.table.specs.Check.{isTable}
 use Rattle.table.specs.Table.{Table}
@@ -22,15 +23,15 @@ use Rattle.table.proofs.TableLaws.{count-most}
 use Rattle.kept.specs.Kept.{table-is}
 use Rattle.kept.specs.Stored.{empty-rules}
 use Rattle.tags.specs.Tags.{withinClock, freshClock, toGlobal}
-use Rattle.entries.specs.Entries.{mostHeld}
+use Rattle.entries.specs.Entries.{roomForEntries, held-fits}
 use Rattle.store.specs.Store.{Store, storeRules, emptyStore}
 use Rattle.store_rules.specs.Rules.{countedRules}
 use Rattle.machine.specs.Table.{scopes, reactors, actions, hasParent}
-use Rattle.machine.specs.State.{Event, State, root, mostWaiting, ordinary, scopeIn, scopeAt, withStore}
+use Rattle.machine.specs.State.{Event, State, root, ordinary, scopeIn, scopeAt, withStore}
 use Rattle.machine.specs.Transition.{isTag}
 use Rattle.machine.specs.Machine.{modeRules, eventRules, queueRules, imageRules, scopeRules, sized, rules}
 use Rattle.slots.specs.Slots as slot
-use Rattle.slots.specs.Slots.{eventsOf}
+use Rattle.slots.specs.Slots.{eventsOf, roomForEvents, waiting-fits}
 use Rattle.scopes.specs.Scopes as scope
 use Rattle.scopes.specs.Scopes.{Scope, mostScopes, scopesOf}
 use Rattle.lens.specs.Lens.{mostReactors}
@@ -48,6 +49,14 @@ module _ (img : Image) {t : Bool} (et : t ≡ isTable img) (y : not t ≡ false)
 
   pub own-long : (modes : List ℕ) → length modes ≡ mostReactors → k ≡ reactors img → k ≡ length (take k modes)
   own-long modes m e = let f = few-reactors modes m e in sym (length-take k modes ∙ min-eq-left f)
+
+-- no more wait than there is room for
+pub few-waiting : (img : Image) {limit n : ℕ} → limit ≡ limits img .waiting → n ≤ limit → n ≤ roomForEvents
+few-waiting img e h = le-trans h (rw e (waiting-fits img))
+
+-- nor are more held, where the limit is the image's
+pub few-held : (img : Image) {limit : ℕ} → limit ≡ limits img .held → limit ≤ roomForEntries
+few-held img e = rw e (held-fits img)
 
 -- ---- tests taken together
 
@@ -106,7 +115,7 @@ module _ (img : Image) (modes : List ℕ) (ss : List Scope) (es : List Event) (w
   unfolding eventKeeps
   event-same e = by-test (queueRules img e) (λ y. rw (image-same e y)) (λ n. simp n)
 
-  module _ (t : isTable img ≡ true) (m : length modes ≡ mostReactors) (w : length es ≤ mostWaiting) where
+  module _ (t : isTable img ≡ true) (m : length modes ≡ mostReactors) (w : length es ≤ limits img .waiting) where
     sized-is : sized img here ≡ true
     unfolding sized
     sized-is =
@@ -117,17 +126,18 @@ module _ (img : Image) (modes : List ℕ) (ss : List Scope) (es : List Event) (w
     pub rules-are : rules img here ≡ (scopesSound img (take (reactors img) modes) ss (scopes img) && queueSound img ss es work)
     unfolding rules scopesSound queueSound
     rules-are =
-        let ev : (every (eventRules img) es && (every (queueRules img) es && (every (imageRules (here .scopes)) es && (eqb work (count ordinary es) && storeRules (actions img) emptyStore))))
+        let ev :
+        (every (eventRules img) es && (every (queueRules img) es && (every (imageRules (here .scopes)) es && (eqb work (count ordinary es) && storeRules (limits img .held) (actions img) emptyStore))))
         ≡ (every (eventKeeps img ss) es && eqb work (count ordinary es))
         = every-three (eventRules img) (queueRules img) (imageRules (here .scopes)) es _ ∙
         rw (
           every-same (λ e. eventRules img e && (queueRules img e && imageRules (here .scopes) e)) (eventKeeps img ss) event-same es,
-          empty-rules (actions img),
+          empty-rules (limits img .held) (actions img),
           and-yes (eqb work (count ordinary es)),
         )
         in
         let sc = every-numbers (scopeRules img (here .modes) (here .scopes)) (scopeRules img (take (reactors img) modes) ss) (scopes img) 0 (λ i l. scope-same i (omega arith)) in
-        rw (t, sized-is, le-leb (length es) mostWaiting w, ev, sc)
+        rw (t, sized-is, le-leb (length es) (limits img .waiting) w, ev, sc)
         (and-four (every (modeRules img) (take (reactors img) modes)) (every (λ x. withinClock (x .clock)) (take (scopes img) ss))
         (every (scopeRules img (take (reactors img) modes) ss) (from 0 (scopes img))) (queueSound img ss es work))
 
@@ -135,22 +145,26 @@ module _ (img : Image) (modes : List ℕ) (ss : List Scope) (es : List Event) (w
 
 module _ (img : Image) (modes sws ews : List ℕ) (n work : ℕ) (m : length modes ≡ mostReactors) where
   abbrev queue : Bool
-  queue = leb n mostWaiting && rules img (stateOf img modes (scopesOf sws) (take n (eventsOf ews)) work emptyStore)
+  queue = leb n (limits img .waiting) && rules img (stateOf img modes (scopesOf sws) (take n (eventsOf ews)) work emptyStore)
 
-  pub rules-many : mostWaiting < n → false ≡ queue
-  rules-many h = simp (lt-leb n mostWaiting h)
+  pub rules-many : {limit : ℕ} → limit ≡ limits img .waiting → limit < n → false ≡ queue
+  rules-many e h = rw (← e) (simp (lt-leb n _ h))
 
-  module _ (h : n ≤ mostWaiting) (t : Bool) (et : t ≡ isTable img) where
+  module _ {limit : ℕ} (el : limit ≡ limits img .waiting) (h : n ≤ limit) (t : Bool) (et : t ≡ isTable img) where
+    few : leb n (limits img .waiting) ≡ true
+    few = rw (← el) (le-leb n limit h)
+
     pub rules-table : not t ≡ true → false ≡ queue
     unfolding rules
-    rules-table y = simp (le-leb n mostWaiting h, flag-no et y)
+    rules-table y = simp (few, flag-no et y)
 
     module _ (yt : not t ≡ false) (k : ℕ) (ek : k ≡ scopes img) (own : List ℕ) (eo : own ≡ take (reactors img) modes) (a : Bool) (ea : a ≡ scopesSound img own (scopesOf sws) k) where
       queue-is : queue ≡ (a && queueSound img (scopesOf sws) (take n (eventsOf ews)) work)
       queue-is =
-          let few : scopes img ≤ length (scopesOf sws) = rw (H.things-length scope.decode scope.encode scope.scopeWords mostScopes scope.encode-long sws) (most-scopes img (flag-yes et yt)) in
-          let w : length (take n (eventsOf ews)) ≤ mostWaiting = rw (front-long slot.decode slot.encode slot.slotWords mostWaiting slot.encode-long ews n h) h in
-          rw (le-leb n mostWaiting h, rules-are img modes (scopesOf sws) (take n (eventsOf ews)) work few (flag-yes et yt) m w, ea, eo, ek)
+          let all : scopes img ≤ length (scopesOf sws) = rw (H.things-length scope.decode scope.encode scope.scopeWords mostScopes scope.encode-long sws) (most-scopes img (flag-yes et yt)) in
+          let w : length (take n (eventsOf ews)) ≤ limits img .waiting =
+          rw (front-long slot.decode slot.encode slot.slotWords roomForEvents slot.encode-long ews n (few-waiting img el h), ← el) h in
+          rw (few, rules-are img modes (scopesOf sws) (take n (eventsOf ews)) work all (flag-yes et yt) m w, ea, eo, ek)
 
       pub rules-scopes : not a ≡ true → false ≡ queue
       rules-scopes y = sym (queue-is ∙ simp (not-true a y))
@@ -167,10 +181,10 @@ pub ruleset queue-cases = (rules-many, rules-table, rules-scopes, rules-queue)
 -- ---- all the rules
 
 module _ (img : Image) (modes : List ℕ) (ss : List Scope) (es : List Event) (work : ℕ) (st : Store) where
-  rules-store : rules img (stateOf img modes ss es work st) ≡ (rules img (stateOf img modes ss es work emptyStore) && storeRules (actions img) st)
+  rules-store : rules img (stateOf img modes ss es work st) ≡ (rules img (stateOf img modes ss es work emptyStore) && storeRules (limits img .held) (actions img) st)
   unfolding rules sized scopeRules imageRules
   rules-store =
-      by-test (storeRules (actions img) st) (λ y. simp (y, empty-rules (actions img), and-yes)) (λ n. simp (n, and-no))
+      by-test (storeRules (limits img .held) (actions img) st) (λ y. simp (y, empty-rules (limits img .held) (actions img), and-yes)) (λ n. simp (n, and-no))
 
 apart : (w h o r s : Bool) → (w && (h && (o && (r && s)))) ≡ ((w && r) && (h && (o && s)))
 apart true h o true s = refl
@@ -182,15 +196,15 @@ module _ (img : Image) (n held opened : ℕ) (modes : List ℕ) (ss : List Scope
   abbrev whole : Bool
   whole = sound img n held opened (stateOf img modes ss es work st)
 
-  whole-is : whole ≡ ((leb n mostWaiting && rules img (stateOf img modes ss es work emptyStore)) && countedRules (actions img) held opened st)
+  whole-is : whole ≡ ((leb n (limits img .waiting) && rules img (stateOf img modes ss es work emptyStore)) && countedRules (limits img .held) (actions img) held opened st)
   unfolding sound countedRules
-  whole-is = rw (rules-store img modes ss es work st) (apart (leb n mostWaiting) (leb held mostHeld) (leb opened mostHeld) _ _)
+  whole-is = rw (rules-store img modes ss es work st) (apart (leb n (limits img .waiting)) (leb held (limits img .held)) (leb opened (limits img .held)) _ _)
 
-  module _ (a : Bool) (ea : a ≡ (leb n mostWaiting && rules img (stateOf img modes ss es work emptyStore))) where
+  module _ (a : Bool) (ea : a ≡ (leb n (limits img .waiting) && rules img (stateOf img modes ss es work emptyStore))) where
     pub sound-queue : not a ≡ true → false ≡ whole
     sound-queue y = rw (whole-is, ← ea, not-true a y)
 
-    pub sound-store : {k : ℕ} {r : Bool} → not a ≡ false → k ≡ actions img → r ≡ countedRules k held opened st → r ≡ whole
-    sound-store y ek q = q ∙ (rw (whole-is, ← ea, not-false a y, ek))
+    pub sound-store : {l k : ℕ} {r : Bool} → not a ≡ false → l ≡ limits img .held → k ≡ actions img → r ≡ countedRules l k held opened st → r ≡ whole
+    sound-store y el ek q = q ∙ (rw (whole-is, ← ea, not-false a y, el, ek))
 
 pub ruleset sound-cases = (sound-queue, sound-store)

@@ -6,11 +6,11 @@ use lib.Dec.{ltb, leb, eqb}
 use lib.ListN.{take}
 use Rattle.lists.specs.Lists.{every, count, from}
 use Rattle.rows.specs.Bytes.{Image}
+use Rattle.rows.specs.Limits.{limits}
 use Rattle.tags.specs.Tags.{withinClock}
 use Rattle.key_set.specs.Sets.{has, wordCount}
-use Rattle.entries.specs.Entries.{mostHeld}
 use Rattle.machine.specs.Table.{scopes, reactors, reactions, actions}
-use Rattle.machine.specs.State.{Event, Scope, State, mostWaiting, ordinary}
+use Rattle.machine.specs.State.{Event, Scope, State, ordinary}
 use Rattle.machine.specs.Machine.{modeRules, scopeRules, eventRules, queueRules, imageRules, rules}
 use Rattle.store.specs.Store.{Store, emptyStore}
 use Rattle.slots.specs.Slots.{eventsOf}
@@ -21,7 +21,8 @@ use Rattle.state_rules.specs.declared.Sizes.{Sizes}
 
 -- no more are counted than may be, and the state that is counted keeps the rules
 unfoldable pub sound : Image → ℕ → ℕ → ℕ → State → Bool
-sound img waiting held open-buckets s = leb waiting mostWaiting && (leb held mostHeld && (leb open-buckets mostHeld && rules img s))
+sound img waiting held open-buckets s =
+    let most = limits img in leb waiting (most .waiting) && (leb held (most .held) && (leb open-buckets (most .held) && rules img s))
 
 -- of lent rows
 abbrev pub soundIn : Image → Rows → Bool

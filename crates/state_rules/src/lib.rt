@@ -8,9 +8,10 @@ ghost use lib.Dec.{leb};
 ghost use lib.ListN.{length, getD, take};
 ghost use Rattle.lists.specs.Lists.{every, count, from};
 ghost use Rattle.tags.specs.Tags.{withinClock};
-ghost use Rattle.machine.specs.State.{mostWaiting, ordinary};
+ghost use Rattle.machine.specs.State.{ordinary};
 ghost use Rattle.machine.specs.Machine.{modeRules, scopeRules, eventRules, queueRules, imageRules};
-ghost use Rattle.slots.specs.Slots.{eventsOf, eventOf};
+ghost use Rattle.rows.specs.Limits.{limits};
+ghost use Rattle.slots.specs.Slots.{eventsOf, eventOf, roomForEvents};
 ghost use Rattle.scopes.specs.Scopes.{mostScopes, scopesOf, blank};
 ghost use Rattle.lens.specs.Lens.{mostReactors};
 ghost use Rattle.lens.specs.Holds.{were};
@@ -227,7 +228,7 @@ fn events_keep(
     events: &[u64; slots::ROOM],
     n: usize,
 ) -> bool
-    requires { ⌜ n ≤ mostWaiting ⌝ }
+    requires { ⌜ n ≤ roomForEvents ⌝ }
     ensures { λ r. ⌜ r ≡ every (eventKeeps (was image) (scopesOf (was scopes))) (take n (eventsOf (was events))) ⌝ }
 {
     let z = sizes_in(image);
@@ -244,7 +245,7 @@ fn events_keep(
 
 // How many of the events are ordinary.
 fn ordinary_work(events: &[u64; slots::ROOM], n: usize) -> usize
-    requires { ⌜ n ≤ mostWaiting ⌝ }
+    requires { ⌜ n ≤ roomForEvents ⌝ }
     ensures { λ r. ⌜ r ≡ count ordinary (take n (eventsOf (was events))) ⌝ }
 {
     let mut work: usize = 0;
@@ -280,7 +281,7 @@ fn queue_sound(
     events: &[u64; slots::ROOM],
     counts: Counts,
 ) -> bool
-    requires { ⌜ counts .waiting ≤ mostWaiting ⌝ }
+    requires { ⌜ counts .waiting ≤ roomForEvents ⌝ }
     ensures { λ r. ⌜ r ≡ queueSound (was image) (scopesOf (was scopes)) (take (counts .waiting) (eventsOf (was events))) (counts .work) ⌝ }
 {
     let n = counts.waiting;
@@ -300,10 +301,11 @@ fn queue_rules(
     counts: Counts,
 ) -> bool
     requires { ⌜ length (now modes) ≡ mostReactors ⌝ }
-    ensures { λ r. ⌜ r ≡ (leb (counts .waiting) mostWaiting && queueRulesIn (was image) (was modes) (was scopes) (was events) counts) ⌝ }
+    ensures { λ r. ⌜ r ≡ (leb (counts .waiting) (limits (was image) .waiting) && queueRulesIn (was image) (was modes) (was scopes) (was events) counts) ⌝ }
 {
     let waiting = counts.waiting;
-    if slots::MOST_WAITING < waiting {
+    let limit = rows::most_waiting(image);
+    if limit < waiting {
         return false;
     }
     if !table::accepted(image) {
@@ -337,6 +339,7 @@ pub fn keeps_rules(
     if !queue_rules(image, &modes, scopes, events, counts) {
         return false;
     }
+    let limit = rows::most_held(image);
     let actions = rows::count(image, rows::ACTION);
-    store_rules::keeps_rules(values, buckets, held, actions)
+    store_rules::keeps_rules(values, buckets, held, limit, actions)
 }

@@ -8,7 +8,7 @@ use Rattle.lists.specs.Lists.{lose, any, every, distinct, upsert}
 use Rattle.lists.specs.Walk.{Result, done, refused}
 use Rattle.refusals.specs.declared.Refusal.{Refusal}
 use Rattle.refusals.specs.declared.Refusal.the-variants as R
-use Rattle.entries.specs.Entries.{Value, Bucket, mostHeld}
+use Rattle.entries.specs.Entries.{Value, Bucket}
 use Rattle.tags.specs.Tags.{Tag, at, maxMicrostep, within, sameTag, earlier}
 
 pub record Store : Type 0 where
@@ -42,12 +42,13 @@ abbrev pub raised : ℕ → Bucket → Bucket
 raised n b = record { action = b .action; offset = b .offset; next = larger (b .next) n }
 
 -- a new one is needed, and as many are held as may be
-unfoldable pub lacks : {A : Type 0} → (A → Bool) → List A → Bool
-lacks p l = not (any p l) && leb mostHeld (length l)
+unfoldable pub lacks : {A : Type 0} → ℕ → (A → Bool) → List A → Bool
+lacks limit p l = not (any p l) && leb limit (length l)
 
-unfoldable pub pushed : Store → ℕ → Tag → ℕ → Result Refusal Store
-pushed s a t v =
-    cond (lacks (isValue a t) (s .values) || lacks (isBucket a (t .offset)) (s .buckets)) (refused R.Held)
+-- where no more than `limit` values, and no more buckets, may be held
+unfoldable pub pushed : ℕ → Store → ℕ → Tag → ℕ → Result Refusal Store
+pushed limit s a t v =
+    cond (lacks limit (isValue a t) (s .values) || lacks limit (isBucket a (t .offset)) (s .buckets)) (refused R.Held)
     (let n = following (t .microstep) in
     done
     (record {
@@ -112,12 +113,12 @@ cleared s a = record { values = lose (ofAction a) (s .values); buckets = lose (b
 
 -- ---- "A move between equal tags does nothing, and so does a move of a value not held": else a take and then a push
 
-abbrev pub pushFound : Store → Store → ℕ → Tag → Found → Result Refusal Store
-pushFound s t a new nothing = done s
-pushFound s t a new (found v) = pushed t a new v
+abbrev pub pushFound : ℕ → Store → Store → ℕ → Tag → Found → Result Refusal Store
+pushFound limit s t a new nothing = done s
+pushFound limit s t a new (found v) = pushed limit t a new v
 
-unfoldable pub moved : Store → ℕ → Tag → Tag → Result Refusal Store
-moved s a old new = cond (sameTag old new) (done s) (pushFound s (taken s a old) a new (valueIn a old (s .values)))
+unfoldable pub moved : ℕ → Store → ℕ → Tag → Tag → Result Refusal Store
+moved limit s a old new = cond (sameTag old new) (done s) (pushFound limit s (taken s a old) a new (valueIn a old (s .values)))
 
 -- ---- the state rules that speak of values and buckets
 
@@ -140,9 +141,9 @@ sameValue v w = isValue (w .action) (w .tag) v
 unfoldable pub sameBucket : Bucket → Bucket → Bool
 sameBucket b c = isBucket (c .action) (c .offset) b
 
-unfoldable pub storeRules : ℕ → Store → Bool
-storeRules actions s =
-    leb (length (s .values)) mostHeld && (leb (length (s .buckets)) mostHeld &&
+unfoldable pub storeRules : ℕ → ℕ → Store → Bool
+storeRules limit actions s =
+    leb (length (s .values)) limit && (leb (length (s .buckets)) limit &&
     (every (valueRules actions) (s .values) && (every (bucketRules actions) (s .buckets) &&
     (distinct sameValue (s .values) && (distinct sameBucket (s .buckets) &&
     every (hasBucket (s .buckets)) (s .values))))))

@@ -6,7 +6,7 @@ ghost use lib.ListN.{length, take, drop};
 ghost use Rattle.lists.specs.Lists.{lose, over};
 ghost use Rattle.lists.specs.Lay.{lay};
 ghost use Rattle.tags.specs.Views.{ofGlobal};
-ghost use Rattle.entries.specs.Entries.{mostHeld, ofValue, ofBucket, blankValue, blankBucket};
+ghost use Rattle.entries.specs.Entries.{roomForEntries, ofValue, ofBucket, blankValue, blankBucket};
 ghost use Rattle.entries.specs.Words.{valuesOf, bucketsOf, WholeValues, WholeBuckets, HeldValues, HeldBuckets};
 ghost use Rattle.lists.specs.Loops.{place};
 ghost use Rattle.store.specs.Store.{isValue, isBucket, isBefore, isThere, isSpent, following, larger, raised, valueRules, bucketRules, coveredBy};
@@ -180,7 +180,7 @@ impl BucketTest {
 
 // The first row from `from` on whose value passes, or n.
 pub fn value_from(rows: &ValueRows, from: usize, n: usize, which: ValueTest) -> usize
-    requires { ⌜ (from ≤ n) × (n ≤ mostHeld) ⌝ }
+    requires { ⌜ (from ≤ n) × (n ≤ roomForEntries) ⌝ }
     ensures { λ r. ⌜ r ≡ from + place (valueTest which) (drop from (take n (valuesOf (now (rows .entry))))) ⌝ }
 {
     let mut i = from;
@@ -196,7 +196,7 @@ pub fn value_from(rows: &ValueRows, from: usize, n: usize, which: ValueTest) -> 
 
 // The first row from `from` on whose bucket passes, or n.
 pub fn bucket_from(rows: &BucketRows, from: usize, n: usize, which: BucketTest) -> usize
-    requires { ⌜ (from ≤ n) × (n ≤ mostHeld) ⌝ }
+    requires { ⌜ (from ≤ n) × (n ≤ roomForEntries) ⌝ }
     ensures { λ r. ⌜ r ≡ from + place (bucketTest which) (drop from (take n (bucketsOf (now (rows .entry))))) ⌝ }
 {
     let mut i = from;
@@ -212,14 +212,14 @@ pub fn bucket_from(rows: &BucketRows, from: usize, n: usize, which: BucketTest) 
 
 // The first row whose value passes, or n.
 pub fn find_value(rows: &ValueRows, n: usize, which: ValueTest) -> usize
-    requires { ⌜ n ≤ mostHeld ⌝ }
+    requires { ⌜ n ≤ roomForEntries ⌝ }
     ensures { λ r. ⌜ r ≡ place (valueTest which) (take n (valuesOf (now (rows .entry)))) ⌝ }
 {
     value_from(rows, 0, n, which)
 }
 
 pub fn find_bucket(rows: &BucketRows, n: usize, which: BucketTest) -> usize
-    requires { ⌜ n ≤ mostHeld ⌝ }
+    requires { ⌜ n ≤ roomForEntries ⌝ }
     ensures { λ r. ⌜ r ≡ place (bucketTest which) (take n (bucketsOf (now (rows .entry)))) ⌝ }
 {
     bucket_from(rows, 0, n, which)
@@ -228,7 +228,7 @@ pub fn find_bucket(rows: &BucketRows, n: usize, which: BucketTest) -> usize
 // The values that don't pass, over the front; how many.
 fn compact_values(rows: &mut ValueRows, n: usize, which: ValueTest) -> usize
     requires { ⌜ WholeValues (now rows) ⌝ }
-    requires { ⌜ n ≤ mostHeld ⌝ }
+    requires { ⌜ n ≤ roomForEntries ⌝ }
     ensures { λ r. ⌜ r ≡ length (lose (valueTest which) (take n (valuesOf (now (rows .entry))))) ⌝ }
     ensures { λ _. ⌜ HeldValues (now (rows .exit)) (over (lose (valueTest which) (take n (valuesOf (now (rows .entry))))) (valuesOf (now (rows .entry)))) ⌝ }
 {
@@ -248,7 +248,7 @@ fn compact_values(rows: &mut ValueRows, n: usize, which: ValueTest) -> usize
 // The buckets that don't pass, over the front; how many.
 fn compact_buckets(rows: &mut BucketRows, n: usize, which: BucketTest) -> usize
     requires { ⌜ WholeBuckets (now rows) ⌝ }
-    requires { ⌜ n ≤ mostHeld ⌝ }
+    requires { ⌜ n ≤ roomForEntries ⌝ }
     ensures { λ r. ⌜ r ≡ length (lose (bucketTest which) (take n (bucketsOf (now (rows .entry))))) ⌝ }
     ensures { λ _. ⌜ HeldBuckets (now (rows .exit)) (over (lose (bucketTest which) (take n (bucketsOf (now (rows .entry))))) (bucketsOf (now (rows .entry)))) ⌝ }
 {
@@ -268,7 +268,7 @@ fn compact_buckets(rows: &mut BucketRows, n: usize, which: BucketTest) -> usize
 // The rows from w to n blank.
 fn blank_values(rows: &mut ValueRows, w: usize, n: usize)
     requires { ⌜ WholeValues (now rows) ⌝ }
-    requires { ⌜ (w ≤ n) × (n ≤ mostHeld) ⌝ }
+    requires { ⌜ (w ≤ n) × (n ≤ roomForEntries) ⌝ }
     ensures { λ _. ⌜ HeldValues (now (rows .exit)) (lay blankValue (valuesOf (now (rows .entry))) (take w (valuesOf (now (rows .entry)))) n) ⌝ }
 {
     let v = Value::blank();
@@ -281,7 +281,7 @@ fn blank_values(rows: &mut ValueRows, w: usize, n: usize)
 
 fn blank_buckets(rows: &mut BucketRows, w: usize, n: usize)
     requires { ⌜ WholeBuckets (now rows) ⌝ }
-    requires { ⌜ (w ≤ n) × (n ≤ mostHeld) ⌝ }
+    requires { ⌜ (w ≤ n) × (n ≤ roomForEntries) ⌝ }
     ensures { λ _. ⌜ HeldBuckets (now (rows .exit)) (lay blankBucket (bucketsOf (now (rows .entry))) (take w (bucketsOf (now (rows .entry)))) n) ⌝ }
 {
     let b = Bucket::blank();
@@ -295,7 +295,7 @@ fn blank_buckets(rows: &mut BucketRows, w: usize, n: usize)
 // The values that pass go, and the rows they free are blank; how many stay.
 pub fn lose_values(rows: &mut ValueRows, n: usize, which: ValueTest) -> usize
     requires { ⌜ WholeValues (now rows) ⌝ }
-    requires { ⌜ n ≤ mostHeld ⌝ }
+    requires { ⌜ n ≤ roomForEntries ⌝ }
     ensures { λ r. ⌜ r ≡ length (lose (valueTest which) (take n (valuesOf (now (rows .entry))))) ⌝ }
     ensures { λ _. ⌜ HeldValues (now (rows .exit)) (lay blankValue (valuesOf (now (rows .entry))) (lose (valueTest which) (take n (valuesOf (now (rows .entry))))) n) ⌝ }
 {
@@ -306,7 +306,7 @@ pub fn lose_values(rows: &mut ValueRows, n: usize, which: ValueTest) -> usize
 
 pub fn lose_buckets(rows: &mut BucketRows, n: usize, which: BucketTest) -> usize
     requires { ⌜ WholeBuckets (now rows) ⌝ }
-    requires { ⌜ n ≤ mostHeld ⌝ }
+    requires { ⌜ n ≤ roomForEntries ⌝ }
     ensures { λ r. ⌜ r ≡ length (lose (bucketTest which) (take n (bucketsOf (now (rows .entry))))) ⌝ }
     ensures { λ _. ⌜ HeldBuckets (now (rows .exit)) (lay blankBucket (bucketsOf (now (rows .entry))) (lose (bucketTest which) (take n (bucketsOf (now (rows .entry))))) n) ⌝ }
 {
@@ -321,7 +321,7 @@ pub fn lose_buckets(rows: &mut BucketRows, n: usize, which: BucketTest) -> usize
 pub fn set_value(rows: &mut ValueRows, n: usize, i: usize, v: Value) -> usize
     requires { ⌜ WholeValues (now rows) ⌝ }
     requires { ⌜ i ≡ place (isValue (v .action) (ofGlobal (v .tag))) (take n (valuesOf (now rows))) ⌝ }
-    requires { ⌜ (n ≤ mostHeld) × (i < mostHeld) ⌝ }
+    requires { ⌜ (n ≤ roomForEntries) × (i < roomForEntries) ⌝ }
     ensures { λ r. ⌜ r ≡ length (valuePut (ofValue v) (take n (valuesOf (now (rows .entry))))) ⌝ }
     ensures { λ _. ⌜ HeldValues (now (rows .exit)) (lay blankValue (valuesOf (now (rows .entry))) (valuePut (ofValue v) (take n (valuesOf (now (rows .entry))))) n) ⌝ }
 {
@@ -348,7 +348,7 @@ fn raised_to(b: Bucket, next: u32) -> Bucket
 pub fn raise_bucket(rows: &mut BucketRows, n: usize, i: usize, b: Bucket) -> usize
     requires { ⌜ WholeBuckets (now rows) ⌝ }
     requires { ⌜ i ≡ place (isBucket (b .action) (b .offset)) (take n (bucketsOf (now rows))) ⌝ }
-    requires { ⌜ (n ≤ mostHeld) × (i < mostHeld) ⌝ }
+    requires { ⌜ (n ≤ roomForEntries) × (i < roomForEntries) ⌝ }
     ensures { λ r. ⌜ r ≡ length (bucketPut (ofBucket b) (take n (bucketsOf (now (rows .entry))))) ⌝ }
     ensures { λ _. ⌜ HeldBuckets (now (rows .exit)) (lay blankBucket (bucketsOf (now (rows .entry))) (bucketPut (ofBucket b) (take n (bucketsOf (now (rows .entry))))) n) ⌝ }
 {

@@ -7,7 +7,7 @@ use Rattle.lists.specs.Lay.{lay}
 use Rattle.lists.specs.Walk.{Result, done, refused}
 use Rattle.refusals.specs.declared.Refusal.{Refusal}
 use Rattle.refusals.specs.declared.Refusal.the-variants as R
-use Rattle.entries.specs.Entries.{mostHeld, blankValue, blankBucket}
+use Rattle.entries.specs.Entries.{roomForEntries, blankValue, blankBucket}
 use Rattle.entries.specs.Words.{valuesOf, bucketsOf, WholeValues, WholeBuckets, HeldValues, HeldBuckets}
 use Rattle.store.specs.Store as S
 use Rattle.store.specs.Store.{Store}
@@ -23,12 +23,13 @@ use Rattle.store_calls.specs.declared.Next.the-variants as N
 abbrev pub storeOf : List ℕ → List ℕ → Counts → Store
 storeOf vs bs n = record { values = take (n .values) (valuesOf vs); buckets = take (n .buckets) (bucketsOf bs) }
 
--- what a working function asks of the rows and counts that it is lent
-pub record Lent (vs bs : List ℕ) (n : Counts) : Type 0 where
+-- what a working function asks of the rows and counts that it is lent: no more are held than the limit, for which there is room
+pub record Lent (limit : ℕ) (vs bs : List ℕ) (n : Counts) : Type 0 where
   pub values : WholeValues vs
   pub buckets : WholeBuckets bs
-  pub few-values : n .values ≤ mostHeld
-  pub few-buckets : n .buckets ≤ mostHeld
+  pub few-values : n .values ≤ limit
+  pub few-buckets : n .buckets ≤ limit
+  pub room : limit ≤ roomForEntries
 
 -- what it leaves: the store t over the rows vs and bs, of which n were held
 pub record Laid (vs bs : List ℕ) (n : Counts) (t : Store) (vs-end bs-end : List ℕ) (m : Counts) : Type 0 where

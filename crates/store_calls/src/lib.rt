@@ -1,18 +1,17 @@
 // The calls of the value store on lent rows: document 01, "pushing again overwrites" to "a move of a value not held". Carried over from
 // boomerang_runtime's action/store.rs (`ActionStore`). Two arrays of rows are lent, with how many of each are held; a row that is freed is blank.
-// Refusal 9 is decided here. A new call comes in here and in `Call` of value_store.
+// Refusal 9 is decided here, by the limit that is given: that of the image. A new call comes in here and in `Call` of value_store.
 ghost use mathlib.Core.Path.{_≡_};
 ghost use Prim.Native.Nat.{_≤_};
 ghost use lib.ListN.{take};
 ghost use Rattle.lists.specs.Lent.{was, is};
 ghost use Rattle.tags.specs.Views.{ofGlobal};
-ghost use Rattle.entries.specs.Entries.{mostHeld};
+ghost use Rattle.entries.specs.Entries.{roomForEntries};
 ghost use Rattle.entries.specs.Words.{valuesOf, bucketsOf};
 ghost use Rattle.store.specs.Store.{pushed, nextIn, atLeast, unlessLast, valueIn, taken, clearedBefore, cleared, moved};
 ghost use Rattle.store_calls.specs.Lent.{storeOf, Lent, Laid, Did, foundOf, nextOf, overfull};
 use entries::Bucket;
 use entries::BucketRows;
-use entries::MOST_HELD;
 use entries::Value;
 use entries::ValueRows;
 use refusals::Outcome;
@@ -66,21 +65,22 @@ pub fn push(
     values: &mut ValueRows,
     buckets: &mut BucketRows,
     held: Counts,
+    limit: usize,
     action: u16,
     tag: GlobalTag,
     value: u64,
 ) -> Changed
-    requires { ⌜ Lent (now values) (now buckets) held ⌝ }
-    ensures { λ r. ⌜ Did (was values) (was buckets) held (pushed (storeOf (was values) (was buckets) held) action (ofGlobal tag) value) (is values) (is buckets) r ⌝ }
+    requires { ⌜ Lent limit (now values) (now buckets) held ⌝ }
+    ensures { λ r. ⌜ Did (was values) (was buckets) held (pushed limit (storeOf (was values) (was buckets) held) action (ofGlobal tag) value) (is values) (is buckets) r ⌝ }
 {
     let n = held.values;
     let m = held.buckets;
     let i = store::find_value(values, n, ValueTest::At(action, tag));
     let j = store::find_bucket(buckets, m, BucketTest::At(action, tag.0));
-    if MOST_HELD <= i {
+    if limit <= i {
         return full(held);
     }
-    if MOST_HELD <= j {
+    if limit <= j {
         return full(held);
     }
     let next = store::next_after(tag.1);
@@ -125,7 +125,7 @@ fn unless_last(microstep: u32) -> Next
 
 // The larger of the bucket's and the least, or the least if no bucket.
 pub fn next_microstep(buckets: &BucketRows, n: usize, action: u16, offset: u64, least: u32) -> Next
-    requires { ⌜ n ≤ mostHeld ⌝ }
+    requires { ⌜ n ≤ roomForEntries ⌝ }
     ensures { λ r. ⌜ nextOf r ≡ atLeast (nextIn action offset (take n (bucketsOf (was buckets)))) least ⌝ }
 {
     let j = store::find_bucket(buckets, n, BucketTest::At(action, offset));
@@ -144,7 +144,7 @@ pub fn take(
     action: u16,
     tag: GlobalTag,
 ) -> Taken
-    requires { ⌜ Lent (now values) (now buckets) held ⌝ }
+    requires { ⌜ Lent roomForEntries (now values) (now buckets) held ⌝ }
     ensures { λ r. ⌜ foundOf (r .found) ≡ valueIn action (ofGlobal tag) (take (held .values) (valuesOf (was values))) ⌝ }
     ensures { λ r. ⌜ Laid (was values) (was buckets) held (taken (storeOf (was values) (was buckets) held) action (ofGlobal tag)) (is values) (is buckets) (r .held) ⌝ }
 {
@@ -175,7 +175,7 @@ pub fn clear_older_than(
     action: u16,
     tag: GlobalTag,
 ) -> Counts
-    requires { ⌜ Lent (now values) (now buckets) held ⌝ }
+    requires { ⌜ Lent roomForEntries (now values) (now buckets) held ⌝ }
     ensures { λ r. ⌜ Laid (was values) (was buckets) held (clearedBefore (storeOf (was values) (was buckets) held) action (ofGlobal tag)) (is values) (is buckets) r ⌝ }
 {
     let n = held.values;
@@ -191,7 +191,7 @@ pub fn clear_older_than(
 
 // All that the action has.
 pub fn clear(values: &mut ValueRows, buckets: &mut BucketRows, held: Counts, action: u16) -> Counts
-    requires { ⌜ Lent (now values) (now buckets) held ⌝ }
+    requires { ⌜ Lent roomForEntries (now values) (now buckets) held ⌝ }
     ensures { λ r. ⌜ Laid (was values) (was buckets) held (cleared (storeOf (was values) (was buckets) held) action) (is values) (is buckets) r ⌝ }
 {
     let n = held.values;
@@ -209,12 +209,13 @@ pub fn move_value(
     values: &mut ValueRows,
     buckets: &mut BucketRows,
     held: Counts,
+    limit: usize,
     action: u16,
     old: GlobalTag,
     new: GlobalTag,
 ) -> Changed
-    requires { ⌜ Lent (now values) (now buckets) held ⌝ }
-    ensures { λ r. ⌜ Did (was values) (was buckets) held (moved (storeOf (was values) (was buckets) held) action (ofGlobal old) (ofGlobal new)) (is values) (is buckets) r ⌝ }
+    requires { ⌜ Lent limit (now values) (now buckets) held ⌝ }
+    ensures { λ r. ⌜ Did (was values) (was buckets) held (moved limit (storeOf (was values) (was buckets) held) action (ofGlobal old) (ofGlobal new)) (is values) (is buckets) r ⌝ }
 {
     let n = held.values;
     let m = held.buckets;
@@ -232,7 +233,7 @@ pub fn move_value(
             held: held,
         };
     }
-    if MOST_HELD <= j {
+    if limit <= j {
         return full(held);
     }
     let v = entries::value_at(values, i);
@@ -241,5 +242,5 @@ pub fn move_value(
         values: left,
         buckets: m,
     };
-    push(values, buckets, less, action, new, v.value)
+    push(values, buckets, less, limit, action, new, v.value)
 }

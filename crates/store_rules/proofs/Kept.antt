@@ -12,7 +12,7 @@ use Rattle.lists.specs.Lists.{lose, any, every, distinct, upsert, lose-shorter}
 use Rattle.lists.specs.Walk.{Result, done, refused}
 use Rattle.refusals.specs.declared.Refusal.{Refusal}
 use Rattle.tags.specs.Tags.{Tag, at, maxMicrostep, maxOffset, within, sameTag, earlier}
-use Rattle.entries.specs.Entries.{Value, Bucket, mostHeld}
+use Rattle.entries.specs.Entries.{Value, Bucket}
 use Rattle.store.specs.Store.{Store, emptyStore, isValue, isBucket, isBefore, isThere, isSpent, ofAction, bucketOf, following, larger, raised, overwritten, lacks, pushed, Found, nothing}
 use Rattle.store.specs.Store.{found, valueIn, taken, pushFound, moved, cleared, clearedBefore, coveredBy, hasBucket, valueRules, bucketRules, sameValue, sameBucket, storeRules}
 use Rattle.lists.specs.Changes.{no-way, or-no-left, or-no-right, not-no, by-test, either-is, any-upsert-more, any-upsert-new, every-upsert}
@@ -54,23 +54,23 @@ within-following t h =
 
 -- ---- the rules of the store
 
-pub record Kept (n : ℕ) (s : Store) : Type 0 where
-  pub few-values : length (s .values) ≤ mostHeld
-  pub few-buckets : length (s .buckets) ≤ mostHeld
+pub record Kept (limit n : ℕ) (s : Store) : Type 0 where
+  pub few-values : length (s .values) ≤ limit
+  pub few-buckets : length (s .buckets) ≤ limit
   pub values : every (valueRules n) (s .values) ≡ true
   pub buckets : every (bucketRules n) (s .buckets) ≡ true
   pub one-value : distinct sameValue (s .values) ≡ true
   pub one-bucket : distinct sameBucket (s .buckets) ≡ true
   pub has : every (hasBucket (s .buckets)) (s .values) ≡ true
 
-pub pushed-kept : (n : ℕ) (s : Store) (a : ℕ) (t : Tag) (v : ℕ) (u : Store) → Kept n s → ltb a n ≡ true → within t ≡ true → pushed s a t v ≡ done u → Kept n u
+pub pushed-kept : (limit n : ℕ) (s : Store) (a : ℕ) (t : Tag) (v : ℕ) (u : Store) → Kept limit n s → ltb a n ≡ true → within t ≡ true → pushed limit s a t v ≡ done u → Kept limit n u
 unfolding pushed lacks valueRules bucketRules hasBucket coveredBy isBucket sameValue sameBucket isValue
-pushed-kept n s a t v u h k w d =
-    either-is (lacks (isValue a t) (s .values) || lacks (isBucket a (t .offset)) (s .buckets)) d (λ e q. absurd (not-done q)) λ e q.
+pushed-kept limit n s a t v u h k w d =
+    either-is (lacks limit (isValue a t) (s .values) || lacks limit (isBucket a (t .offset)) (s .buckets)) d (λ e q. absurd (not-done q)) λ e q.
     rw (← (done-is q))
     (record {
-      few-values = room-upsert (isValue a t) (overwritten v) value mostHeld (s .values) (h .few-values) (or-no-left (lacks (isValue a t) (s .values)) _ e);
-      few-buckets = room-upsert (isBucket a (t .offset)) (raised m) bucket mostHeld (s .buckets) (h .few-buckets) (or-no-right (lacks (isValue a t) (s .values)) _ e);
+      few-values = room-upsert (isValue a t) (overwritten v) value limit (s .values) (h .few-values) (or-no-left (lacks limit (isValue a t) (s .values)) _ e);
+      few-buckets = room-upsert (isBucket a (t .offset)) (raised m) bucket limit (s .buckets) (h .few-buckets) (or-no-right (lacks limit (isValue a t) (s .values)) _ e);
       values = every-upsert (isValue a t) (overwritten v) value (valueRules n) (and-both (ltb a n) (within t) k w) (λ b x. x) (s .values) (h .values);
       buckets =
           every-upsert (isBucket a (t .offset)) (raised m) bucket (bucketRules n) (and-both (ltb a n) _ k (within-following t w))
@@ -103,8 +103,8 @@ pushed-kept n s a t v u h k w d =
     bucket = record { action = a; offset = t .offset; next = m }
 
 -- some values go, the buckets stay
-values-lost : (n : ℕ) (s : Store) (r : Value → Bool) → Kept n s → Kept n (record { values = lose r (s .values); buckets = s .buckets })
-values-lost n s r h =
+values-lost : (limit n : ℕ) (s : Store) (r : Value → Bool) → Kept limit n s → Kept limit n (record { values = lose r (s .values); buckets = s .buckets })
+values-lost limit n s r h =
     record {
       few-values = omega (arith, lose-shorter r (s .values), h .few-values);
       few-buckets = h .few-buckets;
@@ -116,9 +116,9 @@ values-lost n s r h =
     }
 
 -- some buckets go, none of which a value needs
-buckets-lost : (n : ℕ) (s : Store) (r : Bucket → Bool) → Kept n s
-    → every (λ v. hasBucket (lose r (s .buckets)) v) (s .values) ≡ true → Kept n (record { values = s .values; buckets = lose r (s .buckets) })
-buckets-lost n s r h k =
+buckets-lost : (limit n : ℕ) (s : Store) (r : Bucket → Bool) → Kept limit n s
+    → every (λ v. hasBucket (lose r (s .buckets)) v) (s .values) ≡ true → Kept limit n (record { values = s .values; buckets = lose r (s .buckets) })
+buckets-lost limit n s r h k =
     record {
       few-values = h .few-values;
       few-buckets = omega (arith, lose-shorter r (s .buckets), h .few-buckets);
@@ -129,23 +129,23 @@ buckets-lost n s r h k =
       has = k;
     }
 
-pub taken-kept : (n : ℕ) (s : Store) (a : ℕ) (t : Tag) → Kept n s → Kept n (taken s a t)
+pub taken-kept : (limit n : ℕ) (s : Store) (a : ℕ) (t : Tag) → Kept limit n s → Kept limit n (taken s a t)
 unfolding taken
-taken-kept n s a t h = values-lost n s (isValue a t) h
+taken-kept limit n s a t h = values-lost limit n s (isValue a t) h
 
-pub moved-kept : (n : ℕ) (s : Store) (a : ℕ) (t u : Tag) (w : Store) → Kept n s → ltb a n ≡ true → within u ≡ true → moved s a t u ≡ done w → Kept n w
+pub moved-kept : (limit n : ℕ) (s : Store) (a : ℕ) (t u : Tag) (w : Store) → Kept limit n s → ltb a n ≡ true → within u ≡ true → moved limit s a t u ≡ done w → Kept limit n w
 unfolding moved
-moved-kept n s a t u w h k x d =
+moved-kept limit n s a t u w h k x d =
     either-is (sameTag t u) d (λ e q. rw (← (done-is q)) h) (λ e q. go (valueIn a t (s .values)) q)
   where
-    go : (f : Found) → pushFound s (taken s a t) a u f ≡ done w → Kept n w
+    go : (f : Found) → pushFound limit s (taken s a t) a u f ≡ done w → Kept limit n w
     go nothing q = rw (← (done-is q)) h
-    go (found v) q = pushed-kept n (taken s a t) a u v w (taken-kept n s a t h) k x q
+    go (found v) q = pushed-kept limit n (taken s a t) a u v w (taken-kept limit n s a t h) k x q
 
-pub cleared-kept : (n : ℕ) (s : Store) (a : ℕ) → Kept n s → Kept n (cleared s a)
+pub cleared-kept : (limit n : ℕ) (s : Store) (a : ℕ) → Kept limit n s → Kept limit n (cleared s a)
 unfolding cleared hasBucket coveredBy isBucket ofAction bucketOf
-cleared-kept n s a h =
-    buckets-lost n (record { values = lose (λ v. eqb (v .action) a) (s .values); buckets = s .buckets }) (λ b. eqb (b .action) a) (values-lost n s (λ v. eqb (v .action) a) h)
+cleared-kept limit n s a h =
+    buckets-lost limit n (record { values = lose (λ v. eqb (v .action) a) (s .values); buckets = s .buckets }) (λ b. eqb (b .action) a) (values-lost limit n s (λ v. eqb (v .action) a) h)
     (every-two (λ v. not (eqb (v .action) a)) (hasBucket (s .buckets)) (hasBucket (lose (λ b. eqb (b .action) a) (s .buckets)))
     (λ v x y. any-lose-not (λ b. eqb (b .action) a) (λ b. isBucket (v .action) (v .tag .offset) b && leb (following (v .tag .microstep)) (b .next))
     (λ b z. ap (λ i. eqb i a) (eqb-true (b .action) (v .action) (and-left _ _ (and-left (isBucket (v .action) (v .tag .offset) b) _ z))) ∙ not-no (eqb (v .action) a) x) (s .buckets) y)
@@ -159,15 +159,15 @@ stays-needed true false false M left h k = refl
 stays-needed true true false M true h k = refl
 stays-needed true true false M false h k = no-way k
 
-pub clearedBefore-kept : (n : ℕ) (s : Store) (a : ℕ) (t : Tag) → Kept n s → Kept n (clearedBefore s a t)
+pub clearedBefore-kept : (limit n : ℕ) (s : Store) (a : ℕ) (t : Tag) → Kept limit n s → Kept limit n (clearedBefore s a t)
 unfolding clearedBefore hasBucket coveredBy isBucket isBefore isThere isSpent earlier
-clearedBefore-kept n s a t h =
+clearedBefore-kept limit n s a t h =
     let gone : Value → Bool = λ v. eqb (v .action) a && earlier (v .tag) t in
     let there : Value → Bool = λ v. eqb (v .action) a && eqb (v .tag .offset) (t .offset) in
     let vs = lose gone (s .values) in
     let left = any there vs in
     let lost : Bucket → Bool = λ b. eqb (b .action) a && (ltb (b .offset) (t .offset) || (eqb (b .offset) (t .offset) && not left)) in
-    buckets-lost n (record { values = vs; buckets = s .buckets }) lost (values-lost n s gone h)
+    buckets-lost limit n (record { values = vs; buckets = s .buckets }) lost (values-lost limit n s gone h)
     (every-two (λ v. not (gone v) && (not (there v) || left)) (hasBucket (s .buckets)) (hasBucket (lose lost (s .buckets)))
     (λ v x y. any-lose-not lost (λ b. isBucket (v .action) (v .tag .offset) b && leb (following (v .tag .microstep)) (b .next))
     (λ b z.
@@ -184,18 +184,18 @@ clearedBefore-kept n s a t h =
 
 -- ---- the one test, and its parts
 
-module _ (n : ℕ) (s : Store) where
-  pub rules-kept : storeRules n s ≡ true → Kept n s
+module _ (limit n : ℕ) (s : Store) where
+  pub rules-kept : storeRules limit n s ≡ true → Kept limit n s
   unfolding storeRules
   rules-kept e =
-      let e1 = and-right (leb (length (s .values)) mostHeld) _ e in
-      let e2 = and-right (leb (length (s .buckets)) mostHeld) _ e1 in
+      let e1 = and-right (leb (length (s .values)) limit) _ e in
+      let e2 = and-right (leb (length (s .buckets)) limit) _ e1 in
       let e3 = and-right (every (valueRules n) (s .values)) _ e2 in
       let e4 = and-right (every (bucketRules n) (s .buckets)) _ e3 in
       let e5 = and-right (distinct sameValue (s .values)) _ e4 in
       record {
-        few-values = leb-true _ _ (and-left (leb (length (s .values)) mostHeld) _ e);
-        few-buckets = leb-true _ _ (and-left (leb (length (s .buckets)) mostHeld) _ e1);
+        few-values = leb-true _ _ (and-left (leb (length (s .values)) limit) _ e);
+        few-buckets = leb-true _ _ (and-left (leb (length (s .buckets)) limit) _ e1);
         values = and-left (every (valueRules n) (s .values)) _ e2;
         buckets = and-left (every (bucketRules n) (s .buckets)) _ e3;
         one-value = and-left (distinct sameValue (s .values)) _ e4;
@@ -203,12 +203,12 @@ module _ (n : ℕ) (s : Store) where
         has = and-right (distinct sameBucket (s .buckets)) _ e5;
       }
 
-  pub kept-rules : Kept n s → storeRules n s ≡ true
+  pub kept-rules : Kept limit n s → storeRules limit n s ≡ true
   unfolding storeRules
   kept-rules h =
-      simp (le-leb (length (s .values)) mostHeld (h .few-values), le-leb (length (s .buckets)) mostHeld (h .few-buckets), h .values, h .buckets, h .one-value, h .one-bucket, h .has)
+      simp (le-leb (length (s .values)) limit (h .few-values), le-leb (length (s .buckets)) limit (h .few-buckets), h .values, h .buckets, h .one-value, h .one-bucket, h .has)
 
 -- nothing held keeps every rule
-pub empty-kept : (n : ℕ) → storeRules n emptyStore ≡ true
+pub empty-kept : (limit n : ℕ) → storeRules limit n emptyStore ≡ true
 unfolding storeRules every distinct
-empty-kept n = refl
+empty-kept limit n = simp (le-leb 0 limit (omega arith))

@@ -12,7 +12,7 @@ use Rattle.lists.specs.Tests.{and-left, and-right, flag, flag-yes, flag-no}
 use Rattle.lists.specs.Lists.{any, every, distinct, any-at}
 use Rattle.lists.specs.Held.{thingsOf}
 use Rattle.tags.specs.Tags.{Tag, sameTag}
-use Rattle.entries.specs.Entries.{Value, Bucket, mostHeld, blankValue, blankBucket}
+use Rattle.entries.specs.Entries.{Value, Bucket, roomForEntries, blankValue, blankBucket}
 use Rattle.entries.specs.Words.{valuesOf, bucketsOf, decodeValue, encodeValue, valueWords, long-value, decodeBucket, encodeBucket, bucketWords, long-bucket}
 use Rattle.lists.specs.Loops.{place, place-any, front-long, test-on, test-fails, test-all}
 use Rattle.store.specs.Store.{Store, isValue, isBucket, sameValue, sameBucket, hasBucket, coveredBy, valueRules, bucketRules, storeRules}
@@ -71,18 +71,18 @@ module _ {A : Type 0} (decode : List ℕ → A) (encode : A → List ℕ) (w k :
       rw (any-same p q like rest, place-not q rest, l, e) (shifted (place q rest) h)
 
 module _ (vs : List ℕ) (i n : ℕ) (v : Value) where
-  pub value-alone : {s : Bool} {r : ℕ} → i ≤ n → n ≤ mostHeld → r ≡ i + place (isValue (v .action) (v .tag)) (drop i (take n (valuesOf vs))) → s ≡ leb n r
+  pub value-alone : {s : Bool} {r : ℕ} → i ≤ n → n ≤ roomForEntries → r ≡ i + place (isValue (v .action) (v .tag)) (drop i (take n (valuesOf vs))) → s ≡ leb n r
       → s ≡ not (any (sameValue v) (drop i (take n (valuesOf vs))))
-  value-alone h m e q = q ∙ none-left decodeValue encodeValue valueWords mostHeld long-value (sameValue v) (isValue (v .action) (v .tag)) (value-sym v) vs i n h m e
+  value-alone h m e q = q ∙ none-left decodeValue encodeValue valueWords roomForEntries long-value (sameValue v) (isValue (v .action) (v .tag)) (value-sym v) vs i n h m e
 
   pub value-unmarked : (seen : List Bool) {h : ℕ} → h ≡ valueSlot v → marked valueSlot seen (drop i (take n (valuesOf vs))) ≡ true → getD seen h false ≡ false
       → true ≡ not (any (sameValue v) (drop i (take n (valuesOf vs))))
   value-unmarked seen e m f = ap not (sym (marked-new valueSlot sameValue value-fits seen v (drop i (take n (valuesOf vs))) m (rw e at f)))
 
 module _ (bs : List ℕ) (i n : ℕ) (b : Bucket) where
-  pub bucket-alone : {s : Bool} {r : ℕ} → i ≤ n → n ≤ mostHeld → r ≡ i + place (isBucket (b .action) (b .offset)) (drop i (take n (bucketsOf bs))) → s ≡ leb n r
+  pub bucket-alone : {s : Bool} {r : ℕ} → i ≤ n → n ≤ roomForEntries → r ≡ i + place (isBucket (b .action) (b .offset)) (drop i (take n (bucketsOf bs))) → s ≡ leb n r
       → s ≡ not (any (sameBucket b) (drop i (take n (bucketsOf bs))))
-  bucket-alone h m e q = q ∙ none-left decodeBucket encodeBucket bucketWords mostHeld long-bucket (sameBucket b) (isBucket (b .action) (b .offset)) (bucket-sym b) bs i n h m e
+  bucket-alone h m e q = q ∙ none-left decodeBucket encodeBucket bucketWords roomForEntries long-bucket (sameBucket b) (isBucket (b .action) (b .offset)) (bucket-sym b) bs i n h m e
 
   pub bucket-unmarked : (seen : List Bool) {h : ℕ} → h ≡ bucketSlot b → marked bucketSlot seen (drop i (take n (bucketsOf bs))) ≡ true → getD seen h false ≡ false
       → true ≡ not (any (sameBucket b) (drop i (take n (bucketsOf bs))))
@@ -90,16 +90,16 @@ module _ (bs : List ℕ) (i n : ℕ) (b : Bucket) where
 
 -- ---- each value has its bucket
 
-module _ (bs : List ℕ) (n : ℕ) (m : n ≤ mostHeld) (v : Value) where
+module _ (bs : List ℕ) (n : ℕ) (m : n ≤ roomForEntries) (v : Value) where
   pub noted-there : {j : ℕ} {b : Bucket} {r : Bool} → j < n → b ≡ getD (bucketsOf bs) j blankBucket → r ≡ coveredBy (v .action) (v .tag) b → r ≡ true → hasBucket (take n (bucketsOf bs)) v ≡ true
   unfolding hasBucket
   noted-there {j} h e q y =
-      any-at (coveredBy (v .action) (v .tag)) (take n (bucketsOf bs)) j blankBucket (rw (front-long decodeBucket encodeBucket bucketWords mostHeld long-bucket bs n m) h)
+      any-at (coveredBy (v .action) (v .tag)) (take n (bucketsOf bs)) j blankBucket (rw (front-long decodeBucket encodeBucket bucketWords roomForEntries long-bucket bs n m) h)
       (rw (getD-take n (bucketsOf bs) j blankBucket h, ← e) (sym q ∙ y))
 
   pub found-there : {j : ℕ} {r : Bool} → j ≡ place (coveredBy (v .action) (v .tag)) (take n (bucketsOf bs)) → r ≡ ltb j n → r ≡ hasBucket (take n (bucketsOf bs)) v
   unfolding hasBucket
-  found-there e q = q ∙ rw (e, place-any (coveredBy (v .action) (v .tag)) (take n (bucketsOf bs)), front-long decodeBucket encodeBucket bucketWords mostHeld long-bucket bs n m)
+  found-there e q = q ∙ rw (e, place-any (coveredBy (v .action) (v .tag)) (take n (bucketsOf bs)), front-long decodeBucket encodeBucket bucketWords roomForEntries long-bucket bs n m)
 
 -- ---- every one passes
 
@@ -120,35 +120,35 @@ unfolding every
 every-none p = refl
 
 module _ (p : Value → Bool) (vs : List ℕ) (n i : ℕ) where
-  module _ (v : Value) (b : Bool) (h : i < n) (m : n ≤ mostHeld) (r : v ≡ getD (valuesOf vs) i blankValue) (e : b ≡ p v) where
+  module _ (v : Value) (b : Bool) (h : i < n) (m : n ≤ roomForEntries) (r : v ≡ getD (valuesOf vs) i blankValue) (e : b ≡ p v) where
     pub every-on : {s : Bool} → b ≡ true → s ≡ every p (drop i (take n (valuesOf vs))) → s ≡ every p (drop (i + 1) (take n (valuesOf vs)))
-    every-on y q = test-on decodeValue encodeValue valueWords mostHeld long-value (every p) (λ a l. p a) (every-cons p) (every-none p) vs n i blankValue v b h m r e y q
+    every-on y q = test-on decodeValue encodeValue valueWords roomForEntries long-value (every p) (λ a l. p a) (every-cons p) (every-none p) vs n i blankValue v b h m r e y q
 
     pub every-fails : {s : Bool} → b ≡ false → s ≡ every p (drop i (take n (valuesOf vs))) → false ≡ s
-    every-fails y q = test-fails decodeValue encodeValue valueWords mostHeld long-value (every p) (λ a l. p a) (every-cons p) (every-none p) vs n i blankValue v b h m r e y q
+    every-fails y q = test-fails decodeValue encodeValue valueWords roomForEntries long-value (every p) (λ a l. p a) (every-cons p) (every-none p) vs n i blankValue v b h m r e y q
 
   pub every-all : {s : Bool} → i ≤ n → n ≤ i → s ≡ every p (drop i (take n (valuesOf vs))) → true ≡ s
-  every-all h k q = test-all decodeValue encodeValue valueWords mostHeld long-value (every p) (λ a l. p a) (every-cons p) (every-none p) vs n i h k q
+  every-all h k q = test-all decodeValue encodeValue valueWords roomForEntries long-value (every p) (λ a l. p a) (every-cons p) (every-none p) vs n i h k q
 
 pub if-noted : {r b : Bool} → (r ≡ true → b ≡ true) → r ≡ true → true ≡ b
 if-noted f y = sym (f y)
 
 -- ---- all the rules
 
-module _ (actions : ℕ) (vs bs : List ℕ) (n : Counts) where
+module _ (limit actions : ℕ) (vs bs : List ℕ) (n : Counts) (few : limit ≤ roomForEntries) where
   abbrev here : Bool
-  here = countedRules actions (n .values) (n .buckets) (storeOf vs bs n)
+  here = countedRules limit actions (n .values) (n .buckets) (storeOf vs bs n)
 
-  pub rules-values : mostHeld < n .values → false ≡ here
+  pub rules-values : limit < n .values → false ≡ here
   unfolding countedRules
-  rules-values h = simp (lt-leb (n .values) mostHeld h)
+  rules-values h = simp (lt-leb (n .values) limit h)
 
-  module _ (h : n .values ≤ mostHeld) where
-    pub rules-buckets : mostHeld < n .buckets → false ≡ here
+  module _ (h : n .values ≤ limit) where
+    pub rules-buckets : limit < n .buckets → false ≡ here
     unfolding countedRules
-    rules-buckets k = simp (le-leb (n .values) mostHeld h, lt-leb (n .buckets) mostHeld k)
+    rules-buckets k = simp (le-leb (n .values) limit h, lt-leb (n .buckets) limit k)
 
-    module _ (k : n .buckets ≤ mostHeld) where
+    module _ (k : n .buckets ≤ limit) where
       counted :
           here ≡ (every (valueRules actions) (take (n .values) (valuesOf vs)) && (every (bucketRules actions) (take (n .buckets) (bucketsOf bs)) &&
           (distinct sameValue (take (n .values) (valuesOf vs)) && (distinct sameBucket (take (n .buckets) (bucketsOf bs)) &&
@@ -156,10 +156,10 @@ module _ (actions : ℕ) (vs bs : List ℕ) (n : Counts) where
       unfolding countedRules storeRules
       counted =
           simp (
-            le-leb (n .values) mostHeld h,
-            le-leb (n .buckets) mostHeld k,
-            front-long decodeValue encodeValue valueWords mostHeld long-value vs (n .values) h,
-            front-long decodeBucket encodeBucket bucketWords mostHeld long-bucket bs (n .buckets) k,
+            le-leb (n .values) limit h,
+            le-leb (n .buckets) limit k,
+            front-long decodeValue encodeValue valueWords roomForEntries long-value vs (n .values) (omega arith),
+            front-long decodeBucket encodeBucket bucketWords roomForEntries long-bucket bs (n .buckets) (omega arith),
           )
 
       module _ (a : Bool) (ea : a ≡ every (valueRules actions) (take (n .values) (valuesOf vs))) where

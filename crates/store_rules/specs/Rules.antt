@@ -2,12 +2,12 @@
 use Prim.Native.Nat.{ℕ, _+_, _*_, _%_}
 use mathlib.Core.Bool.{Bool, _&&_}
 use lib.Dec.{leb}
-use Rattle.entries.specs.Entries.{Value, Bucket, mostHeld}
+use Rattle.entries.specs.Entries.{Value, Bucket}
 use Rattle.store.specs.Store.{Store, storeRules}
 
 -- no more are counted than may be held, and the store that is counted keeps the rules
-unfoldable pub countedRules : ℕ → ℕ → ℕ → Store → Bool
-countedRules actions values buckets s = leb values mostHeld && (leb buckets mostHeld && storeRules actions s)
+unfoldable pub countedRules : ℕ → ℕ → ℕ → ℕ → Store → Bool
+countedRules limit actions values buckets s = leb values limit && (leb buckets limit && storeRules limit actions s)
 
 abbrev pub slots : ℕ
 slots = 4096

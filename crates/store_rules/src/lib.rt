@@ -6,7 +6,7 @@ ghost use mathlib.Core.Bool.{true, not};
 ghost use Prim.Native.Nat.{_+_, _≤_, _<_};
 ghost use lib.ListN.{take, drop};
 ghost use Rattle.lists.specs.Lists.{any, every, distinct};
-ghost use Rattle.entries.specs.Entries.{mostHeld, ofValue, ofBucket};
+ghost use Rattle.entries.specs.Entries.{roomForEntries, ofValue, ofBucket};
 ghost use Rattle.entries.specs.Words.{valuesOf, bucketsOf};
 ghost use Rattle.store.specs.Store.{valueRules, bucketRules, sameValue, sameBucket, hasBucket};
 ghost use Rattle.store_calls.specs.Lent.{storeOf};
@@ -14,7 +14,6 @@ ghost use Rattle.lists.specs.Marks.{marked};
 ghost use Rattle.store_rules.specs.Rules.{slots, slotOf, valueSlot, bucketSlot, countedRules};
 use entries::Bucket;
 use entries::BucketRows;
-use entries::MOST_HELD;
 use entries::Value;
 use entries::ValueRows;
 use store::BucketTest;
@@ -41,7 +40,7 @@ fn is_new_value(
     n: usize,
     v: Value,
 ) -> bool
-    requires { ⌜ (from ≤ n) × (n ≤ mostHeld) × (h < slots) × (h ≡ valueSlot (ofValue v)) ⌝ }
+    requires { ⌜ (from ≤ n) × (n ≤ roomForEntries) × (h < slots) × (h ≡ valueSlot (ofValue v)) ⌝ }
     requires { ⌜ marked valueSlot (now seen) (drop from (take n (valuesOf (now rows)))) ≡ true ⌝ }
     ensures { λ r. ⌜ r ≡ not (any (sameValue (ofValue v)) (drop from (take n (valuesOf (now (rows .entry)))))) ⌝ }
 {
@@ -61,7 +60,7 @@ fn is_new_bucket(
     n: usize,
     b: Bucket,
 ) -> bool
-    requires { ⌜ (from ≤ n) × (n ≤ mostHeld) × (h < slots) × (h ≡ bucketSlot (ofBucket b)) ⌝ }
+    requires { ⌜ (from ≤ n) × (n ≤ roomForEntries) × (h < slots) × (h ≡ bucketSlot (ofBucket b)) ⌝ }
     requires { ⌜ marked bucketSlot (now seen) (drop from (take n (bucketsOf (now rows)))) ≡ true ⌝ }
     ensures { λ r. ⌜ r ≡ not (any (sameBucket (ofBucket b)) (drop from (take n (bucketsOf (now (rows .entry)))))) ⌝ }
 {
@@ -74,7 +73,7 @@ fn is_new_bucket(
 
 // Values are unique by action and tag.
 fn values_differ(rows: &ValueRows, n: usize) -> bool
-    requires { ⌜ n ≤ mostHeld ⌝ }
+    requires { ⌜ n ≤ roomForEntries ⌝ }
     ensures { λ r. ⌜ r ≡ distinct sameValue (take n (valuesOf (now (rows .entry)))) ⌝ }
 {
     let mut seen = [false; SLOTS];
@@ -94,7 +93,7 @@ fn values_differ(rows: &ValueRows, n: usize) -> bool
 
 // Buckets are unique by action and offset.
 fn buckets_differ(rows: &BucketRows, n: usize) -> bool
-    requires { ⌜ n ≤ mostHeld ⌝ }
+    requires { ⌜ n ≤ roomForEntries ⌝ }
     ensures { λ r. ⌜ r ≡ distinct sameBucket (take n (bucketsOf (now (rows .entry)))) ⌝ }
 {
     let mut seen = [false; SLOTS];
@@ -120,7 +119,7 @@ fn wide(x: u16) -> usize {
 
 // Notes at each bucket's slot its row: a guess, which is looked at before it is believed.
 fn note_buckets(places: &mut [u16; SLOTS], rows: &BucketRows, n: usize)
-    requires { ⌜ n ≤ mostHeld ⌝ }
+    requires { ⌜ n ≤ roomForEntries ⌝ }
 {
     let mut i: usize = 0;
     while i < n {
@@ -133,7 +132,7 @@ fn note_buckets(places: &mut [u16; SLOTS], rows: &BucketRows, n: usize)
 
 // The row noted has the value's bucket.
 fn is_noted(places: &[u16; SLOTS], rows: &BucketRows, n: usize, v: Value) -> bool
-    requires { ⌜ n ≤ mostHeld ⌝ }
+    requires { ⌜ n ≤ roomForEntries ⌝ }
     ensures { λ r. ⌜ (r ≡ true → hasBucket (take n (bucketsOf (now (rows .entry)))) (ofValue v) ≡ true) ⌝ }
 {
     let h = slot_of(v.action, v.tag.0, 0);
@@ -146,7 +145,7 @@ fn is_noted(places: &[u16; SLOTS], rows: &BucketRows, n: usize, v: Value) -> boo
 }
 
 fn has_bucket(places: &[u16; SLOTS], rows: &BucketRows, n: usize, v: Value) -> bool
-    requires { ⌜ n ≤ mostHeld ⌝ }
+    requires { ⌜ n ≤ roomForEntries ⌝ }
     ensures { λ r. ⌜ r ≡ hasBucket (take n (bucketsOf (now (rows .entry)))) (ofValue v) ⌝ }
 {
     let tag = v.tag;
@@ -157,7 +156,7 @@ fn has_bucket(places: &[u16; SLOTS], rows: &BucketRows, n: usize, v: Value) -> b
 }
 
 fn all_covered(values: &ValueRows, n: usize, buckets: &BucketRows, m: usize) -> bool
-    requires { ⌜ (n ≤ mostHeld) × (m ≤ mostHeld) ⌝ }
+    requires { ⌜ (n ≤ roomForEntries) × (m ≤ roomForEntries) ⌝ }
     ensures { λ r. ⌜ r ≡ every (hasBucket (take m (bucketsOf (now (buckets .entry))))) (take n (valuesOf (now (values .entry)))) ⌝ }
 {
     let mut places = [0u16; SLOTS];
@@ -176,29 +175,36 @@ fn all_covered(values: &ValueRows, n: usize, buckets: &BucketRows, m: usize) -> 
 // ---- keys exist and tags are within limits
 
 fn values_proper(rows: &ValueRows, n: usize, actions: u16) -> bool
-    requires { ⌜ n ≤ mostHeld ⌝ }
+    requires { ⌜ n ≤ roomForEntries ⌝ }
     ensures { λ r. ⌜ r ≡ every (valueRules actions) (take n (valuesOf (now (rows .entry)))) ⌝ }
 {
     n <= store::find_value(rows, n, ValueTest::Stray(actions))
 }
 
 fn buckets_proper(rows: &BucketRows, n: usize, actions: u16) -> bool
-    requires { ⌜ n ≤ mostHeld ⌝ }
+    requires { ⌜ n ≤ roomForEntries ⌝ }
     ensures { λ r. ⌜ r ≡ every (bucketRules actions) (take n (bucketsOf (now (rows .entry)))) ⌝ }
 {
     n <= store::find_bucket(rows, n, BucketTest::Stray(actions))
 }
 
-// The state rules that speak of values and buckets, where there are so many actions.
-pub fn keeps_rules(values: &ValueRows, buckets: &BucketRows, held: Counts, actions: u16) -> bool
-    ensures { λ r. ⌜ r ≡ countedRules actions (held .values) (held .buckets) (storeOf (now (values .entry)) (now (buckets .entry)) held) ⌝ }
+// The state rules that speak of values and buckets, where there are so many actions and no more than the limit may be held.
+pub fn keeps_rules(
+    values: &ValueRows,
+    buckets: &BucketRows,
+    held: Counts,
+    limit: usize,
+    actions: u16,
+) -> bool
+    requires { ⌜ limit ≤ roomForEntries ⌝ }
+    ensures { λ r. ⌜ r ≡ countedRules limit actions (held .values) (held .buckets) (storeOf (now (values .entry)) (now (buckets .entry)) held) ⌝ }
 {
     let n = held.values;
     let m = held.buckets;
-    if MOST_HELD < n {
+    if limit < n {
         return false;
     }
-    if MOST_HELD < m {
+    if limit < m {
         return false;
     }
     if !values_proper(values, n, actions) {

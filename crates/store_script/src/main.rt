@@ -7,7 +7,7 @@ ghost use mathlib.Core.Path.{_≡_};
 ghost use Prim.Native.Nat.{_<_, _≤_};
 ghost use lib.ListN.{length};
 use entries::Bucket;
-use entries::MOST_HELD;
+use entries::ROOM_FOR_ENTRIES;
 use entries::Value;
 use libc::STDIN_FILENO;
 use libc::STDOUT_FILENO;
@@ -165,7 +165,7 @@ fn write_values(s: Store) -> bool {
     let mut ok = write_count(n);
     let mut i: usize = 0;
     while i < n {
-        if MOST_HELD <= i {
+        if ROOM_FOR_ENTRIES <= i {
             return false;
         }
         ok = write_value(values[i]);
@@ -180,7 +180,7 @@ fn write_buckets(s: Store) -> bool {
     let mut ok = write_count(n);
     let mut i: usize = 0;
     while i < n {
-        if MOST_HELD <= i {
+        if ROOM_FOR_ENTRIES <= i {
             return false;
         }
         ok = write_bucket(buckets[i]);

@@ -10,6 +10,7 @@ use Rattle.lists.specs.Tests.{flag, flag-no, flag-yes}
 use Rattle.tags.specs.Tags.{at, within}
 use Rattle.rows.specs.Bytes.{Image, be}
 use Rattle.rows.specs.Kinds.{kindOf, kindCount, headBytes, count, countPlace, place, scope, reactor, mode, reaction, action, timer}
+use Rattle.rows.specs.Limits.{most}
 use Rattle.rows.specs.Rows.{none, rowPlace, parent, scopeReactor, scopeMode, rootScope, initialMode, modeScope, timerOffset, timerMicrostep}
 use Rattle.rows.specs.Lineage.{under}
 use Rattle.rows.specs.declared.Kind.{Kind}
@@ -106,9 +107,9 @@ module _ (s : Image) (k : ℕ) {n : ℕ} {q : Kind} where
   unfolding countFits
   count-few e f h = sym (simp (← e, ← f, lt-leb _ _ h))
 
-  pub count-most : q ≡ kindOf k → n ≡ count s k → q .least ≤ n → leb n (q .most) ≡ countFits s k
+  pub count-most : {m : ℕ} → q ≡ kindOf k → m ≡ most s k → n ≡ count s k → q .least ≤ n → leb n m ≡ countFits s k
   unfolding countFits
-  count-most e f h = sym (simp (← e, ← f, le-leb _ _ h))
+  count-most e g f h = sym (simp (← e, ← g, ← f, le-leb _ _ h))
 
 pub ruleset counts = (count-few, count-most)
 

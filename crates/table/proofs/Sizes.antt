@@ -4,12 +4,14 @@ use mathlib.Core.List.{[], _∷_}
 use Prim.Native.Nat.{ℕ, zero, suc, _+_, _*_, _≤_, _<_}
 use native.Mathlib.Nat.{le-refl, mul-le-mul-right}
 use native.Mathlib.Omega.{arith}
-use lib.ListN.{length}
+use lib.ListN.{length, getD}
 use Rattle.lists.specs.Lists.{every}
 use Rattle.lists.specs.Scan.{scan}
 use Rattle.rows.specs.Bytes.{Image, be}
 use Rattle.rows.specs.Kinds.{kinds, kindOf, kindCount, headBytes, count, countPlace, place, largest}
+use Rattle.rows.specs.Limits.{versions, limits, most, limits-fit}
 use Rattle.rows.specs.Rows.{rowPlace, field}
+use Rattle.rows.specs.declared.Limits.{Limits}
 use Rattle.table.specs.Rules.{keyFields, keyExists, keysExist, parentRule, scopeRule, initialRule, reactorRule, ownRule, rowRule}
 use Rattle.table.specs.Check.{wrongLength, countFits, badCount, badRow, kindFits, badKind, checkRows, check}
 use Rattle.table.specs.Table.{Table}
@@ -31,10 +33,18 @@ unfolding placeBy place
 by-counts s zero = refl
 by-counts s (suc k) = rw (by-counts s k)
 
+-- where they end, of a version's most of each kind
+sizeBy : Limits → ℕ
+sizeBy l = placeBy (λ k. getD (l .most) k 0) kindCount
+
+most-end : (s : Image) → sizeBy (limits s) ≤ largest
+unfolding sizeBy placeBy kindOf kinds versions every
+most-end s = limits-fit sizeBy largest tt s
+
 -- where the rows end, with no more of a kind than the most
-pub rows-end : (s : Image) → ((k : ℕ) → k < kindCount → count s k ≤ kindOf k .most) → place s kindCount ≤ largest
-unfolding placeBy kindOf kinds
-rows-end s h = omega (arith, by-counts s kindCount, more-rows (count s) (λ k. kindOf k .most) kindCount h)
+pub rows-end : (s : Image) → ((k : ℕ) → k < kindCount → count s k ≤ most s k) → place s kindCount ≤ largest
+unfolding sizeBy
+rows-end s h = omega (arith, by-counts s kindCount, more-rows (count s) (most s) kindCount h, most-end s)
 
 module _ (s : Image) (t : Table s) where
   pub no-larger : length s ≤ largest
@@ -54,6 +64,6 @@ pub smallest-size : length smallest ≡ 33
 smallest-size = refl
 
 pub smallest-accepted : check smallest ≡ Accepted
-unfolding check wrongLength be countFits badCount badRow kindFits badKind checkRows scan kindOf kinds count countPlace place rowPlace field keyFields keyExists keysExist every
+unfolding check wrongLength be countFits badCount badRow kindFits badKind checkRows scan kindOf kinds versions limits count countPlace place rowPlace field keyFields keyExists keysExist every
     parentRule scopeRule initialRule reactorRule ownRule rowRule
 smallest-accepted = refl

@@ -9,11 +9,12 @@ use lib.Dec.{ltb, leb, eqb, lit<}
 use lib.ListN.{length, getD}
 use borrow.Author.Tests.{ltb-true, ltb-false, leb-true, eqb-true, eqb-false, eq-eqb, not-true, not-false}
 use Rattle.lists.specs.Tests.{and-left, and-right}
-use Rattle.lists.specs.Lists.{every-at}
+use Rattle.lists.specs.Lists.{every, every-at}
 use Rattle.lists.specs.Scan.{scan-all}
 use Rattle.tags.specs.Tags.{within}
 use Rattle.rows.specs.Bytes.{Image, be}
-use Rattle.rows.specs.Kinds.{kinds, kindOf, kindCount, headBytes, count, countPlace, place, scope, reactor, mode, reaction, action, trigger, startup, reset, timer}
+use Rattle.rows.specs.Kinds.{kindOf, kindCount, headBytes, count, countPlace, place, scope, reactor, mode, reaction, action, trigger, startup, reset, timer}
+use Rattle.rows.specs.Limits.{versions, most, limits-fit}
 use Rattle.rows.specs.Rows.{none, rowPlace, field, parent, scopeReactor, scopeMode, rootScope, initialMode, modeScope, modeReactor, level, actionScope, logical}
 use Rattle.rows.specs.Rows.{triggerAction, triggerReaction, startupScope, startupAction, startupReaction, resetScope, resetReaction, timerAction}
 use Rattle.rows.specs.Lineage.{under}
@@ -89,7 +90,7 @@ module _ (s : Image) (t : Table s) where
   unfolding countFits
   count-least k l = leb-true _ _ (and-left _ _ (t .counts k l))
 
-  pub count-most : (k : ℕ) → k < kindCount → count s k ≤ kindOf k .most
+  pub count-most : (k : ℕ) → k < kindCount → count s k ≤ most s k
   unfolding countFits
   count-most k l = leb-true _ _ (and-right (leb (kindOf k .least) (count s k)) _ (t .counts k l))
 
@@ -230,8 +231,8 @@ module _ (s : Image) (t : Table s) where
 
   -- no mode's key is none
   pub mode-some : (m : ℕ) → m < count s mode → m ≡ none → ⊥
-  unfolding kindOf kinds
-  mode-some m l e = omega (arith, count-most mode (lit< tt))
+  unfolding versions every
+  mode-some m l e = omega (arith, count-most mode (lit< tt), limits-fit (λ q. getD (q .most) mode 0) none tt s)
 
   -- the scope of a mode names it, and agrees with it
   pub mode-named : (m : ℕ) → m < count s mode → Named s (modeScope s m)

@@ -7,6 +7,7 @@ use lib.ListN.{length}
 use Rattle.lists.specs.Scan.{scan}
 use Rattle.rows.specs.Bytes.{Image, be}
 use Rattle.rows.specs.Kinds.{kindOf, kindCount, headBytes, count, countPlace, place}
+use Rattle.rows.specs.Limits.{most}
 use Rattle.rows.specs.Rows.{rowPlace}
 use Rattle.table.specs.Rules.{rowRule}
 use Rattle.table.specs.declared.Checked.{Checked}
@@ -38,9 +39,9 @@ wrongLength s = ltb (length s) 5 || not (eqb (be 4 s 0 + 4) (length s))
 abbrev pub version : ℕ
 version = 1
 
--- no more rows than the most, and no fewer than the least
+-- no more rows than the most of the image's version, and no fewer than the least
 unfoldable pub countFits : Image → ℕ → Bool
-countFits s k = leb (kindOf k .least) (count s k) && leb (count s k) (kindOf k .most)
+countFits s k = leb (kindOf k .least) (count s k) && leb (count s k) (most s k)
 
 -- the first kind whose count does not fit, or how many kinds there are
 unfoldable pub badCount : Image → ℕ

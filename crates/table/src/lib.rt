@@ -358,11 +358,12 @@ fn count_fits(image: &[u8], k: u8) -> bool
     ensures { λ r. ⌜ r ≡ countFits (now (image .entry)) k ⌝ }
 {
     let kind = rows::kind_at(k);
+    let most = rows::most_rows(image, k);
     let total = rows::count(image, k);
     if total < kind.least {
         return false;
     }
-    total <= kind.most
+    total <= most
 }
 
 // The first kind whose count does not fit, or how many kinds there are.

@@ -165,13 +165,13 @@ module _ (img : Image) (q : Request) where
 
   -- refused before anything changed
   pub early-refused : {o : Outcome} {n : Refusal} (r : Rows) → o ≡ refusalOf img q → o ≡ O.Refused n → Performs img (callOf q) r (replyOf o) r
-  early-refused {o} r e f s k w = let x = perform-is s o (sym e) in rw (x, f) (record { reply-is = refl; holds = w })
+  early-refused {o} r e f s w = let x = perform-is s o (sym e) in rw (x, f) (record { reply-is = refl; holds = w })
 
   module _ {o : Outcome} (e : o ≡ refusalOf img q) (f : o ≡ O.Done) (x : Outcome) (before after : Rows)
       (k : Steps img (λ s. transition img (q .reactor) (q .mode) (q .reset) (ofGlobal (q .c)) s) before x after) where
     -- done: the rows after it
     pub performs-done : x ≡ O.Done → Performs img (callOf q) before (replyOf x) after
-    performs-done d s l w = rw (perform-is s O.Done (sym e ∙ f), d) (go (transition img (q .reactor) (q .mode) (q .reset) (ofGlobal (q .c)) s) (k s w))
+    performs-done d s w = rw (perform-is s O.Done (sym e ∙ f), d) (go (transition img (q .reactor) (q .mode) (q .reset) (ofGlobal (q .c)) s) (k s w))
       where
         go : (a : Step) → After img a x after → Answers img (settle s a) ok after
         go (done t) y = record { reply-is = refl; holds = y .1 }
@@ -179,7 +179,7 @@ module _ (img : Image) (q : Request) where
 
     -- refused: the rows as they were
     pub performs-refused : {n : Refusal} → x ≡ O.Refused n → Performs img (callOf q) before (replyOf x) before
-    performs-refused {n} d s l w =
+    performs-refused {n} d s w =
         rw (perform-is s O.Done (sym e ∙ f), d) (go (transition img (q .reactor) (q .mode) (q .reset) (ofGlobal (q .c)) s) (k s w))
       where
         go : (a : Step) → After img a x after → Answers img (settle s a) (refusal n) before

@@ -3,6 +3,7 @@ use mathlib.Core.Bool.{Bool, true, false, not, _&&_}
 use mathlib.Core.Path.{_≡_, refl, ap, _∙_, sym}
 use mathlib.Core.List.{List, _∷_, map}
 use Prim.Native.Nat.{ℕ, zero, suc, _<_, _≤_}
+use native.Mathlib.Nat.{le-trans}
 use lib.Dec.{leb}
 use borrow.Author.Tests.{lt-ltb, le-ltb, leb-true, not-true, not-false}
 use lib.ListN.{length, take, length-map, replicate}
@@ -13,12 +14,13 @@ use Rattle.refusals.specs.declared.Refusal.{Refusal}
 use Rattle.refusals.specs.declared.Refusal.the-variants as R
 use Rattle.table.specs.Check.{isTable}
 use Rattle.rows.specs.Kinds as K
+use Rattle.rows.specs.Limits.{limits}
 use Rattle.tags.specs.Tags.{Tag, at, within}
 use Rattle.tags.specs.Views.{ofGlobal}
 use Rattle.tags.specs.declared.GlobalTag.{GlobalTag}
 use Rattle.entries.specs.declared.Value as codeValue
 use Rattle.entries.specs.declared.Bucket as codeBucket
-use Rattle.entries.specs.Entries.{mostHeld, ofValue, ofBucket, blankValue, blankBucket}
+use Rattle.entries.specs.Entries.{roomForEntries, held-fits, ofValue, ofBucket, blankValue, blankBucket}
 use Rattle.entries.specs.Words.{valuesOf, bucketsOf, HeldValues, HeldBuckets, decodeValue, encodeValue, valueWords, long-value, decodeBucket, encodeBucket, bucketWords, long-bucket}
 use Rattle.lists.specs.Loops.{front-long}
 use Rattle.store.specs.Store as S
@@ -56,10 +58,10 @@ map-all f zero a = refl
 map-all f (suc n) a = ap (f a ∷_) (map-all f n a)
 
 pub new-is : (v : codeValue.Value) (b : codeBucket.Bucket) → ofValue v ≡ blankValue → ofBucket b ≡ blankBucket
-    → record { values = map ofValue (replicate mostHeld v); held = 0; buckets = map ofBucket (replicate mostHeld b); «open» = 0 } ≡ freshArrays
+    → record { values = map ofValue (replicate roomForEntries v); held = 0; buckets = map ofBucket (replicate roomForEntries b); «open» = 0 } ≡ freshArrays
 new-is v b e f =
-    ap (λ x. record { values = x; held = 0; buckets = map ofBucket (replicate mostHeld b); «open» = 0 }) (map-all ofValue mostHeld v ∙ ap (replicate mostHeld) e) ∙
-    ap (λ x. record { values = replicate mostHeld blankValue; held = 0; buckets = x; «open» = 0 }) (map-all ofBucket mostHeld b ∙ ap (replicate mostHeld) f)
+    ap (λ x. record { values = x; held = 0; buckets = map ofBucket (replicate roomForEntries b); «open» = 0 }) (map-all ofValue roomForEntries v ∙ ap (replicate roomForEntries) e) ∙
+    ap (λ x. record { values = replicate roomForEntries blankValue; held = 0; buckets = x; «open» = 0 }) (map-all ofBucket roomForEntries b ∙ ap (replicate roomForEntries) f)
 
 -- ---- answers
 
@@ -109,7 +111,7 @@ pub ruleset arguments = (push-within, next-within, take-within, before-within, m
 
 -- ---- the calls on lent rows
 
-module _ (vs bs : List ℕ) (n : Counts) (lent : Lent vs bs n) where
+module _ {limit : ℕ} (vs bs : List ℕ) (n : Counts) (lent : Lent limit vs bs n) where
   abbrev here : S.Store
   here = storeOf vs bs n
 
@@ -120,34 +122,35 @@ module _ (vs bs : List ℕ) (n : Counts) (lent : Lent vs bs n) where
   did (refused r) ch k d e h = let o = d .outcome in record { answer = e ∙ ap answerFor o; laid = rw h (d .laid) }
 
   module _ (c : Call) (a : ℕ) {ve be : List ℕ} where
-    pub call-push : (t : GlobalTag) (v : ℕ) (ch : Changed) (k : Called) → c ≡ E.Push a t v → Did vs bs n (pushed here a (ofGlobal t) v) ve be ch →
-        answerOf (k .answer) ≡ answerFor (ch .outcome) → k .held ≡ ch .held → DidCall vs bs n (perform here (callOf c)) ve be k
+    pub call-push : (t : GlobalTag) (v : ℕ) (ch : Changed) (k : Called) → c ≡ E.Push a t v → Did vs bs n (pushed limit here a (ofGlobal t) v) ve be ch →
+        answerOf (k .answer) ≡ answerFor (ch .outcome) → k .held ≡ ch .held → DidCall vs bs n (perform limit here (callOf c)) ve be k
     unfolding perform
-    call-push t v ch k e d f h = rw e (did (pushed here a (ofGlobal t) v) ch k d f h)
+    call-push t v ch k e d f h = rw e (did (pushed limit here a (ofGlobal t) v) ch k d f h)
 
-    pub call-move : (t u : GlobalTag) (ch : Changed) (k : Called) → c ≡ E.MoveValue a t u → Did vs bs n (moved here a (ofGlobal t) (ofGlobal u)) ve be ch →
-        answerOf (k .answer) ≡ answerFor (ch .outcome) → k .held ≡ ch .held → DidCall vs bs n (perform here (callOf c)) ve be k
+    pub call-move : (t u : GlobalTag) (ch : Changed) (k : Called) → c ≡ E.MoveValue a t u → Did vs bs n (moved limit here a (ofGlobal t) (ofGlobal u)) ve be ch →
+        answerOf (k .answer) ≡ answerFor (ch .outcome) → k .held ≡ ch .held → DidCall vs bs n (perform limit here (callOf c)) ve be k
     unfolding perform
-    call-move t u ch k e d f h = rw e (did (moved here a (ofGlobal t) (ofGlobal u)) ch k d f h)
+    call-move t u ch k e d f h = rw e (did (moved limit here a (ofGlobal t) (ofGlobal u)) ch k d f h)
 
     pub call-take : (t : GlobalTag) (k : Taken) (x : code.Answer) → c ≡ E.Take a t → foundOf (k .found) ≡ valueIn a (ofGlobal t) (take (n .values) (valuesOf vs)) →
-        Laid vs bs n (taken here a (ofGlobal t)) ve be (k .held) → answerOf x ≡ said (foundOf (k .found)) → DidCall vs bs n (perform here (callOf c)) ve be (record { answer = x; held = k .held })
+        Laid vs bs n (taken here a (ofGlobal t)) ve be (k .held) → answerOf x ≡ said (foundOf (k .found)) →
+        DidCall vs bs n (perform limit here (callOf c)) ve be (record { answer = x; held = k .held })
     unfolding perform
     call-take t k x e f l h = rw e (record { answer = h ∙ ap said f; laid = l })
 
     module _ (m : Counts) where
       pub call-clear-before : (t : GlobalTag) → c ≡ E.ClearOlderThan a t → Laid vs bs n (clearedBefore here a (ofGlobal t)) ve be m →
-          DidCall vs bs n (perform here (callOf c)) ve be (record { answer = A.Done; held = m })
+          DidCall vs bs n (perform limit here (callOf c)) ve be (record { answer = A.Done; held = m })
       unfolding perform
       call-clear-before t e l = rw e (record { answer = refl; laid = l })
 
-      pub call-clear : c ≡ E.Clear a → Laid vs bs n (cleared here a) ve be m → DidCall vs bs n (perform here (callOf c)) ve be (record { answer = A.Done; held = m })
+      pub call-clear : c ≡ E.Clear a → Laid vs bs n (cleared here a) ve be m → DidCall vs bs n (perform limit here (callOf c)) ve be (record { answer = A.Done; held = m })
       unfolding perform
       call-clear e l = rw e (record { answer = refl; laid = l })
 
   module _ (c : Call) where
     pub call-next : (a o m : ℕ) (k : Next) (x : code.Answer) → c ≡ E.NextMicrostep a o m → nextOf k ≡ atLeast (nextIn a o (take (n .buckets) (bucketsOf bs))) m → answerOf x ≡ said (nextOf k) →
-        DidCall vs bs n (perform here (callOf c)) vs bs (record { answer = x; held = n })
+        DidCall vs bs n (perform limit here (callOf c)) vs bs (record { answer = x; held = n })
     unfolding perform nextMicrostep
     call-next a o m k x e f h = rw e (record { answer = h ∙ ap said f; laid = laid-same vs bs n lent })
 
@@ -162,9 +165,10 @@ module _ (vs bs : List ℕ) (n : Counts) (lent : Lent vs bs n) where
         unfolding called
         call-tag y = rw (← ek, ← ea, lt-ltb a k h, ← ew, y) (record { answer = refl; laid = laid-same vs bs n lent })
 
-        pub call-passed : {ve be : List ℕ} (x : Called) → w ≡ true → DidCall vs bs n (perform here (callOf c)) ve be x → DidCall vs bs n (called image here (callOf c)) ve be x
+        pub call-passed : {ve be : List ℕ} (x : Called) → w ≡ true → {m : ℕ} → m ≡ limits image .held → DidCall vs bs n (perform m here (callOf c)) ve be x →
+            DidCall vs bs n (called image here (callOf c)) ve be x
         unfolding called
-        call-passed x y d = rw (← ek, ← ea, lt-ltb a k h, ← ew, y) d
+        call-passed x y e d = rw (← ek, ← ea, lt-ltb a k h, ← ew, y, ← e) d
 
 -- ---- by value
 
@@ -172,9 +176,10 @@ abbrev pub counts : Store → Counts
 counts s = record { values = s .held; buckets = s .«open» }
 
 module _ (image vs bs : List ℕ) (n : Counts) {t : Bool} (et : t ≡ isTable image) where
-  pub sound-rules : {q : Bool} {k : ℕ} → t ≡ true → k ≡ K.count image K.action → q ≡ countedRules k (n .values) (n .buckets) (storeOf vs bs n) → q ≡ isSound image (arraysIn vs bs n)
+  pub sound-rules : {q : Bool} {m k : ℕ} → t ≡ true → m ≡ limits image .held → k ≡ K.count image K.action →
+      q ≡ countedRules m k (n .values) (n .buckets) (storeOf vs bs n) → q ≡ isSound image (arraysIn vs bs n)
   unfolding isSound
-  sound-rules y ek e = rw (← et, y, ← ek) e
+  sound-rules y em ek e = rw (← et, y, ← em, ← ek) e
 
   pub sound-table : t ≡ false → false ≡ isSound image (arraysIn vs bs n)
   unfolding isSound
@@ -193,16 +198,17 @@ module _ (image : List ℕ) (s : Store) (vs bs : List ℕ) (hv : HeldValues vs (
     sound : isSound image (arraysOf s) ≡ true
     sound = sound-is ∙ not-false q y
 
-    few-values : s .held ≤ mostHeld
+    few-values : s .held ≤ limits image .held
     unfolding isSound countedRules
-    few-values = leb-true (s .held) mostHeld (and-left (leb (s .held) mostHeld) _ (and-right (isTable image) _ sound))
+    few-values = leb-true (s .held) _ (and-left (leb (s .held) (limits image .held)) _ (and-right (isTable image) _ sound))
 
-    few-buckets : s .«open» ≤ mostHeld
+    few-buckets : s .«open» ≤ limits image .held
     unfolding isSound countedRules
-    few-buckets = leb-true (s .«open») mostHeld (and-left (leb (s .«open») mostHeld) _ (and-right (leb (s .held) mostHeld) _ (and-right (isTable image) _ sound)))
+    few-buckets =
+        leb-true (s .«open») _ (and-left (leb (s .«open») (limits image .held)) _ (and-right (leb (s .held) (limits image .held)) _ (and-right (isTable image) _ sound)))
 
-    pub run-lent : Lent vs bs (counts s)
-    run-lent = record { values = hv .whole; buckets = hb .whole; few-values = few-values; few-buckets = few-buckets }
+    pub run-lent : Lent (limits image .held) vs bs (counts s)
+    run-lent = record { values = hv .whole; buckets = hb .whole; few-values = few-values; few-buckets = few-buckets; room = held-fits image }
 
     held-is : heldIn (arraysOf s) ≡ storeOf vs bs (counts s)
     held-is = rw (← (hv .things), ← (hb .things))
@@ -215,8 +221,8 @@ module _ (image : List ℕ) (s : Store) (vs bs : List ℕ) (hv : HeldValues vs (
       as-given l =
           ended (storeOf vs bs (counts s)) l ∙
           rw (
-            front-long decodeValue encodeValue valueWords mostHeld long-value vs (s .held) few-values,
-            front-long decodeBucket encodeBucket bucketWords mostHeld long-bucket bs (s .«open») few-buckets,
+            front-long decodeValue encodeValue valueWords roomForEntries long-value vs (s .held) (le-trans few-values (held-fits image)),
+            front-long decodeBucket encodeBucket bucketWords roomForEntries long-bucket bs (s .«open») (le-trans few-buckets (held-fits image)),
             hv .things,
             hb .things,
             lay-same blankValue (map ofValue (s .values)) (s .held),

@@ -10,8 +10,9 @@ use Rattle.refusals.specs.declared.Refusal.{Refusal}
 use Rattle.refusals.specs.declared.Refusal.the-variants as R
 use Rattle.table.specs.Check.{isTable}
 use Rattle.rows.specs.Kinds as K
+use Rattle.rows.specs.Limits.{limits}
 use Rattle.tags.specs.Tags.{Tag, at, within}
-use Rattle.entries.specs.Entries.{Value, Bucket, mostHeld, blankValue, blankBucket}
+use Rattle.entries.specs.Entries.{Value, Bucket, roomForEntries, blankValue, blankBucket}
 use Rattle.store.specs.Store.{Store, Found, nothing, found, pushed, nextMicrostep, valueIn, taken, clearedBefore, cleared, moved}
 use Rattle.store_rules.specs.Rules.{countedRules}
 
@@ -51,13 +52,14 @@ abbrev pub left-by : Store → Result Refusal Outcome → Store
 left-by s (done o) = o .store
 left-by s (refused r) = s
 
-unfoldable pub perform : Store → Call → Result Refusal Outcome
-perform s (push a t v) = pushed s a t v >>= λ u. done (outcome ok u)
-perform s (next a o m) = done (outcome (said (nextMicrostep s a o m)) s)
-perform s (take-out a t) = done (outcome (said (valueIn a t (s .values))) (taken s a t))
-perform s (clear-before a t) = done (outcome ok (clearedBefore s a t))
-perform s (clear a) = done (outcome ok (cleared s a))
-perform s (move a t u) = moved s a t u >>= λ w. done (outcome ok w)
+-- where no more than `limit` values, and no more buckets, may be held
+unfoldable pub perform : ℕ → Store → Call → Result Refusal Outcome
+perform limit s (push a t v) = pushed limit s a t v >>= λ u. done (outcome ok u)
+perform limit s (next a o m) = done (outcome (said (nextMicrostep s a o m)) s)
+perform limit s (take-out a t) = done (outcome (said (valueIn a t (s .values))) (taken s a t))
+perform limit s (clear-before a t) = done (outcome ok (clearedBefore s a t))
+perform limit s (clear a) = done (outcome ok (cleared s a))
+perform limit s (move a t u) = moved limit s a t u >>= λ w. done (outcome ok w)
 
 -- ---- the store as arrays with counts
 
@@ -69,7 +71,7 @@ pub record Arrays : Type 0 where
 
 -- nothing is held
 abbrev pub freshArrays : Arrays
-freshArrays = record { values = replicate mostHeld blankValue; held = 0; buckets = replicate mostHeld blankBucket; «open» = 0 }
+freshArrays = record { values = replicate roomForEntries blankValue; held = 0; buckets = replicate roomForEntries blankBucket; «open» = 0 }
 
 -- what is counted is held; what stands in the rest is no part of the store
 abbrev pub heldIn : Arrays → Store
@@ -106,11 +108,11 @@ argumentsIn (move a t u) = within t && within u
 
 -- the state handed in keeps the state rules: 11
 unfoldable pub isSound : List ℕ → Arrays → Bool
-isSound image a = isTable image && countedRules (K.count image K.action) (a .held) (a .«open») (heldIn a)
+isSound image a = isTable image && countedRules (limits image .held) (K.count image K.action) (a .held) (a .«open») (heldIn a)
 
 -- 5, 6: then the call
 unfoldable pub called : List ℕ → Store → Call → Result Refusal Outcome
-called image s c = cond (ltb (actionOf c) (K.count image K.action)) (cond (argumentsIn c) (perform s c) (refused R.ArgumentTag)) (refused R.Key)
+called image s c = cond (ltb (actionOf c) (K.count image K.action)) (cond (argumentsIn c) (perform (limits image .held) s c) (refused R.ArgumentTag)) (refused R.Key)
 
 -- 11 before all else
 unfoldable pub step : List ℕ → Arrays → Call → Result Refusal Outcome

@@ -7,6 +7,7 @@ ghost use mathlib.Core.List.{map};
 ghost use Rattle.lists.specs.Lent.{was, is};
 ghost use Rattle.tags.specs.Tags.{at, within};
 ghost use Rattle.tags.specs.Views.{ofGlobal};
+ghost use Rattle.rows.specs.Limits.{limits};
 ghost use Rattle.entries.specs.Entries.{ofValue, ofBucket};
 ghost use Rattle.entries.specs.Words.{valuesOf, bucketsOf, HeldValues, HeldBuckets};
 ghost use Rattle.value_store.specs.Calls.{push, next, take-out, clear-before, clear, move, said, perform as performed, actionOf, argumentsIn, called, freshArrays, isSound, step, answered};
@@ -15,7 +16,7 @@ ghost use Rattle.value_store.specs.Views.{arraysOf, answerOf, callOf, Di
 use entries::BUCKET_WORDS;
 use entries::Bucket;
 use entries::BucketRows;
-use entries::MOST_HELD;
+use entries::ROOM_FOR_ENTRIES;
 use entries::VALUE_WORDS;
 use entries::Value;
 use entries::ValueRows;
@@ -29,9 +30,9 @@ use tags::GlobalTag;
 
 // Values and buckets, and how many of each are held; what stands in the rest is no part of the store.
 pub struct Store {
-    pub values: [Value; MOST_HELD],
+    pub values: [Value; ROOM_FOR_ENTRIES],
     pub held: usize,
-    pub buckets: [Bucket; MOST_HELD],
+    pub buckets: [Bucket; ROOM_FOR_ENTRIES],
     pub open: usize,
 }
 
@@ -51,12 +52,12 @@ pub struct Answered {
 
 // ---- to rows and back
 
-fn value_rows(values: [Value; MOST_HELD]) -> ValueRows
+fn value_rows(values: [Value; ROOM_FOR_ENTRIES]) -> ValueRows
     ensures { λ r. ⌜ HeldValues r (map ofValue values) ⌝ }
 {
-    let mut rows = [0u64; MOST_HELD * VALUE_WORDS];
+    let mut rows = [0u64; ROOM_FOR_ENTRIES * VALUE_WORDS];
     let mut i: usize = 0;
-    while i < MOST_HELD {
+    while i < ROOM_FOR_ENTRIES {
         let v = values[i];
         entries::put_value(&mut rows, i, v);
         i += 1;
@@ -64,12 +65,12 @@ fn value_rows(values: [Value; MOST_HELD]) -> ValueRows
     rows
 }
 
-fn bucket_rows(buckets: [Bucket; MOST_HELD]) -> BucketRows
+fn bucket_rows(buckets: [Bucket; ROOM_FOR_ENTRIES]) -> BucketRows
     ensures { λ r. ⌜ HeldBuckets r (map ofBucket buckets) ⌝ }
 {
-    let mut rows = [0u64; MOST_HELD * BUCKET_WORDS];
+    let mut rows = [0u64; ROOM_FOR_ENTRIES * BUCKET_WORDS];
     let mut i: usize = 0;
-    while i < MOST_HELD {
+    while i < ROOM_FOR_ENTRIES {
         let b = buckets[i];
         entries::put_bucket(&mut rows, i, b);
         i += 1;
@@ -77,13 +78,13 @@ fn bucket_rows(buckets: [Bucket; MOST_HELD]) -> BucketRows
     rows
 }
 
-fn values_of(rows: &ValueRows) -> [Value; MOST_HELD]
+fn values_of(rows: &ValueRows) -> [Value; ROOM_FOR_ENTRIES]
     ensures { λ r. ⌜ map ofValue r ≡ valuesOf (now (rows .entry)) ⌝ }
 {
     let blank = Value::blank();
-    let mut values = [blank; MOST_HELD];
+    let mut values = [blank; ROOM_FOR_ENTRIES];
     let mut i: usize = 0;
-    while i < MOST_HELD {
+    while i < ROOM_FOR_ENTRIES {
         let v = entries::value_at(rows, i);
         values[i] = v;
         i += 1;
@@ -91,13 +92,13 @@ fn values_of(rows: &ValueRows) -> [Value; MOST_HELD]
     values
 }
 
-fn buckets_of(rows: &BucketRows) -> [Bucket; MOST_HELD]
+fn buckets_of(rows: &BucketRows) -> [Bucket; ROOM_FOR_ENTRIES]
     ensures { λ r. ⌜ map ofBucket r ≡ bucketsOf (now (rows .entry)) ⌝ }
 {
     let blank = Bucket::blank();
-    let mut buckets = [blank; MOST_HELD];
+    let mut buckets = [blank; ROOM_FOR_ENTRIES];
     let mut i: usize = 0;
-    while i < MOST_HELD {
+    while i < ROOM_FOR_ENTRIES {
         let b = entries::bucket_at(rows, i);
         buckets[i] = b;
         i += 1;
@@ -214,13 +215,19 @@ impl Call {
     }
 }
 
-fn perform(values: &mut ValueRows, buckets: &mut BucketRows, held: Counts, call: Call) -> Called
-    requires { ⌜ Lent (now values) (now buckets) held ⌝ }
-    ensures { λ r. ⌜ DidCall (was values) (was buckets) held (performed (storeOf (was values) (was buckets) held) (callOf call)) (is values) (is buckets) r ⌝ }
+fn perform(
+    values: &mut ValueRows,
+    buckets: &mut BucketRows,
+    held: Counts,
+    limit: usize,
+    call: Call,
+) -> Called
+    requires { ⌜ Lent limit (now values) (now buckets) held ⌝ }
+    ensures { λ r. ⌜ DidCall (was values) (was buckets) held (performed limit (storeOf (was values) (was buckets) held) (callOf call)) (is values) (is buckets) r ⌝ }
 {
     match call {
         Call::Push(action, tag, value) => {
-            let c = store_calls::push(values, buckets, held, action, tag, value);
+            let c = store_calls::push(values, buckets, held, limit, action, tag, value);
             changed(c)
         }
         Call::NextMicrostep(action, offset, least) => {
@@ -251,7 +258,7 @@ fn perform(values: &mut ValueRows, buckets: &mut BucketRows, held: Counts, call:
             }
         }
         Call::MoveValue(action, old, new) => {
-            let c = store_calls::move_value(values, buckets, held, action, old, new);
+            let c = store_calls::move_value(values, buckets, held, limit, action, old, new);
             changed(c)
         }
     }
@@ -265,7 +272,7 @@ pub fn call_rows(
     held: Counts,
     call: Call,
 ) -> Called
-    requires { ⌜ Lent (now values) (now buckets) held ⌝ }
+    requires { ⌜ Lent (limits (now image) .held) (now values) (now buckets) held ⌝ }
     ensures { λ r. ⌜ DidCall (was values) (was buckets) held (called (was image) (storeOf (was values) (was buckets) held) (callOf call)) (is values) (is buckets) r ⌝ }
 {
     let actions = rows::count(image, rows::ACTION);
@@ -277,7 +284,8 @@ pub fn call_rows(
         };
     }
     if call.within() {
-        return perform(values, buckets, held, call);
+        let limit = rows::most_held(image);
+        return perform(values, buckets, held, limit, call);
     }
     Called {
         answer: Answer::Refused(Refusal::ArgumentTag),
@@ -292,8 +300,9 @@ fn is_sound(image: &[u8], values: &ValueRows, buckets: &BucketRows, held: Counts
     ensures { λ r. ⌜ r ≡ isSound (now (image .entry)) (arraysIn (now (values .entry)) (now (buckets .entry)) held) ⌝ }
 {
     if table::accepted(image) {
+        let limit = rows::most_held(image);
         let actions = rows::count(image, rows::ACTION);
-        return store_rules::keeps_rules(values, buckets, held, actions);
+        return store_rules::keeps_rules(values, buckets, held, limit, actions);
     }
     false
 }
@@ -306,9 +315,9 @@ impl Store {
         let v = Value::blank();
         let b = Bucket::blank();
         Store {
-            values: [v; MOST_HELD],
+            values: [v; ROOM_FOR_ENTRIES],
             held: 0,
-            buckets: [b; MOST_HELD],
+            buckets: [b; ROOM_FOR_ENTRIES],
             open: 0,
         }
     }

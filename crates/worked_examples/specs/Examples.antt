@@ -6,6 +6,7 @@ use mathlib.Core.List.{List, [], _∷_, map, List·Memᴰ, List·Memᴰ·head, L
 use Rattle.lists.specs.Lists.{any, lose, upsert}
 use Rattle.lists.specs.Walk.{done, refused}
 use Rattle.refusals.specs.declared.Refusal.the-variants.{MappedTag}
+use Rattle.rows.specs.Limits.{version1}
 use Rattle.tags.specs.Tags as tag
 use Rattle.tags.specs.Tags.{Tag, Clock, at, zeroTag, within, withinClock, sameTag, earlier, delayed, shifted, checked, globalToLocal, localToGlobal}
 use Rattle.store.specs.Store.{Store, emptyStore, isValue, isBucket, isBefore, isThere, isSpent, following, larger, lacks, pushed, nextIn, nextMicrostep, valueIn, taken, clearedBefore, moved}
@@ -84,9 +85,10 @@ table =
 
 -- ---- what the definitions answer
 
+-- as many held as version 1 allows
 unfoldable pub performed : Store → List Call → List Answer
 performed s [] = []
-performed s (c ∷ cs) = said-by (perform s c) ∷ performed (left-by s (perform s c)) cs
+performed s (c ∷ cs) = let r = perform (version1 .held) s c in said-by r ∷ performed (left-by s r) cs
 
 abbrev pub answerOf : Asked → Said
 answerOf (to-global c x) = tagged (localToGlobal c x)

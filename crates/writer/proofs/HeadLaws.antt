@@ -1,7 +1,7 @@
 -- Images that begin with the same 23 bytes have the same counts, and the same places for their rows. Assumes nothing.
 use mathlib.Core.Path.{_≡_, refl, ap, _∙_}
 use mathlib.Core.Bool.{_&&_}
-use Prim.Native.Nat.{ℕ, zero, suc, _+_, _*_, _≤_, _<_}
+use Prim.Native.Nat.{ℕ, zero, suc, _+_, _-_, _*_, _≤_, _<_}
 use native.Mathlib.Nat.{zero-add}
 use native.Mathlib.Omega.{arith}
 use lib.Dec.{leb}
@@ -11,6 +11,7 @@ use Rattle.lists.specs.Scan.{scan-all, scan-same}
 use Rattle.lists.specs.Tests.{and-right}
 use Rattle.rows.specs.Bytes.{Image, be}
 use Rattle.rows.specs.Kinds.{kindOf, kindCount, headBytes, count, countPlace, place, largest}
+use Rattle.rows.specs.Limits.{version1, versions, limits}
 use Rattle.table.specs.Check.{countFits, badCount}
 use Rattle.table.proofs.Sizes.{rows-end}
 
@@ -24,9 +25,13 @@ module _ (s t : Image) (h : (i : ℕ) → i < headBytes → getD s i 0 ≡ getD 
   unfolding count countPlace
   same-count k l = same-number 2 (5 + 2 * k) (omega arith)
 
+  same-limits : limits s ≡ limits t
+  unfolding limits
+  same-limits = ap (λ v. getD versions (v - 1) version1) (same-number 1 4 (omega arith))
+
   same-fits : (k : ℕ) → k < kindCount → countFits s k ≡ countFits t k
   unfolding countFits
-  same-fits k l = ap (λ n. leb (kindOf k .least) n && leb n (kindOf k .most)) (same-count k l)
+  same-fits k l = rw (same-count k l, same-limits)
 
   pub same-bad-count : badCount s ≡ badCount t
   unfolding badCount

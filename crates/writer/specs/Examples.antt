@@ -7,6 +7,7 @@ use Rattle.lists.specs.Lists.{every}
 use Rattle.lists.specs.Scan.{scan}
 use Rattle.rows.specs.Bytes.{be, beBytes}
 use Rattle.rows.specs.Kinds.{kinds, kindOf, count, countPlace, place, timer}
+use Rattle.rows.specs.Limits.{versions, limits}
 use Rattle.rows.specs.Rows.{rowPlace, field}
 use Rattle.rows.specs.Fields.{fieldTable, fieldsOf}
 use Rattle.table.specs.Rules.{keyFields, keyExists, keysExist, parentRule, scopeRule, initialRule, reactorRule, ownRule, rowRule}
@@ -29,30 +30,30 @@ room n = replicate n 7
 
 -- the length counts all that follows: 29 of 33 bytes; two bytes past the image stay
 pub smallest-written : writing counts rows (room 35) ≡ wrote (answers.Image 33) (0 ∷ 0 ∷ 0 ∷ 29 ∷ 1 ∷ (counts ++ (rows ++ (7 ∷ 7 ∷ []))))
-unfolding writing imageOf beBytes be countFits badCount badRow kindFits badKind checkRows scan kindOf kinds count countPlace place rowPlace field keyFields keyExists keysExist
+unfolding writing imageOf beBytes be countFits badCount badRow kindFits badKind checkRows scan kindOf kinds versions limits count countPlace place rowPlace field keyFields keyExists keysExist
     every parentRule scopeRule initialRule reactorRule ownRule rowRule
 smallest-written = refl
 
 -- a byte of room less
 pub no-room : writing counts rows (room 32) ≡ wrote answers.NoRoom (room 32)
-unfolding writing imageOf beBytes be countFits badCount badRow kindFits badKind checkRows scan kindOf kinds count countPlace place rowPlace field keyFields keyExists keysExist
+unfolding writing imageOf beBytes be countFits badCount badRow kindFits badKind checkRows scan kindOf kinds versions limits count countPlace place rowPlace field keyFields keyExists keysExist
     every parentRule scopeRule initialRule reactorRule ownRule rowRule
 no-room = refl
 
 -- a scope in a reactor that is not there: 4 at its first byte, before the room is asked for
 pub broken-row : writing counts (255 ∷ 255 ∷ 0 ∷ 1 ∷ 255 ∷ 255 ∷ 0 ∷ 0 ∷ 255 ∷ 255 ∷ []) [] ≡ wrote (answers.Refused (Row 23)) []
-unfolding writing imageOf beBytes be countFits badCount badRow kindFits badKind checkRows scan kindOf kinds count countPlace place rowPlace field keyFields keyExists keysExist
+unfolding writing imageOf beBytes be countFits badCount badRow kindFits badKind checkRows scan kindOf kinds versions limits count countPlace place rowPlace field keyFields keyExists keysExist
     every parentRule scopeRule initialRule reactorRule ownRule rowRule
 broken-row = refl
 
 -- a row's byte too many: 1, before the rows are looked at
 pub rows-unfit : writing counts (1 ∷ rows) [] ≡ wrote (answers.Refused Unfilled) []
-unfolding writing imageOf beBytes be countFits badCount scan kindOf kinds count countPlace place
+unfolding writing imageOf beBytes be countFits badCount scan kindOf kinds versions limits count countPlace place
 rows-unfit = refl
 
 -- no reactor: 3 at its count, before the rows are
 pub no-reactor : writing (0 ∷ 1 ∷ 0 ∷ 0 ∷ 0 ∷ 0 ∷ 0 ∷ 0 ∷ 0 ∷ 0 ∷ 0 ∷ 0 ∷ 0 ∷ 0 ∷ 0 ∷ 0 ∷ 0 ∷ 0 ∷ []) [] [] ≡ wrote (answers.Refused (Count 7)) []
-unfolding writing imageOf beBytes be countFits badCount scan kindOf kinds count countPlace
+unfolding writing imageOf beBytes be countFits badCount scan kindOf kinds versions limits count countPlace
 no-reactor = refl
 
 -- a byte of the counts is missing

@@ -1,6 +1,6 @@
 -- `entries::bucket_at` meets its contract: the three words of its row are decoded. Assumes nothing.
 use Rattle.lists.specs.Rows.{tab}
-use Rattle.entries.specs.Entries.{mostHeld}
+use Rattle.entries.specs.Entries.{roomForEntries}
 use Rattle.entries.specs.Words.{bucketWords, decodeBucket, encodeBucket, long-bucket}
 use Rattle.lists.specs.Loops.{read-past, read-there}
 use borrow.Author.Needs.{needs}
@@ -51,7 +51,7 @@ cast-next c = search needs
 
 returns-2 : tie.Need-returns-2
 unfolding decodeBucket tab
-returns-2 c = read-there decodeBucket encodeBucket bucketWords mostHeld long-bucket _ _ _ (search needs)
+returns-2 c = read-there decodeBucket encodeBucket bucketWords roomForEntries long-bucket _ _ _ (search needs)
 
 pub bucket-at-spec : {M : Type 1} → statement M
 bucket-at-spec =

@@ -1,7 +1,7 @@
 -- `entries::put_bucket` meets its contract: the three words of its row are written, and no other. Assumes nothing.
 use mathlib.Core.Path.{refl}
 use Rattle.lists.specs.Held.{held-past}
-use Rattle.entries.specs.Entries.{mostHeld, ofBucket}
+use Rattle.entries.specs.Entries.{roomForEntries, ofBucket}
 use Rattle.entries.specs.Words.{bucketWords, decodeBucket, encodeBucket, long-bucket, bucket-back}
 use Rattle.lists.specs.Loops.{write-there}
 use borrow.Author.Needs.{needs}
@@ -51,7 +51,7 @@ returns-2 : tie.Need-returns-2
 unfolding encodeBucket
 returns-2 c =
     let a = c .before .before .before .args in
-    write-there decodeBucket encodeBucket bucketWords mostHeld long-bucket _ _ (ofBucket (a .e)) (search needs) (bucket-back _ (search needs) (search needs)) (search needs) refl
+    write-there decodeBucket encodeBucket bucketWords roomForEntries long-bucket _ _ (ofBucket (a .e)) (search needs) (bucket-back _ (search needs) (search needs)) (search needs) refl
 
 pub put-bucket-spec : {M : Type 1} → statement M
 put-bucket-spec =

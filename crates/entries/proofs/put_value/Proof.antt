@@ -1,7 +1,7 @@
 -- `entries::put_value` meets its contract: the four words of its row are written, and no other. Assumes nothing.
 use mathlib.Core.Path.{refl}
 use Rattle.lists.specs.Held.{held-past}
-use Rattle.entries.specs.Entries.{mostHeld, ofValue}
+use Rattle.entries.specs.Entries.{roomForEntries, ofValue}
 use Rattle.entries.specs.Words.{valueWords, decodeValue, encodeValue, long-value, value-back}
 use Rattle.lists.specs.Loops.{write-there}
 use borrow.Author.Needs.{needs}
@@ -60,7 +60,7 @@ returns-2 : tie.Need-returns-2
 unfolding encodeValue
 returns-2 c =
     let a = c .before .before .before .args in
-    write-there decodeValue encodeValue valueWords mostHeld long-value _ _ (ofValue (a .v)) (search needs) (value-back _ (search needs) (search needs)) (search needs) refl
+    write-there decodeValue encodeValue valueWords roomForEntries long-value _ _ (ofValue (a .v)) (search needs) (value-back _ (search needs) (search needs)) (search needs) refl
 
 pub put-value-spec : {M : Type 1} → statement M
 put-value-spec =

@@ -1,6 +1,6 @@
 -- `entries::value_at` meets its contract: the four words of its row are decoded. Assumes nothing.
 use Rattle.lists.specs.Rows.{tab}
-use Rattle.entries.specs.Entries.{mostHeld}
+use Rattle.entries.specs.Entries.{roomForEntries}
 use Rattle.entries.specs.Words.{valueWords, decodeValue, encodeValue, long-value}
 use Rattle.lists.specs.Loops.{read-past, read-there}
 use borrow.Author.Needs.{needs}
@@ -60,7 +60,7 @@ element-copy-out-value c = search needs
 
 returns-2 : tie.Need-returns-2
 unfolding decodeValue tab
-returns-2 c = read-there decodeValue encodeValue valueWords mostHeld long-value _ _ _ (search needs)
+returns-2 c = read-there decodeValue encodeValue valueWords roomForEntries long-value _ _ _ (search needs)
 
 pub value-at-spec : {M : Type 1} → statement M
 value-at-spec =

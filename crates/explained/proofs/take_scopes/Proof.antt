@@ -1,13 +1,13 @@
 -- `explained::take_scopes` is safe and ends. Assumes nothing.
 use borrow.Author.Needs.{needs}
-use Rattle.machine.specs.State.{mostWaiting}
+use Rattle.slots.specs.Slots.{roomForEvents}
 use Rattle.slots.specs.Slots.{Whole}
 use Prim.Native.Nat.{_-_, _≤_}
 use Rattle.explained.proofs.take_scopes.Statement.{statement}
 use Rattle.explained.proofs.take_scopes.Tie as tie
 
 abbrev Inv-loop : tie.InvT-loop
-Inv-loop desk₀ image scopes events₀ waiting t left₀ turns₀ desk events left turns = Whole events × (left ≤ mostWaiting)
+Inv-loop desk₀ image scopes events₀ waiting t left₀ turns₀ desk events left turns = Whole events × (left ≤ roomForEvents)
 
 abbrev μ-loop : tie.MeasureT-loop
 μ-loop desk₀ image scopes events₀ waiting t left₀ turns₀ desk events left turns = turns

@@ -58,7 +58,7 @@ enum-told-2 : tie.Need-enum-told-2
 enum-told-2 c = search needs
 
 returns : tie.Need-returns
-returns c = rw (c .before .before .before .parsed .given .1, c .before .bit .ensures)
+returns c = rw (c .before .before .before .parsed .given .1, c .before .bit .ensures .0)
 
 returns-2 : tie.Need-returns-2
 returns-2 c = rw (c .before .before .parsed2 .given .1)
@@ -67,10 +67,10 @@ returns-3 : tie.Need-returns-3
 returns-3 c = rw (c .before .before .parsed3 .given .1)
 
 returns-4 : tie.Need-returns-4
-returns-4 c = rw (c .before .before .before .parsed4 .given .1, c .before .bit2 .ensures)
+returns-4 c = rw (c .before .before .before .parsed4 .given .1, c .before .bit2 .ensures .0)
 
 returns-5 : tie.Need-returns-5
-returns-5 c = rw (c .before .before .before .parsed5 .given .1, c .before .bit3 .ensures)
+returns-5 c = rw (c .before .before .before .parsed5 .given .1, c .before .bit3 .ensures .0)
 
 returns-6 : tie.Need-returns-6
 returns-6 c = search needs

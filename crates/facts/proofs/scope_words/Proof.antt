@@ -29,7 +29,7 @@ returns : tie.Need-returns
 returns c =
     let c₁ = c .before .before .before in
     let c₂ = c₁ .before .before .before .before .before .before .before in
-    scope-words-are _ _ (c₂ .scope-at .ensures) (c₁ .before .before .bit .ensures) (c₁ .before .bit2 .ensures) (c₁ .bit3 .ensures)
+    scope-words-are _ _ (c₂ .scope-at .ensures) (c₁ .before .before .bit .ensures .0) (c₁ .before .bit2 .ensures .0) (c₁ .bit3 .ensures .0)
 
 pub scope-words-spec : {M : Type 1} → statement M
 scope-words-spec =

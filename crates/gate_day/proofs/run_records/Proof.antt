@@ -5,14 +5,14 @@ use mathlib.Core.Path.{_≡_, refl, _∙_}
 use native.Mathlib.Omega.{arith}
 use lib.ListN.{length, take}
 use mathlib.Core.List.{List}
-use Rattle.machine.specs.State.{mostWaiting}
+use Rattle.slots.specs.Slots.{roomForEvents}
 use Rattle.slots.specs.Slots.{eventsOf}
 use Rattle.queue.specs.Queue.{Held, headsOf}
 use Rattle.records.specs.Records.{mostKeys}
 use Rattle.puts.proofs.WrittenLaws.{written-long}
 use Rattle.lens.specs.declared.Ledger.{Ledger}
 use Rattle.lens.specs.Holds.{Rows}
-use Rattle.gate_day.proofs.CallLaws.{kept-waits}
+use Rattle.lens.specs.Holds.{kept-waits}
 use Rattle.gate_day.proofs.RunLaws.{Running, running-begins, room-left, told, fits, keeps-on, runs-on, stops-room, stops-pending, stops-broken, ends-here, ends-broken}
 use borrow.Author.Needs.{needs}
 use Rattle.gate_day.proofs.run_records.Statement.{statement}
@@ -25,7 +25,7 @@ room xs es vs bs l = record { scopes = xs; events = es; values = vs; buckets = b
 abbrev Inv-loop : tie.InvT-loop
 Inv-loop image bytes out₀ scopes₀ events₀ values₀ buckets₀ ledger₀ heads₀ actions₀ keys₀ used₀ written₀ ended₀ out scopes events values buckets ledger heads actions keys used written ended =
     Running image bytes (room scopes₀ events₀ values₀ buckets₀ ledger₀) out₀ (room scopes events values buckets ledger) used written out ×
-    (length keys ≡ mostKeys) × (length actions ≡ mostWaiting) × (ended ≡ false) × Held heads (headsOf (take (ledger .counts .waiting) (eventsOf events)))
+    (length keys ≡ mostKeys) × (length actions ≡ roomForEvents) × (ended ≡ false) × Held heads (headsOf (take (ledger .counts .waiting) (eventsOf events)))
 
 abbrev μ-loop : tie.MeasureT-loop
 μ-loop image bytes out₀ scopes₀ events₀ values₀ buckets₀ ledger₀ heads₀ actions₀ keys₀ used₀ written₀ ended₀ out scopes events values buckets ledger heads actions keys used written ended =

@@ -20,7 +20,7 @@ returns : tie.Need-returns
 returns c =
     let c₁ = c .before .before .before .before in
     let c₂ = c₁ .before .before .before in
-    written-then (c₂ .write-text .ensures) (rw (c₁ .bit .ensures) at (c .before .before .write-decimal .ensures))
+    written-then (c₂ .write-text .ensures) (rw (c₁ .bit .ensures .0) at (c .before .before .write-decimal .ensures))
 
 pub write-flag-spec : {M : Type 1} → statement M
 write-flag-spec =

@@ -3,7 +3,7 @@ use Prim.Native.Nat.{_-_, _≤_}
 use mathlib.Core.List.{[], map}
 use lib.ListN.{take}
 use Rattle.lens.specs.Padded.{padded}
-use Rattle.entries.specs.Entries.{mostHeld, blankBucket, ofBucket}
+use Rattle.entries.specs.Entries.{roomForEntries, blankBucket, ofBucket}
 use Rattle.entries.specs.Words.{HeldBuckets}
 use Rattle.fresh.proofs.FreshLaws.{no-buckets}
 use Rattle.value_store.proofs.Laws.{length-mapped}
@@ -13,7 +13,7 @@ use Rattle.manager.proofs.bucket_rows.Statement.{statement}
 use Rattle.manager.proofs.bucket_rows.Tie as tie
 
 abbrev Inv-loop : tie.InvT-loop
-Inv-loop n buckets end rows₀ i₀ rows i = (i ≤ end) × (end ≤ mostHeld) × (HeldBuckets rows (padded blankBucket mostHeld (take i (map ofBucket buckets))))
+Inv-loop n buckets end rows₀ i₀ rows i = (i ≤ end) × (end ≤ roomForEntries) × (HeldBuckets rows (padded blankBucket roomForEntries (take i (map ofBucket buckets))))
 
 abbrev μ-loop : tie.MeasureT-loop
 μ-loop n buckets end rows₀ i₀ rows i = end - i

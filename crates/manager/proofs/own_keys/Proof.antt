@@ -3,14 +3,14 @@ use mathlib.Core.Path.{_≡_}
 use Prim.Native.Nat.{_-_, _≤_}
 use lib.ListN.{length, take}
 use Rattle.lens.specs.Padded.{padded}
-use Rattle.machine.specs.State.{mostWaiting}
+use Rattle.slots.specs.Slots.{roomForEvents}
 use Rattle.manager.proofs.Front.{end-few, numbers-none, numbers-next, numbers-all}
 use borrow.Author.Needs.{needs}
 use Rattle.manager.proofs.own_keys.Statement.{statement}
 use Rattle.manager.proofs.own_keys.Tie as tie
 
 abbrev Inv-loop : tie.InvT-loop
-Inv-loop n keys end out₀ i₀ out i = (i ≤ end) × (end ≤ mostWaiting) × (length out ≡ mostWaiting) × (out ≡ padded 0 mostWaiting (take i keys))
+Inv-loop n keys end out₀ i₀ out i = (i ≤ end) × (end ≤ roomForEvents) × (length out ≡ roomForEvents) × (out ≡ padded 0 roomForEvents (take i keys))
 
 abbrev μ-loop : tie.MeasureT-loop
 μ-loop n keys end out₀ i₀ out i = end - i

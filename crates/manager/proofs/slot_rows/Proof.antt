@@ -3,9 +3,8 @@ use Prim.Native.Nat.{_-_, _≤_}
 use mathlib.Core.List.{map}
 use lib.ListN.{take}
 use Rattle.lens.specs.Padded.{padded}
-use Rattle.machine.specs.State.{mostWaiting}
 use Rattle.slots.specs.Slots as slot
-use Rattle.slots.specs.Slots.{eventOf}
+use Rattle.slots.specs.Slots.{eventOf, roomForEvents}
 use Rattle.value_store.proofs.Laws.{length-mapped}
 use Rattle.manager.proofs.Front.{end-few, rows-none, rows-next, rows-all}
 use borrow.Author.Needs.{needs}
@@ -13,7 +12,7 @@ use Rattle.manager.proofs.slot_rows.Statement.{statement}
 use Rattle.manager.proofs.slot_rows.Tie as tie
 
 abbrev Inv-loop : tie.InvT-loop
-Inv-loop n slots end rows₀ i₀ rows i = (i ≤ end) × (end ≤ mostWaiting) × (slot.Held rows (padded slot.blank mostWaiting (take i (map eventOf slots))))
+Inv-loop n slots end rows₀ i₀ rows i = (i ≤ end) × (end ≤ roomForEvents) × (slot.Held rows (padded slot.blank roomForEvents (take i (map eventOf slots))))
 
 abbrev μ-loop : tie.MeasureT-loop
 μ-loop n slots end rows₀ i₀ rows i = end - i

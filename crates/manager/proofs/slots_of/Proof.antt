@@ -4,7 +4,7 @@ use Prim.Native.Nat.{_-_, _≤_}
 use native.Mathlib.Omega.{arith}
 use mathlib.Core.List.{map}
 use lib.ListN.{take, length}
-use Rattle.machine.specs.State.{mostWaiting}
+use Rattle.slots.specs.Slots.{roomForEvents}
 use Rattle.slots.specs.Slots.{eventOf, eventsOf}
 use Rattle.lists.specs.Loops.{things-more, things-all}
 use borrow.Author.Needs.{needs}
@@ -12,10 +12,10 @@ use Rattle.manager.proofs.slots_of.Statement.{statement}
 use Rattle.manager.proofs.slots_of.Tie as tie
 
 abbrev Inv-loop : tie.InvT-loop
-Inv-loop rows out₀ i₀ out i = (i ≤ mostWaiting) × (length out ≡ mostWaiting) × (take i (map eventOf out) ≡ take i (eventsOf rows))
+Inv-loop rows out₀ i₀ out i = (i ≤ roomForEvents) × (length out ≡ roomForEvents) × (take i (map eventOf out) ≡ take i (eventsOf rows))
 
 abbrev μ-loop : tie.MeasureT-loop
-μ-loop rows out₀ i₀ out i = mostWaiting - i
+μ-loop rows out₀ i₀ out i = roomForEvents - i
 
 blank-requires : tie.Need-blank-requires Inv-loop μ-loop
 blank-requires c κs = search needs

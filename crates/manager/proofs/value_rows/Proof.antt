@@ -3,7 +3,7 @@ use Prim.Native.Nat.{_-_, _≤_}
 use mathlib.Core.List.{[], map}
 use lib.ListN.{take}
 use Rattle.lens.specs.Padded.{padded}
-use Rattle.entries.specs.Entries.{mostHeld, blankValue, ofValue}
+use Rattle.entries.specs.Entries.{roomForEntries, blankValue, ofValue}
 use Rattle.entries.specs.Words.{HeldValues}
 use Rattle.fresh.proofs.FreshLaws.{no-values}
 use Rattle.value_store.proofs.Laws.{length-mapped}
@@ -13,7 +13,7 @@ use Rattle.manager.proofs.value_rows.Statement.{statement}
 use Rattle.manager.proofs.value_rows.Tie as tie
 
 abbrev Inv-loop : tie.InvT-loop
-Inv-loop n values end rows₀ i₀ rows i = (i ≤ end) × (end ≤ mostHeld) × (HeldValues rows (padded blankValue mostHeld (take i (map ofValue values))))
+Inv-loop n values end rows₀ i₀ rows i = (i ≤ end) × (end ≤ roomForEntries) × (HeldValues rows (padded blankValue roomForEntries (take i (map ofValue values))))
 
 abbrev μ-loop : tie.MeasureT-loop
 μ-loop n values end rows₀ i₀ rows i = end - i

@@ -31,8 +31,11 @@ loop-holds c =
 is-active-requires : tie.Need-is-active-requires Inv-loop μ-loop
 is-active-requires c κs = search needs
 
-mark-requires : tie.Need-mark-requires Inv-loop μ-loop
-mark-requires c κs = search needs
+cast-insert-if : tie.Need-cast-insert-if Inv-loop μ-loop
+cast-insert-if c = search needs
+
+insert-if-requires : tie.Need-insert-if-requires Inv-loop μ-loop
+insert-if-requires c κs = search needs
 
 add-i : tie.Need-add-i Inv-loop μ-loop
 add-i c = search needs
@@ -43,7 +46,7 @@ loop-less c = search needs
 loop-again : tie.Need-loop-again Inv-loop μ-loop
 loop-again c =
     let c₁ = c .before .before .before in
-    let l = c₁ .loop in (search needs, l .inv .1, l .inv .2, marks-more _ (l .i) (l .set .words) _ _ (search needs) (l .inv .3) (c .before .is-active .ensures) (c .mark .ensures))
+    let l = c₁ .loop in (search needs, l .inv .1, l .inv .2, marks-more _ (l .i) (l .set .words) _ _ (search needs) (l .inv .3) (c .before .is-active .ensures) (c .insert-if .ensures))
 
 returns : tie.Need-returns Inv-loop μ-loop
 returns c = let l = c .before .loop in rw (← (l .inv .2)) (marks-all _ (l .i) _ (l .set .words) (search needs) (search needs) (l .inv .3))
@@ -58,7 +61,8 @@ active-scopes-spec =
     empty-requires
     loop-holds
     is-active-requires
-    mark-requires
+    cast-insert-if
+    insert-if-requires
     add-i
     loop-less
     loop-again

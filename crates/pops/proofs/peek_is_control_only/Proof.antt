@@ -1,15 +1,12 @@
 -- `pops::peek_is_control_only` meets its contract. Assumes nothing.
 use mathlib.Core.Path.{_∙_}
-use Rattle.pops.proofs.PopLaws.{queue-is, seen, control-nothing, control-other, control-both, control-asked}
+use Rattle.pops.proofs.PopLaws.{queue-is, seen-in, control-nothing, control-other, control-both, control-asked}
 use borrow.Author.Needs.{needs}
 use Rattle.pops.proofs.peek_is_control_only.Statement.{statement}
 use Rattle.pops.proofs.peek_is_control_only.Tie as tie
 
 count-requires : tie.Need-count-requires
 count-requires c κs = search needs
-
-heads-requires : tie.Need-heads-requires
-heads-requires c κs = search needs
 
 root-head-requires : tie.Need-root-head-requires
 root-head-requires c κs = search needs
@@ -37,13 +34,13 @@ returns c =
     let t = c .before .before .before .before .before in
     let p = t .before .before in
     let l = p .before in
-    let r = l .before .before in
-    let k = r .before .before in
-    let a = k .before .before .before in
+    let r = l .before in
+    let k = r .before in
+    let a = k .before .before in
     λ s q h.
     let w =
-    seen (a .args .image .now) s (a .args .events .now) (a .args .scopes .now) (a .args .counts) (a .pre) q h (r .root-head .result) (l .scope-head .result)
-    (k .before .count .ensures) (k .heads .ensures) (r .root-head .ensures) (l .scope-head .ensures) in
+    seen-in (a .args .image .now) s (a .args .events .now) (a .args .scopes .now) (a .args .counts) (a .pre .0) q h (r .root-head .result) (l .scope-head .result)
+    (k .count .ensures) (a .pre .1) (r .root-head .ensures) (l .scope-head .ensures) in
     control-both w (p .peek-of .result) (p .peek-of .ensures) (t .t .given .1) (c .before .is-at2 .ensures) (c .if2 .taken)
 
 all-controlled-requires : tie.Need-all-controlled-requires
@@ -56,27 +53,27 @@ returns-2 c =
     let t = i .before .before in
     let p = t .before .before in
     let l = p .before in
-    let r = l .before .before in
-    let k = r .before .before in
-    let a = k .before .before .before in
+    let r = l .before in
+    let k = r .before in
+    let a = k .before .before in
     λ s q h.
     let w =
-    seen (a .args .image .now) s (a .args .events .now) (a .args .scopes .now) (a .args .counts) (a .pre) q h (r .root-head .result) (l .scope-head .result)
-    (k .before .count .ensures) (k .heads .ensures) (r .root-head .ensures) (l .scope-head .ensures) in
+    seen-in (a .args .image .now) s (a .args .events .now) (a .args .scopes .now) (a .args .counts) (a .pre .0) q h (r .root-head .result) (l .scope-head .result)
+    (k .count .ensures) (a .pre .1) (r .root-head .ensures) (l .scope-head .ensures) in
     control-asked w (p .peek-of .result) (p .peek-of .ensures) (t .t .given .1) (i .is-at .ensures) (j .before .if1 .taken) (j .is-at2 .ensures) (c .before .if2 .left)
-    (c .all-controlled .ensures ∙ rw (queue-is s (a .args .events .now) (a .args .counts) (a .pre) q))
+    (c .all-controlled .ensures ∙ rw (queue-is s (a .args .events .now) (a .args .counts) (a .pre .0) q))
 
 returns-3 : tie.Need-returns-3
 returns-3 c =
     let p = c .before .before in
     let l = p .before in
-    let r = l .before .before in
-    let k = r .before .before in
-    let a = k .before .before .before in
+    let r = l .before in
+    let k = r .before in
+    let a = k .before .before in
     λ s q h.
     let w =
-    seen (a .args .image .now) s (a .args .events .now) (a .args .scopes .now) (a .args .counts) (a .pre) q h (r .root-head .result) (l .scope-head .result)
-    (k .before .count .ensures) (k .heads .ensures) (r .root-head .ensures) (l .scope-head .ensures) in
+    seen-in (a .args .image .now) s (a .args .events .now) (a .args .scopes .now) (a .args .counts) (a .pre .0) q h (r .root-head .result) (l .scope-head .result)
+    (k .count .ensures) (a .pre .1) (r .root-head .ensures) (l .scope-head .ensures) in
     control-nothing w (p .peek-of .result) (p .peek-of .ensures) (c .enum-told .given .1)
 
 returns-4 : tie.Need-returns-4
@@ -84,13 +81,13 @@ returns-4 c =
     let t = c .before .before .before in
     let p = t .before .before in
     let l = p .before in
-    let r = l .before .before in
-    let k = r .before .before in
-    let a = k .before .before .before in
+    let r = l .before in
+    let k = r .before in
+    let a = k .before .before in
     λ s q h.
     let w =
-    seen (a .args .image .now) s (a .args .events .now) (a .args .scopes .now) (a .args .counts) (a .pre) q h (r .root-head .result) (l .scope-head .result)
-    (k .before .count .ensures) (k .heads .ensures) (r .root-head .ensures) (l .scope-head .ensures) in
+    seen-in (a .args .image .now) s (a .args .events .now) (a .args .scopes .now) (a .args .counts) (a .pre .0) q h (r .root-head .result) (l .scope-head .result)
+    (k .count .ensures) (a .pre .1) (r .root-head .ensures) (l .scope-head .ensures) in
     control-other w (p .peek-of .result) (p .peek-of .ensures) (t .t .given .1) (c .before .is-at .ensures) (c .if1 .left)
 
 pub peek-is-control-only-spec : {M : Type 1} → statement M
@@ -98,7 +95,6 @@ peek-is-control-only-spec =
     tie.close
     (tie.spec
     count-requires
-    heads-requires
     root-head-requires
     scope-head-requires
     peek-of-requires

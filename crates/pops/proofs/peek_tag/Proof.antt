@@ -8,9 +8,6 @@ use Rattle.pops.proofs.peek_tag.Tie as tie
 count-requires : tie.Need-count-requires
 count-requires c κs = search needs
 
-heads-requires : tie.Need-heads-requires
-heads-requires c κs = search needs
-
 root-head-requires : tie.Need-root-head-requires
 root-head-requires c κs = search needs
 
@@ -24,13 +21,12 @@ returns : tie.Need-returns
 unfolding perform
 returns c =
     let l = c .before in
-    let r = l .before .before in
-    let k = r .before .before in
-    let a = k .before .before .before in
-    λ s q h.
+    let r = l .before in
+    let k = r .before in
+    let a = k .before .before in
+    λ s w h.
     seen-peek
-    (seen (a .args .image .now) s (a .args .events .now) (a .args .scopes .now) (a .args .counts) (a .pre) q h (r .root-head .result) (l .scope-head .result)
-    (k .before .count .ensures) (k .heads .ensures) (r .root-head .ensures) (l .scope-head .ensures))
+    (seen (a .args .image .now) s (a .args .scopes .now) h (r .root-head .result) (l .scope-head .result) (k .count .ensures) w (r .root-head .ensures) (l .scope-head .ensures))
     (c .peek-of .ensures)
 
 pub peek-tag-spec : {M : Type 1} → statement M
@@ -38,7 +34,6 @@ peek-tag-spec =
     tie.close
     (tie.spec
     count-requires
-    heads-requires
     root-head-requires
     scope-head-requires
     peek-of-requires

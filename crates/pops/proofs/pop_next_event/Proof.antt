@@ -4,7 +4,7 @@ use lib.ListN.{take}
 use Rattle.tags.specs.Views.{ofGlobal}
 use Rattle.slots.specs.Slots.{eventsOf}
 use Rattle.scopes.specs.Scopes.{scopesOf}
-use Rattle.pops.proofs.PopLaws.{root-head, scope-head, seen, start-room, local-still, takes-then, pops-nothing, pops-found}
+use Rattle.pops.proofs.PopLaws.{root-head, scope-head, seen-in, start-room, local-still, takes-then, pops-nothing, pops-found}
 use borrow.Author.Needs.{needs}
 use Rattle.pops.proofs.pop_next_event.Statement.{statement}
 use Rattle.pops.proofs.pop_next_event.Tie as tie
@@ -60,7 +60,7 @@ returns c =
     let a = k .before .before in (
       λ s q h.
           let w =
-          seen (a .args .image .now) s (a .args .events .now) (a .args .scopes .now) (a .args .counts) (a .pre .0 .few) q h (r .root-head .result) (l .scope-head .result)
+          seen-in (a .args .image .now) s (a .args .events .now) (a .args .scopes .now) (a .args .counts) (a .pre .0 .few) q h (r .root-head .result) (l .scope-head .result)
           (k .count .ensures) (a .pre .1 .1) (r .root-head .ensures) (l .scope-head .ensures) in
           pops-nothing (a .args .events .now) (a .args .counts) (z .nothing-yet .result) (z .nothing-yet .ensures) (a .pre .0) w (p .peek-of .result) (p .peek-of .ensures) q
           (c .enum-told .given .1) _ refl (a .args .keys .now),
@@ -80,7 +80,7 @@ returns-2 c =
     let a = k .before .before in (
       λ s q h.
           let w =
-          seen (a .args .image .now) s (a .args .events .now) (a .args .scopes .now) (a .args .counts) (a .pre .0 .few) q h (r .root-head .result) (l .scope-head .result)
+          seen-in (a .args .image .now) s (a .args .events .now) (a .args .scopes .now) (a .args .counts) (a .pre .0 .few) q h (r .root-head .result) (l .scope-head .result)
           (k .count .ensures) (a .pre .1 .1) (r .root-head .ensures) (l .scope-head .ensures) in
           pops-found (a .args .events .now) (a .args .counts) (z .nothing-yet .result) (z .nothing-yet .ensures) (a .pre .0) w (p .peek-of .result) (p .peek-of .ensures) q
           (t .t .given .1) (a .args .scopes .now) h (g .result)

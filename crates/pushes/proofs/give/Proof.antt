@@ -16,6 +16,9 @@ enum-told c = search needs
 is-ordinary-requires : tie.Need-is-ordinary-requires
 is-ordinary-requires c κs = search needs
 
+most-waiting-requires : tie.Need-most-waiting-requires
+most-waiting-requires c κs = search needs
+
 accept-requires : tie.Need-accept-requires
 accept-requires c κs = search needs
 
@@ -27,30 +30,32 @@ enum-known-n-2 c = search needs
 
 tallied-requires : tie.Need-tallied-requires
 tallied-requires c κs =
-    let c₁ = c .before .before .before .before .before .before .before .before .before in
+    let c₁ = c .before .before .before .before .before .before .before .before .before .before .before in
     omega (arith, work-small (c₁ .args .events .now) (c₁ .args .counts) (c₁ .pre))
 
 returns : tie.Need-returns
 returns c =
-    let c₁ = c .before .before .before in
-    give-refused (c₁ .args .events .now) (c₁ .args .counts) (c₁ .pre) (c₁ .args .made .outcome) (eventOf (c₁ .args .made .slot)) (c .before .before2 .given .1)
+    let c₁ = c .before .before .before .before in
+    give-refused (c₁ .args .events .now) (c₁ .args .counts) (c₁ .pre) (c₁ .args .image .now) (c₁ .args .made .outcome) (eventOf (c₁ .args .made .slot)) (c .before .before2 .given .1)
 
 returns-2 : tie.Need-returns-2
 returns-2 c =
     let c₁ = c .before .before .before in
-    let c₂ = c₁ .before .before .before .before in
-    let c₃ = c₂ .before .before in
-    give-full (c₃ .args .events .now) (c₃ .args .counts) (c₃ .pre) (c₃ .args .made .outcome) (eventOf (c₃ .args .made .slot)) (c₂ .enum-told .given .1) (c₁ .accept .result)
-    (c₁ .accept .ensures .0) (c₁ .accept .last .0) (c₁ .accept .ensures .1) (c .before .n .given .1)
+    let c₂ = c₁ .before .before .before .before .before in
+    let c₃ = c₂ .before .before .before in
+    give-full (c₃ .args .events .now) (c₃ .args .counts) (c₃ .pre) (c₃ .args .image .now) (c₃ .args .made .outcome) (eventOf (c₃ .args .made .slot)) (c₂ .enum-told .given .1)
+    (c₁ .before .before .most-waiting .result) (c₁ .before .before .most-waiting .ensures) (c₁ .accept .result) (c₁ .accept .ensures .0)
+    (c₁ .accept .last .0) (c₁ .accept .ensures .1) (c .before .n .given .1)
 
 returns-3 : tie.Need-returns-3
 returns-3 c =
     let c₁ = c .before .before .before .before in
-    let c₂ = c₁ .before .before .before .before in
-    let c₃ = c₂ .before .before in
-    give-done (c₃ .args .events .now) (c₃ .args .counts) (c₃ .pre) (c₃ .args .made .outcome) (eventOf (c₃ .args .made .slot)) (c₂ .enum-told .given .1) (c₁ .accept .result)
-    (c₁ .accept .ensures .0) (c₁ .accept .last .0) (c₁ .accept .ensures .1) (c .tallied .result) (c .before .before .n2 .given .1)
-    (c .tallied .ensures ∙ rw (c₁ .before .before .is-ordinary .ensures))
+    let c₂ = c₁ .before .before .before .before .before in
+    let c₃ = c₂ .before .before .before in
+    give-done (c₃ .args .events .now) (c₃ .args .counts) (c₃ .pre) (c₃ .args .image .now) (c₃ .args .made .outcome) (eventOf (c₃ .args .made .slot)) (c₂ .enum-told .given .1)
+    (c₁ .before .before .most-waiting .result) (c₁ .before .before .most-waiting .ensures) (c₁ .accept .result) (c₁ .accept .ensures .0)
+    (c₁ .accept .last .0) (c₁ .accept .ensures .1) (c .tallied .result) (c .before .before .n2 .given .1)
+    (c .tallied .ensures ∙ rw (c₁ .before .before .before .is-ordinary .ensures))
 
 pub give-spec : {M : Type 1} → statement M
 give-spec =
@@ -59,6 +64,7 @@ give-spec =
     enum-known-before
     enum-told
     is-ordinary-requires
+    most-waiting-requires
     accept-requires
     enum-known-n
     enum-known-n-2

@@ -2,6 +2,7 @@
 use Prim.Native.Nat.{_-_, _≤_}
 use mathlib.Core.Path.{_≡_}
 use Rattle.lists.specs.Lists.{foldl, from}
+use Rattle.rows.specs.Limits.{limits}
 use Rattle.store_calls.specs.Lent.{storeOf}
 use Rattle.machine.specs.Table.{actions}
 use Rattle.lens.specs.Parts.{Keeps}
@@ -13,7 +14,7 @@ use Rattle.resets.proofs.clear_actions.Tie as tie
 
 abbrev Inv-loop : tie.InvT-loop
 Inv-loop image values₀ buckets₀ inside n left₀ a₀ values buckets left a =
-    (a ≤ n) × (n ≡ actions image) × Keeps values buckets left ×
+    (a ≤ n) × (n ≡ actions image) × Keeps (limits image .held) values buckets left ×
     (foldl (clearStep image (inside .words)) (storeOf values₀ buckets₀ left₀) (from 0 n) ≡
     foldl (clearStep image (inside .words)) (storeOf values buckets left) (from a (n - a)))
 

@@ -37,8 +37,11 @@ scope-at-requires c κs = search needs
 is-first-requires : tie.Need-is-first-requires Inv-loop μ-loop
 is-first-requires c κs = search needs
 
-mark-requires : tie.Need-mark-requires Inv-loop μ-loop
-mark-requires c κs = search needs
+cast-insert-if : tie.Need-cast-insert-if Inv-loop μ-loop
+cast-insert-if c = search needs
+
+insert-if-requires : tie.Need-insert-if-requires Inv-loop μ-loop
+insert-if-requires c κs = search needs
 
 add-i : tie.Need-add-i Inv-loop μ-loop
 add-i c = search needs
@@ -53,7 +56,7 @@ loop-again c =
     let start = n .before .before .before in
     let room : l .i < mostScopes = omega (arith, c .before .before .before .loop-test .taken, n .count .ensures, most-scopes _ (start .pre)) in
     let e = c .before .is-first .ensures ∙ ap (λ x. has (start .args .plan .now .words) (l .i) && not (x .ever)) (c .before .before .scope-at .ensures) in
-    (search needs, marks-more _ (l .i) (l .set .words) _ _ room (l .inv .1) e (c .mark .ensures))
+    (search needs, marks-more _ (l .i) (l .set .words) _ _ room (l .inv .1) e (c .insert-if .ensures))
 
 returns : tie.Need-returns Inv-loop μ-loop
 returns c =
@@ -72,7 +75,8 @@ firsts-spec =
     cast-scope-at
     scope-at-requires
     is-first-requires
-    mark-requires
+    cast-insert-if
+    insert-if-requires
     add-i
     loop-less
     loop-again

@@ -1,11 +1,10 @@
 -- `starts::put` meets its contract. Assumes nothing.
-use Rattle.lens.specs.Holds.{steps-then, steps-end}
+use Rattle.lens.specs.Holds.{steps-held, steps-then, steps-end}
 use Rattle.tags.specs.Views.{ofGlobal}
 use Rattle.slots.specs.Slots.{eventOf}
 use Rattle.machine.specs.State.{accepted}
 use Rattle.machine.specs.Transition.{held}
 use Rattle.starts.specs.Starting.{putStep}
-use Rattle.starts.proofs.StartLaws.{steps-held}
 use borrow.Author.Needs.{needs}
 use Rattle.starts.proofs.put.Statement.{statement}
 use Rattle.starts.proofs.put.Tie as tie
@@ -22,7 +21,8 @@ accept-requires c κs =
     let call = told .before .before in
     let start = call .before .before .before .before .before .before in
     let s = start .args .s in
-    steps-held _ (held (s .action) (ofGlobal (s .stored))) _ _ _ (start .pre) (call .hold .ensures) (told .enum-told .given .1)
+    let img = start .args .image .now in
+    steps-held _ (held img (s .action) (ofGlobal (s .stored))) _ _ _ (start .pre) (call .hold .ensures) (told .enum-told .given .1)
 
 enum-told-2 : tie.Need-enum-told-2
 enum-told-2 c = search needs
@@ -32,16 +32,20 @@ unfolding putStep
 returns c =
     let told = c .before .before .before .before .before in
     let call = told .before .before in
-    let s = call .before .before .before .before .before .before .args .s in
-    steps-then _ (held (s .action) (ofGlobal (s .stored))) (λ t. accepted t (eventOf s)) _ _ _ _ _ (call .hold .ensures) (told .enum-told .given .1) (c .accept .ensures)
+    let a = call .before .before .before .before .before .before .args in
+    let s = a .s in
+    let img = a .image .now in
+    steps-then _ (held img (s .action) (ofGlobal (s .stored))) (λ t. accepted img t (eventOf s)) _ _ _ _ _ (call .hold .ensures) (told .enum-told .given .1) (c .accept .ensures)
 
 returns-2 : tie.Need-returns-2
 unfolding putStep
 returns-2 c =
     let call = c .before .before in
-    let s = call .before .before .before .before .before .before .args .s in
+    let a = call .before .before .before .before .before .before .args in
+    let s = a .s in
+    let img = a .image .now in
     let e = c .enum-told2 .given .1 in
-    steps-end _ (held (s .action) (ofGlobal (s .stored))) (λ t. accepted t (eventOf s)) _ _ _ _ _ (call .hold .ensures) e e
+    steps-end _ (held img (s .action) (ofGlobal (s .stored))) (λ t. accepted img t (eventOf s)) _ _ _ _ _ (call .hold .ensures) e e
 
 pub put-spec : {M : Type 1} → statement M
 put-spec =

@@ -1,23 +1,23 @@
 -- `starts::start_all` meets its contract. Assumes nothing.
-use Rattle.lens.specs.Holds.{steps-then, steps-end}
-use Rattle.starts.specs.Starting.{allValues, allEvents}
-use Rattle.starts.proofs.StartLaws.{steps-held}
+use Rattle.lens.specs.Holds.{steps-held, steps-then, steps-end}
+use Rattle.starts.specs.declared.What.the-variants as W
+use Rattle.starts.specs.Starting.{allRows}
 use borrow.Author.Needs.{needs}
 use Rattle.starts.proofs.start_all.Statement.{statement}
 use Rattle.starts.proofs.start_all.Tie as tie
 
-hold-startups-requires : tie.Need-hold-startups-requires
-hold-startups-requires c κs = search needs
+take-rows-requires : tie.Need-take-rows-requires
+take-rows-requires c κs = search needs
 
 enum-told : tie.Need-enum-told
 enum-told c = search needs
 
-accept-startups-requires : tie.Need-accept-startups-requires
-accept-startups-requires c κs =
+take-rows-requires-2 : tie.Need-take-rows-requires-2
+take-rows-requires-2 c κs =
     let told = c .before .before .before .before in
     let call = told .before .before in
     let start = call .before .before .before .before .before in
-    steps-held _ (allValues _ (start .args .f)) _ _ _ (start .pre) (call .hold-startups .ensures) (told .enum-told .given .1)
+    steps-held _ (allRows _ W.Value (start .args .f)) _ _ _ (start .pre) (call .take-rows .ensures) (told .enum-told .given .1)
 
 enum-told-2 : tie.Need-enum-told-2
 enum-told-2 c = search needs
@@ -27,22 +27,22 @@ returns c =
     let told = c .before .before .before .before .before in
     let call = told .before .before in
     let start = call .before .before .before .before .before in
-    steps-then _ (allValues _ (start .args .f)) (allEvents _ (start .args .f)) _ _ _ _ _ (call .hold-startups .ensures) (told .enum-told .given .1) (c .accept-startups .ensures)
+    steps-then _ (allRows _ W.Value (start .args .f)) (allRows _ W.Event (start .args .f)) _ _ _ _ _ (call .take-rows .ensures) (told .enum-told .given .1) (c .take-rows2 .ensures)
 
 returns-2 : tie.Need-returns-2
 returns-2 c =
     let call = c .before .before in
     let start = call .before .before .before .before .before in
     let e = c .enum-told2 .given .1 in
-    steps-end _ (allValues _ (start .args .f)) (allEvents _ (start .args .f)) _ _ _ _ _ (call .hold-startups .ensures) e e
+    steps-end _ (allRows _ W.Value (start .args .f)) (allRows _ W.Event (start .args .f)) _ _ _ _ _ (call .take-rows .ensures) e e
 
 pub start-all-spec : {M : Type 1} → statement M
 start-all-spec =
     tie.close
     (tie.spec
-    hold-startups-requires
+    take-rows-requires
     enum-told
-    accept-startups-requires
+    take-rows-requires-2
     enum-told-2
     returns
     returns-2)

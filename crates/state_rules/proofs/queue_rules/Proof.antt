@@ -1,8 +1,11 @@
 -- `state_rules::queue_rules` meets its contract: a law for each part that may fail. Assumes nothing.
-use Rattle.state_rules.proofs.Rules.{queue-cases, few-scopes, few-reactors, own-long, own-is}
+use Rattle.state_rules.proofs.Rules.{queue-cases, few-scopes, few-reactors, few-waiting, own-long, own-is}
 use borrow.Author.Needs.{needs}
 use Rattle.state_rules.proofs.queue_rules.Statement.{statement}
 use Rattle.state_rules.proofs.queue_rules.Tie as tie
+
+most-waiting-requires : tie.Need-most-waiting-requires
+most-waiting-requires c κs = search needs
 
 returns : tie.Need-returns
 returns c = search queue-cases
@@ -35,7 +38,7 @@ returns-3 : tie.Need-returns-3
 returns-3 c = search (queue-cases, own-is)
 
 queue-sound-requires : tie.Need-queue-sound-requires
-queue-sound-requires c κs = search needs
+queue-sound-requires c κs = search few-waiting
 
 returns-4 : tie.Need-returns-4
 returns-4 c = search (queue-cases, own-is)
@@ -44,6 +47,7 @@ pub queue-rules-spec : {M : Type 1} → statement M
 queue-rules-spec =
     tie.close
     (tie.spec
+    most-waiting-requires
     returns
     accepted-requires
     returns-2

@@ -2,7 +2,7 @@
 use Prim.Native.Nat.{_+_, _-_, _≤_}
 use Rattle.lists.specs.Loops.{Compacted, compact-none, compact-goes, compact-stays, compact-count, compact-held}
 use Rattle.entries.specs.Words.{decodeBucket, encodeBucket, bucketWords, long-bucket}
-use Rattle.entries.specs.Entries.{mostHeld}
+use Rattle.entries.specs.Entries.{roomForEntries}
 use Rattle.store.specs.Views.{bucketTest}
 use borrow.Author.Needs.{needs}
 use native.Mathlib.Omega.{arith}
@@ -10,7 +10,7 @@ use Rattle.store.proofs.compact_buckets.Statement.{statement}
 use Rattle.store.proofs.compact_buckets.Tie as tie
 
 abbrev Inv-loop : tie.InvT-loop
-Inv-loop rows₀ n which w₀ i₀ rows w i = (w ≤ i) × (i ≤ n) × Compacted decodeBucket encodeBucket bucketWords mostHeld long-bucket (bucketTest which) rows₀ i w rows
+Inv-loop rows₀ n which w₀ i₀ rows w i = (w ≤ i) × (i ≤ n) × Compacted decodeBucket encodeBucket bucketWords roomForEntries long-bucket (bucketTest which) rows₀ i w rows
 
 abbrev μ-loop : tie.MeasureT-loop
 μ-loop rows₀ n which w₀ i₀ rows w i = n - i

@@ -1,5 +1,5 @@
 -- `store_calls::move_value` meets its contract: equal tags, not held, no room for a bucket, or a take and then a push. Assumes nothing.
-use Rattle.store_calls.proofs.Calls.{left-room, move-done, move-full, move-none, move-same}
+use Rattle.store_calls.proofs.Calls.{left-limit, move-done, move-full, move-none, move-same}
 use borrow.Author.Needs.{needs}
 use Rattle.store_calls.proofs.move_value.Statement.{statement}
 use Rattle.store_calls.proofs.move_value.Tie as tie
@@ -32,7 +32,7 @@ lose-values-requires : tie.Need-lose-values-requires
 lose-values-requires c κs = search needs
 
 push-requires : tie.Need-push-requires
-push-requires c κs = record { values = search needs; buckets = search needs; few-values = search left-room; few-buckets = search needs }
+push-requires c κs = record { values = search needs; buckets = search needs; few-values = search left-limit; few-buckets = search needs; room = search needs }
 
 returns-4 : tie.Need-returns-4
 returns-4 c = search move-done

@@ -3,7 +3,7 @@ use mathlib.Core.Path.{_≡_, refl}
 use mathlib.Core.List.{map}
 use Prim.Native.Nat.{_-_, _≤_}
 use lib.ListN.{take, length}
-use Rattle.entries.specs.Entries.{mostHeld, ofBucket}
+use Rattle.entries.specs.Entries.{roomForEntries, ofBucket}
 use Rattle.entries.specs.Words.{bucketsOf, WholeBuckets, zero-buckets}
 use Rattle.lists.specs.Loops.{rows-more, rows-all}
 use Rattle.value_store.proofs.Laws.{length-mapped}
@@ -13,10 +13,10 @@ use Rattle.value_store.proofs.bucket_rows.Statement.{statement}
 use Rattle.value_store.proofs.bucket_rows.Tie as tie
 
 abbrev Inv-loop : tie.InvT-loop
-Inv-loop buckets rows₀ i₀ rows i = (i ≤ mostHeld) × (WholeBuckets rows) × (take i (bucketsOf rows) ≡ take i (map ofBucket buckets))
+Inv-loop buckets rows₀ i₀ rows i = (i ≤ roomForEntries) × (WholeBuckets rows) × (take i (bucketsOf rows) ≡ take i (map ofBucket buckets))
 
 abbrev μ-loop : tie.MeasureT-loop
-μ-loop buckets rows₀ i₀ rows i = mostHeld - i
+μ-loop buckets rows₀ i₀ rows i = roomForEntries - i
 
 loop-holds : tie.Need-loop-holds Inv-loop μ-loop
 loop-holds c = (omega arith, zero-buckets, refl)

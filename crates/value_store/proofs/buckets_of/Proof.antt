@@ -3,7 +3,7 @@ use mathlib.Core.Path.{_≡_, refl}
 use mathlib.Core.List.{map}
 use Prim.Native.Nat.{_-_, _≤_}
 use lib.ListN.{take, length}
-use Rattle.entries.specs.Entries.{mostHeld, ofBucket}
+use Rattle.entries.specs.Entries.{roomForEntries, ofBucket}
 use Rattle.entries.specs.Words.{bucketsOf}
 use Rattle.lists.specs.Loops.{things-more, things-all}
 use borrow.Author.Needs.{needs}
@@ -12,10 +12,10 @@ use Rattle.value_store.proofs.buckets_of.Statement.{statement}
 use Rattle.value_store.proofs.buckets_of.Tie as tie
 
 abbrev Inv-loop : tie.InvT-loop
-Inv-loop rows buckets₀ i₀ buckets i = (i ≤ mostHeld) × (length buckets ≡ mostHeld) × (take i (map ofBucket buckets) ≡ take i (bucketsOf rows))
+Inv-loop rows buckets₀ i₀ buckets i = (i ≤ roomForEntries) × (length buckets ≡ roomForEntries) × (take i (map ofBucket buckets) ≡ take i (bucketsOf rows))
 
 abbrev μ-loop : tie.MeasureT-loop
-μ-loop rows buckets₀ i₀ buckets i = mostHeld - i
+μ-loop rows buckets₀ i₀ buckets i = roomForEntries - i
 
 blank-requires : tie.Need-blank-requires Inv-loop μ-loop
 blank-requires c κs = search needs

@@ -16,8 +16,11 @@ returns c = search call-key
 within-requires : tie.Need-within-requires
 within-requires c κs = search needs
 
+most-held-requires : tie.Need-most-held-requires
+most-held-requires c κs = search needs
+
 perform-requires : tie.Need-perform-requires
-perform-requires c κs = search needs
+perform-requires c κs = rw (c .before .before .most-held .ensures) (c .before .before .before .before .before .before .before .before .before .pre)
 
 returns-2 : tie.Need-returns-2
 returns-2 c = search call-passed
@@ -33,6 +36,7 @@ call-rows-spec =
     action-requires
     returns
     within-requires
+    most-held-requires
     perform-requires
     returns-2
     returns-3)

@@ -3,7 +3,7 @@ use mathlib.Core.Path.{_≡_, refl}
 use mathlib.Core.List.{map}
 use Prim.Native.Nat.{_-_, _≤_}
 use lib.ListN.{take, length}
-use Rattle.entries.specs.Entries.{mostHeld, ofValue}
+use Rattle.entries.specs.Entries.{roomForEntries, ofValue}
 use Rattle.entries.specs.Words.{valuesOf, WholeValues, zero-values}
 use Rattle.lists.specs.Loops.{rows-more, rows-all}
 use Rattle.value_store.proofs.Laws.{length-mapped}
@@ -13,10 +13,10 @@ use Rattle.value_store.proofs.value_rows.Statement.{statement}
 use Rattle.value_store.proofs.value_rows.Tie as tie
 
 abbrev Inv-loop : tie.InvT-loop
-Inv-loop values rows₀ i₀ rows i = (i ≤ mostHeld) × (WholeValues rows) × (take i (valuesOf rows) ≡ take i (map ofValue values))
+Inv-loop values rows₀ i₀ rows i = (i ≤ roomForEntries) × (WholeValues rows) × (take i (valuesOf rows) ≡ take i (map ofValue values))
 
 abbrev μ-loop : tie.MeasureT-loop
-μ-loop values rows₀ i₀ rows i = mostHeld - i
+μ-loop values rows₀ i₀ rows i = roomForEntries - i
 
 loop-holds : tie.Need-loop-holds Inv-loop μ-loop
 loop-holds c = (omega arith, zero-values, refl)

@@ -3,7 +3,7 @@ use mathlib.Core.Path.{_≡_, refl}
 use mathlib.Core.List.{map}
 use Prim.Native.Nat.{_-_, _≤_}
 use lib.ListN.{take, length}
-use Rattle.entries.specs.Entries.{mostHeld, ofValue}
+use Rattle.entries.specs.Entries.{roomForEntries, ofValue}
 use Rattle.entries.specs.Words.{valuesOf}
 use Rattle.lists.specs.Loops.{things-more, things-all}
 use borrow.Author.Needs.{needs}
@@ -12,10 +12,10 @@ use Rattle.value_store.proofs.values_of.Statement.{statement}
 use Rattle.value_store.proofs.values_of.Tie as tie
 
 abbrev Inv-loop : tie.InvT-loop
-Inv-loop rows values₀ i₀ values i = (i ≤ mostHeld) × (length values ≡ mostHeld) × (take i (map ofValue values) ≡ take i (valuesOf rows))
+Inv-loop rows values₀ i₀ values i = (i ≤ roomForEntries) × (length values ≡ roomForEntries) × (take i (map ofValue values) ≡ take i (valuesOf rows))
 
 abbrev μ-loop : tie.MeasureT-loop
-μ-loop rows values₀ i₀ values i = mostHeld - i
+μ-loop rows values₀ i₀ values i = roomForEntries - i
 
 blank-requires : tie.Need-blank-requires Inv-loop μ-loop
 blank-requires c κs = search needs

@@ -1,18 +1,21 @@
--- `manager::Manager::has_nonterminal_work` meets its contract: refused as the rules say, or whether the count is more than none. Assumes nothing.
-use Rattle.manager.specs.Views.{arraysOf}
-use Rattle.manager.proofs.Calls.{work-eleven, call-some-work}
+-- `manager::Manager::has_nonterminal_work` meets its contract: the count as a yes or no. Assumes nothing.
+use mathlib.Core.Path.{_∙_, ap}
+use Rattle.manager.specs.Views.{arraysOf, someWork}
+use Rattle.manager.specs.Arrays.{answered}
 use borrow.Author.Needs.{needs}
 use Rattle.manager.proofs.Manager.has_nonterminal_work.Statement.{statement}
 use Rattle.manager.proofs.Manager.has_nonterminal_work.Tie as tie
 
-enter-requires : tie.Need-enter-requires
-enter-requires c κs = search needs
+ask-of-requires : tie.Need-ask-of-requires
+ask-of-requires c κs = search needs
+
+some-work-requires : tie.Need-some-work-requires
+some-work-requires c κs = search needs
 
 returns : tie.Need-returns
-returns c = let a = c .before .before .before .before .args in work-eleven (a .image .now) (arraysOf (a .self)) (c .before .before .enter .ensures .0) (c .if1 .taken)
-
-returns-2 : tie.Need-returns-2
-returns-2 c = let a = c .before .before .before .before .before .args in call-some-work (a .image .now) (arraysOf (a .self)) (c .before .before .before .enter .ensures .0) (c .before .if1 .left)
+returns c =
+    let r = c .before .before .ask-of in
+    ap (λ x. answered x (arraysOf (r .result .manager))) (c .before .some-work .ensures) ∙ ap someWork (r .ensures)
 
 pub has-nonterminal-work-spec : {M : Type 1} → statement M
-has-nonterminal-work-spec = tie.close (tie.spec enter-requires returns returns-2)
+has-nonterminal-work-spec = tie.close (tie.spec ask-of-requires some-work-requires returns)

@@ -1,48 +1,22 @@
--- `manager::Manager::pop_next_event` meets its contract: refused as the rules say, or the call on rows. Assumes nothing.
-use Rattle.manager.specs.Views.{arraysOf}
-use Rattle.manager.proofs.Calls.{pop-eleven, call-waits, call-few, pop-room, call-pop}
+-- `manager::Manager::pop_next_event` meets its contract: the call, and what it shows. Assumes nothing.
+use mathlib.Core.Path.{_∙_, ap}
+use Rattle.manager.specs.Arrays.{popped}
 use borrow.Author.Needs.{needs}
 use Rattle.manager.proofs.Manager.pop_next_event.Statement.{statement}
 use Rattle.manager.proofs.Manager.pop_next_event.Tie as tie
 
-enter-requires : tie.Need-enter-requires
-enter-requires c κs = search needs
+slice-aggregate-step-on : tie.Need-slice-aggregate-step-on
+slice-aggregate-step-on c = search needs
 
-no-ready-requires : tie.Need-no-ready-requires
-no-ready-requires c κs = search needs
+step-on-requires : tie.Need-step-on-requires
+step-on-requires c κs = search needs
+
+popped-of-requires : tie.Need-popped-of-requires
+popped-of-requires c κs = search needs
 
 returns : tie.Need-returns
-returns c = search pop-eleven
-
-heads-requires : tie.Need-heads-requires
-heads-requires c κs = search call-few
-
-pop-next-event-requires : tie.Need-pop-next-event-requires
-pop-next-event-requires c κs = (search call-waits, (search needs, search needs))
-
-finish-pop-requires : tie.Need-finish-pop-requires
-finish-pop-requires c κs =
-    let i = c .before .before .before .before .before .before .before in
-    let e = i .before .before .before .before .before .before in
-    let a = e .before .before .args in
-    pop-room (a .image .now) (arraysOf (a .self)) (e .enter .ensures .0) (i .if1 .left) _ (e .enter .ensures .1) _ _ _ (c .pop-next-event .ensures .0)
-
-returns-2 : tie.Need-returns-2
-returns-2 c =
-    let p = c .before in
-    let i = p .before .before .before .before .before .before .before in
-    let e = i .before .before .before .before .before .before in
-    let a = e .before .before .args in
-    call-pop (a .image .now) (arraysOf (a .self)) (e .enter .ensures .0) (i .if1 .left) _ (e .enter .ensures .1) _ _ _ (p .pop-next-event .ensures .0) (c .finish-pop .ensures)
+returns c = c .popped-of .ensures ∙ ap popped (c .before .step-on .ensures .0)
 
 pub pop-next-event-spec : {M : Type 1} → statement M
 pop-next-event-spec =
-    tie.close
-    (tie.spec
-    enter-requires
-    no-ready-requires
-    returns
-    heads-requires
-    pop-next-event-requires
-    finish-pop-requires
-    returns-2)
+    tie.close (tie.spec slice-aggregate-step-on step-on-requires popped-of-requires returns)

@@ -1,0 +1,136 @@
+-- `calls::perform` meets its contract: by the call. Assumes nothing.
+use mathlib.Core.Path.{refl}
+use native.Mathlib.Omega.{arith}
+use Rattle.value_store.specs.Views.{callOf}
+use Rattle.lens.specs.Holds.{kept-held, kept-waits, kept-rules}
+use Rattle.calls.proofs.CallLaws.{pop-room, few-after, answers-as, push-answers, pop-answers, ask-answers}
+use Rattle.calls.proofs.ValueLaws.{kept-lent, value-answers}
+use borrow.Author.Needs.{needs}
+use Rattle.calls.proofs.perform.Statement.{statement}
+use Rattle.calls.proofs.perform.Tie as tie
+
+enum-known-call : tie.Need-enum-known-call
+enum-known-call c = search needs
+
+push-with-requires : tie.Need-push-with-requires
+push-with-requires c κs = let a = c .before .before .before .before .before .before .before .before .before in (kept-waits (a .pre .0), a .pre .1 .0)
+
+outcome-answer-requires : tie.Need-outcome-answer-requires
+outcome-answer-requires c κs = search needs
+
+told-requires : tie.Need-told-requires
+told-requires c κs = search needs
+
+enum-told : tie.Need-enum-told
+enum-told c = search needs
+
+pop-next-event-requires : tie.Need-pop-next-event-requires
+pop-next-event-requires c κs = let a = c .before .before .before .before .before .before .before .before .before in (kept-waits (a .pre .0), (a .pre .1 .1, a .pre .1 .0))
+
+enum-known-call-2 : tie.Need-enum-known-call-2
+enum-known-call-2 c = search needs
+
+transit-requires : tie.Need-transit-requires
+transit-requires c κs = search needs
+
+enum-known-call-3 : tie.Need-enum-known-call-3
+enum-known-call-3 c = search needs
+
+ask-requires : tie.Need-ask-requires
+ask-requires c κs = search needs
+
+told-requires-2 : tie.Need-told-requires-2
+told-requires-2 c κs = search needs
+
+enum-known-call-4 : tie.Need-enum-known-call-4
+enum-known-call-4 c = search needs
+
+call-rows-requires : tie.Need-call-rows-requires
+call-rows-requires c κs = search needs
+
+value-answer-requires : tie.Need-value-answer-requires
+value-answer-requires c κs = search needs
+
+told-requires-3 : tie.Need-told-requires-3
+told-requires-3 c κs = search needs
+
+returns : tie.Need-returns
+returns c =
+    let t = c .told .ensures in
+    let x = c .before in
+    let p = x .before .before in
+    let k = p .before .before .before .before .before in
+    let a = k .before .before .before .before .before in (
+      λ s u.
+          rw (k .call .given .1, t .1 .0)
+          (push-answers (a .args .image .now) s _ u (k .call .given .0 .0) (a .args .keys .now) (p .push-with .ensures .0) (rw (t .0 .0, t .0 .1) (x .outcome-answer .ensures))),
+      (rw (t .1 .0) (p .push-with .ensures .1), ((a .pre .1 .1, omega (arith, t .1 .1)), rw (k .call .given .1) (t .0 .0))),
+    )
+
+returns-2 : tie.Need-returns-2
+returns-2 c =
+    let p = c .before .before .before in
+    let k = p .before .before .before .before .before in
+    let a = k .before .before .before .before .before in
+    let f = p .pop-next-event .ensures in (
+      λ s u. rw (k .enum-told .given .1) (pop-answers (a .args .image .now) s _ u (f .0) refl),
+      (f .1, (pop-room (a .pre .0) (f .0) (a .pre .1 .1), rw (k .enum-told .given .1) refl)),
+    )
+
+returns-3 : tie.Need-returns-3
+returns-3 c =
+    let t = c .transit .ensures in
+    let k = c .before .before .before .before .before .before .before in
+    let a = k .before .before .before .before .before in (
+      λ s u. rw (k .call2 .given .1) (answers-as (t .0 s u) (rw (t .1 .1 .0))),
+      (t .1 .0, ((a .pre .1 .1, omega (arith, t .1 .1 .1)), rw (k .call2 .given .1) (t .1 .1 .0))),
+    )
+
+returns-4 : tie.Need-returns-4
+returns-4 c =
+    let t = c .told2 .ensures in
+    let x = c .before in
+    let k = x .before .before .before .before .before in
+    let a = k .before .before .before .before .before in (
+      λ s u. rw (k .call3 .given .1, t .1 .0) (ask-answers (a .args .image .now) s _ u (k .call3 .given .0 .0) (λ s q h. rw (t .0 .0, t .0 .1) (x .ask .ensures s q h))),
+      (rw (t .1 .0) (a .pre .1 .0), ((a .pre .1 .1, omega (arith, t .1 .1)), rw (k .call3 .given .1) (t .0 .0))),
+    )
+
+returns-5 : tie.Need-returns-5
+returns-5 c =
+    let t = c .told3 .ensures in
+    let x = c .before in
+    let v = x .before .before in
+    let k = v .before .before .before .before in
+    let a = k .before .before .before .before .before in (
+      λ s u.
+          rw (k .call4 .given .1, t .1 .0)
+          (value-answers (a .args .image .now) s (kept-rules (a .pre .0) s u) _ u _ _ (v .call-rows .result) (callOf (k .call4 .given .0 .0)) (v .call-rows .ensures)
+          (rw (t .0 .0, t .0 .1) (x .value-answer .ensures))),
+      (rw (t .1 .0) (a .pre .1 .0), ((a .pre .1 .1, omega (arith, t .1 .1)), rw (k .call4 .given .1) (t .0 .0))),
+    )
+
+pub perform-spec : {M : Type 1} → statement M
+perform-spec =
+    tie.close
+    (tie.spec
+    enum-known-call
+    push-with-requires
+    outcome-answer-requires
+    told-requires
+    enum-told
+    pop-next-event-requires
+    enum-known-call-2
+    transit-requires
+    enum-known-call-3
+    ask-requires
+    told-requires-2
+    enum-known-call-4
+    call-rows-requires
+    value-answer-requires
+    told-requires-3
+    returns
+    returns-2
+    returns-3
+    returns-4
+    returns-5)
