@@ -11,6 +11,7 @@ use Rattle.lists.specs.Walk.{Result, done, refused}
 use Rattle.refusals.specs.declared.Refusal.{Refusal}
 use Rattle.refusals.specs.declared.Refusal.the-variants as R
 use Rattle.rows.specs.Bytes.{Image}
+use Rattle.tags.specs.Tags.{zeroTag}
 use Rattle.tags.specs.Views.{ofGlobal}
 use Rattle.machine.specs.Table.{scopes}
 use Rattle.machine.specs.State.{State, withQueue, activeAt, everAt}
@@ -33,7 +34,9 @@ use Rattle.pushes.proofs.PushLaws.{call-frame}
 use Rattle.pops.specs.Pops.{Pops, popReply}
 use Rattle.pops.specs.declared.Popped.{Popped}
 use Rattle.pops.proofs.PopLaws.{pop-frame}
-use Rattle.calls.specs.Calls.{marks, questionOf}
+use Rattle.ready.specs.Gathering.{Grown, noneYet}
+use Rattle.calls.specs.Calls.{marks, questionOf, Idle}
+use Rattle.calls.specs.declared.Performed.{Performed}
 use Rattle.calls.specs.declared.Question.{Question}
 use Rattle.calls.specs.declared.Question.the-variants as Q
 
@@ -43,14 +46,19 @@ module _ {img : Image} {d : Rows} (k : Kept img d) where
   abbrev view : State
   view = stateIn img d
 
-  pub pop-room : {p : Popped} {was events actions : List ℕ} →
+  -- a pop's action keys find room, and where it finds nothing its parts are blank
+  pub pop-tells : {p : Popped} {was events actions : List ℕ} →
       ((s : State) → Queued (s .waiting) (s .work) (d .events) (d .ledger .counts) → Shows s (d .scopes) → Pops (perform img s M.pop) p was events actions) →
-      length was ≡ roomForEvents → (length actions ≡ roomForEvents) × (p .gathered .actions ≤ roomForEvents)
-  pop-room f e = let x = f view (k .holds .queued) (shows img view d (k .holds)) in (x .grown .long ∙ e, omega (arith, x .room))
+      (Grown 0 (p .gathered .actions) was actions × (p .gathered .actions ≤ roomForEvents)) × (p .found ≡ false → (ofGlobal (p .tag) ≡ zeroTag) × (p .gathered ≡ noneYet))
+  pop-tells f = let x = f view (k .holds .queued) (shows img view d (k .holds)) in ((x .grown, omega (arith, x .room)), x .idle)
 
   -- no more wait after a call than may
   pub few-after : (c : M.Call) {reply : Reply} (after : Rows) → Performs img c d reply after → after .ledger .counts .waiting ≤ roomForEvents
   few-after c after f = L.waits img _ after (f view (k .holds) .holds) .few
+
+-- with no ready event the lent keys are as they were
+pub idle-grown : (r : Performed) → Idle r → (keys : List ℕ) → Grown 0 (r .gathered .actions) keys keys × (r .gathered .actions ≤ roomForEvents)
+idle-grown r i keys = rw (i .1 .1) (record { more = omega arith; long = refl; behind = refl }, omega arith)
 
 pub answers-as : {img : Image} {o : M.Outcome} {p q : Reply} {r : Rows} → Answers img o q r → p ≡ q → Answers img o p r
 answers-as x e = record { reply-is = e ∙ x .reply-is; holds = x .holds }

@@ -3,13 +3,14 @@ use Prim.Native.Nat.{ℕ}
 use mathlib.Core.Bool.{Bool, true, false, cond}
 use mathlib.Core.Path.{_≡_}
 use mathlib.Core.List.{List}
+use Rattle.tags.specs.Tags.{zeroTag}
 use Rattle.tags.specs.Views.{ofGlobal}
 use Rattle.machine.specs.Machine as M
 use Rattle.machine.specs.Machine.{Reply}
 use Rattle.value_store.specs.Calls as C
 use Rattle.value_store.specs.Views as stores
 use Rattle.pushes.specs.Pushes as pushes
-use Rattle.ready.specs.Gathering.{readyAt, gatheringOf}
+use Rattle.ready.specs.Gathering.{readyAt, gatheringOf, noneYet}
 use Rattle.transition.specs.Transiting as transition
 use Rattle.calls.specs.declared.Question.{Question}
 use Rattle.calls.specs.declared.Question.the-variants as Q
@@ -77,10 +78,14 @@ isPop K.Pop = true
 isPop (K.Ask q) = false
 isPop (K.Value c) = false
 
+-- no ready event, and its parts are blank
+abbrev pub Idle : Performed → Type 0
+Idle r = (r .found ≡ false) × ((ofGlobal (r .tag) ≡ zeroTag) × (r .gathered ≡ noneYet))
+
 -- a pop alone answers a ready event, and "nothing" where it finds none
 abbrev pub Tells : Call → Performed → Type 0
-Tells (K.Push p) r = r .found ≡ false
-Tells (K.Transition q) r = r .found ≡ false
-Tells K.Pop r = r .answer ≡ A.Nothing
-Tells (K.Ask q) r = r .found ≡ false
-Tells (K.Value c) r = r .found ≡ false
+Tells (K.Push p) r = Idle r
+Tells (K.Transition q) r = Idle r
+Tells K.Pop r = (r .answer ≡ A.Nothing) × (r .found ≡ false → Idle r)
+Tells (K.Ask q) r = Idle r
+Tells (K.Value c) r = Idle r

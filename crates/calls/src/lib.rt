@@ -1,7 +1,6 @@
 // One call on the room: document 01, "The plain machine", all that it answers. Here the calls are told apart, once: the manager by value and the
 // run of a day come in by `perform`, with every queue's least tag lent. A new call gets its variant of `Call` and its line in `perform`.
 ghost use mathlib.Core.Path.{_≡_};
-ghost use mathlib.Core.Bool.{false};
 ghost use Prim.Native.Nat.{_≤_};
 ghost use lib.ListN.{length, take};
 ghost use Rattle.lists.specs.Lent.{was, is};
@@ -9,13 +8,14 @@ ghost use Rattle.machine.specs.State.{State};
 ghost use Rattle.slots.specs.Slots.{roomForEvents};
 ghost use Rattle.machine.specs.Machine as M;
 ghost use Rattle.slots.specs.Slots.{eventsOf};
+ghost use Rattle.ready.specs.Gathering.{Grown};
 ghost use Rattle.queue.specs.Queue.{headsOf, Held as HeldHeads};
 ghost use Rattle.lens.specs.Lens.{Queued, Shows};
 ghost use Rattle.lens.specs.Holds.{rows, were, are, Kept, Performs, replyOf as replied};
 ghost use Rattle.pops.specs.Pops.{replyOf as peekedReply};
 ghost use Rattle.value_store.specs.Views.{answerOf};
 ghost use Rattle.transition.specs.Transiting.{callOf as transitOf};
-ghost use Rattle.calls.specs.Calls.{marks, questionOf, callOf, valueReply, answerReply, replyOf, Tells};
+ghost use Rattle.calls.specs.Calls.{marks, questionOf, callOf, valueReply, answerReply, replyOf, Idle, Tells};
 use entries::BucketRows;
 use entries::ValueRows;
 use lens::Counts;
@@ -70,7 +70,7 @@ pub struct Performed {
 
 // An answer that is no ready event.
 pub fn told(answer: Answer, ledger: Ledger) -> Performed
-    ensures { λ r. ⌜ ((r .found ≡ false) × (r .answer ≡ answer)) × ((r .ledger ≡ ledger) × (r .gathered .actions ≡ 0)) ⌝ }
+    ensures { λ r. ⌜ (Idle r × (r .answer ≡ answer)) × (r .ledger ≡ ledger) ⌝ }
 {
     let gathered = Gathered::nothing_yet();
     Performed {
@@ -169,7 +169,7 @@ fn transit(
     requires { ⌜ Kept (now image) (rows scopes events values buckets given) ⌝ }
     ensures { λ r. ⌜ Performs (was image) (transitOf request) (were scopes events values buckets given) (answerReply (r .answer)) (are scopes events values buckets (r .ledger)) ⌝ }
     ensures { λ r. ⌜ HeldHeads (is heads) (headsOf (take (r .ledger .counts .waiting) (eventsOf (is events)))) ⌝ }
-    ensures { λ r. ⌜ (r .found ≡ false) × (r .gathered .actions ≡ 0) ⌝ }
+    ensures { λ r. ⌜ Idle r ⌝ }
 {
     let t = transition::apply_transition(image, scopes, events, values, buckets, given, request);
     let outcome = t.outcome;
@@ -199,7 +199,7 @@ pub fn perform(
     requires { ⌜ length (now actions) ≡ roomForEvents ⌝ }
     ensures { λ r. ⌜ Performs (was image) (callOf call (was keys)) (were scopes events values buckets given) (replyOf r (is actions)) (are scopes events values buckets (r .ledger)) ⌝ }
     ensures { λ r. ⌜ HeldHeads (is heads) (headsOf (take (r .ledger .counts .waiting) (eventsOf (is events)))) ⌝ }
-    ensures { λ r. ⌜ (length (is actions) ≡ roomForEvents) × (r .gathered .actions ≤ roomForEvents) ⌝ }
+    ensures { λ r. ⌜ Grown 0 (r .gathered .actions) (was actions) (is actions) × (r .gathered .actions ≤ roomForEvents) ⌝ }
     ensures { λ r. ⌜ Tells call r ⌝ }
 {
     let counts = given.counts;

@@ -78,13 +78,13 @@ module _ (p : Performed) (keys : List ℕ) (m : Arrays) (r : Shown) where
   module _ (t : TellsOrEleven K.Pop p) (n : p .found ≡ false) {b : Bool} (eb : b ≡ isRefusal (answerReply (p .answer))) (e : r ≡ shownReady noReady) where
     pub pop-eleven : b ≡ true → record { answered = answered (M.refusal R.StateRule) m; ready = r } ≡ popped called
     pop-eleven y =
-        ⊎-elim (λ (a : p .answer ≡ A.Nothing). no-way (sym (ap (λ x. isRefusal (answerReply x)) a) ∙ (sym eb ∙ y)))
+        ⊎-elim (λ (a : Tells K.Pop p). no-way (sym (ap (λ x. isRefusal (answerReply x)) (a .0)) ∙ (sym eb ∙ y)))
         (λ (a : (p .found ≡ false) × (p .answer ≡ A.Refused R.StateRule)).
         rw (n, a .1) (ap (λ (s : Shown). record { answered = answered (M.refusal R.StateRule) m; ready = s }) e)) t
 
     pub pop-nothing : b ≡ false → record { answered = answered M.nothing m; ready = r } ≡ popped called
     pop-nothing y =
-        ⊎-elim (λ (a : p .answer ≡ A.Nothing). rw (n, a) (ap (λ (s : Shown). record { answered = answered M.nothing m; ready = s }) e))
+        ⊎-elim (λ (a : Tells K.Pop p). rw (n, a .0) (ap (λ (s : Shown). record { answered = answered M.nothing m; ready = s }) e))
         (λ (a : (p .found ≡ false) × (p .answer ≡ A.Refused R.StateRule)). no-way (sym y ∙ (eb ∙ ap (λ x. isRefusal (answerReply x)) (a .1)))) t
 
 -- ---- what a call that is no pop answers
@@ -93,11 +93,11 @@ not-found : (c : Call) (p : Performed) → isPop c ≡ false → TellsOrEleven c
 not-found c p i t = ⊎-elim (tells c i) (λ (a : (p .found ≡ false) × (p .answer ≡ A.Refused R.StateRule)). a .0) t
   where
     tells : (c : Call) → isPop c ≡ false → Tells c p → p .found ≡ false
-    tells (K.Push q) i t = t
-    tells (K.Transition q) i t = t
+    tells (K.Push q) i t = t .0
+    tells (K.Transition q) i t = t .0
     tells K.Pop i t = no-way (sym i)
-    tells (K.Ask q) i t = t
-    tells (K.Value v) i t = t
+    tells (K.Ask q) i t = t .0
+    tells (K.Value v) i t = t .0
 
 pub answer-is : (c : Call) (p : Performed) (keys : List ℕ) (m : Arrays) {x : Answered} → isPop c ≡ false → TellsOrEleven c p → answered (replyOf p keys) m ≡ x →
     answered (answerReply (p .answer)) m ≡ x

@@ -27,7 +27,7 @@ use Rattle.entries.specs.Entries.{roomForEntries, held-fits}
 use Rattle.store.specs.Store.{Store, storeRules, emptyStore}
 use Rattle.store_rules.specs.Rules.{countedRules}
 use Rattle.machine.specs.Table.{scopes, reactors, actions, hasParent}
-use Rattle.machine.specs.State.{Event, State, root, ordinary, scopeIn, scopeAt, withStore}
+use Rattle.machine.specs.State.{Event, State, root, ordinary, scopeIn, scopeAt, withStore, noState, withModes, withScopes, withQueue}
 use Rattle.machine.specs.Transition.{isTag}
 use Rattle.machine.specs.Machine.{modeRules, eventRules, queueRules, imageRules, scopeRules, sized, rules}
 use Rattle.slots.specs.Slots as slot
@@ -93,7 +93,7 @@ and-four false b c d = refl
 
 module _ (img : Image) (modes : List ℕ) (ss : List Scope) (es : List Event) (work : ℕ) (few : scopes img ≤ length ss) where
   abbrev here : State
-  here = stateOf img modes ss es work emptyStore
+  here = stateOf img modes ss es work
 
   module _ (i : ℕ) (h : i < scopes img) where
     scope-is : scopeAt here i ≡ scopeIn ss i
@@ -145,7 +145,7 @@ module _ (img : Image) (modes : List ℕ) (ss : List Scope) (es : List Event) (w
 
 module _ (img : Image) (modes sws ews : List ℕ) (n work : ℕ) (m : length modes ≡ mostReactors) where
   abbrev queue : Bool
-  queue = leb n (limits img .waiting) && rules img (stateOf img modes (scopesOf sws) (take n (eventsOf ews)) work emptyStore)
+  queue = leb n (limits img .waiting) && rules img (stateOf img modes (scopesOf sws) (take n (eventsOf ews)) work)
 
   pub rules-many : {limit : ℕ} → limit ≡ limits img .waiting → limit < n → false ≡ queue
   rules-many e h = rw (← e) (simp (lt-leb n _ h))
@@ -180,11 +180,14 @@ pub ruleset queue-cases = (rules-many, rules-table, rules-scopes, rules-queue)
 
 -- ---- all the rules
 
-module _ (img : Image) (modes : List ℕ) (ss : List Scope) (es : List Event) (work : ℕ) (st : Store) where
-  rules-store : rules img (stateOf img modes ss es work st) ≡ (rules img (stateOf img modes ss es work emptyStore) && storeRules (limits img .held) (actions img) st)
-  unfolding rules sized scopeRules imageRules
-  rules-store =
-      by-test (storeRules (limits img .held) (actions img) st) (λ y. simp (y, empty-rules (limits img .held) (actions img), and-yes)) (λ n. simp (n, and-no))
+-- a state without what it holds
+abbrev emptied : State → State
+emptied s = withQueue (withScopes (withModes noState (s .modes)) (s .scopes)) (s .waiting) (s .work)
+
+rules-store : (img : Image) (s : State) → rules img s ≡ (rules img (emptied s) && storeRules (limits img .held) (actions img) (s .store))
+unfolding rules sized scopeRules imageRules
+rules-store img s =
+    by-test (storeRules (limits img .held) (actions img) (s .store)) (λ y. simp (y, empty-rules (limits img .held) (actions img), and-yes)) (λ n. simp (n, and-no))
 
 apart : (w h o r s : Bool) → (w && (h && (o && (r && s)))) ≡ ((w && r) && (h && (o && s)))
 apart true h o true s = refl
@@ -192,19 +195,19 @@ apart true true o false s = and-no o
 apart true false o false s = refl
 apart false h o r s = refl
 
-module _ (img : Image) (n held opened : ℕ) (modes : List ℕ) (ss : List Scope) (es : List Event) (work : ℕ) (st : Store) where
+module _ (img : Image) (n held opened : ℕ) (s : State) where
   abbrev whole : Bool
-  whole = sound img n held opened (stateOf img modes ss es work st)
+  whole = sound img n held opened s
 
-  whole-is : whole ≡ ((leb n (limits img .waiting) && rules img (stateOf img modes ss es work emptyStore)) && countedRules (limits img .held) (actions img) held opened st)
+  whole-is : whole ≡ ((leb n (limits img .waiting) && rules img (emptied s)) && countedRules (limits img .held) (actions img) held opened (s .store))
   unfolding sound countedRules
-  whole-is = rw (rules-store img modes ss es work st) (apart (leb n (limits img .waiting)) (leb held (limits img .held)) (leb opened (limits img .held)) _ _)
+  whole-is = rw (rules-store img s) (apart (leb n (limits img .waiting)) (leb held (limits img .held)) (leb opened (limits img .held)) _ _)
 
-  module _ (a : Bool) (ea : a ≡ (leb n (limits img .waiting) && rules img (stateOf img modes ss es work emptyStore))) where
+  module _ (a : Bool) (ea : a ≡ (leb n (limits img .waiting) && rules img (emptied s))) where
     pub sound-queue : not a ≡ true → false ≡ whole
     sound-queue y = rw (whole-is, ← ea, not-true a y)
 
-    pub sound-store : {l k : ℕ} {r : Bool} → not a ≡ false → l ≡ limits img .held → k ≡ actions img → r ≡ countedRules l k held opened st → r ≡ whole
+    pub sound-store : {l k : ℕ} {r : Bool} → not a ≡ false → l ≡ limits img .held → k ≡ actions img → r ≡ countedRules l k held opened (s .store) → r ≡ whole
     sound-store y el ek q = q ∙ (rw (whole-is, ← ea, not-false a y, el, ek))
 
 pub ruleset sound-cases = (sound-queue, sound-store)

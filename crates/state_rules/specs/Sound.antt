@@ -10,9 +10,8 @@ use Rattle.rows.specs.Limits.{limits}
 use Rattle.tags.specs.Tags.{withinClock}
 use Rattle.key_set.specs.Sets.{has, wordCount}
 use Rattle.machine.specs.Table.{scopes, reactors, reactions, actions}
-use Rattle.machine.specs.State.{Event, Scope, State, ordinary}
+use Rattle.machine.specs.State.{Event, Scope, State, ordinary, noState, withModes, withScopes, withQueue}
 use Rattle.machine.specs.Machine.{modeRules, scopeRules, eventRules, queueRules, imageRules, rules}
-use Rattle.store.specs.Store.{Store, emptyStore}
 use Rattle.slots.specs.Slots.{eventsOf}
 use Rattle.scopes.specs.Scopes.{scopesOf}
 use Rattle.lens.specs.declared.Counts.{Counts}
@@ -30,9 +29,9 @@ soundIn img r = sound img (r .ledger .counts .waiting) (r .ledger .held .values)
 
 -- ---- parts, on the rows' own scopes
 
--- the state of these parts: of modes and scopes as many as the table has
-abbrev pub stateOf : Image → List ℕ → List Scope → List Event → ℕ → Store → State
-stateOf img modes ss es work st = record { modes = take (reactors img) modes; scopes = take (scopes img) ss; waiting = es; work = work; store = st }
+-- a state of these parts, with nothing held: of modes and scopes as many as the table has
+abbrev pub stateOf : Image → List ℕ → List Scope → List Event → ℕ → State
+stateOf img modes ss es work = withQueue (withScopes (withModes noState (take (reactors img) modes)) (take (scopes img) ss)) es work
 
 abbrev pub sizesOf : Image → Sizes
 sizesOf img = record { scopes = scopes img; reactions = reactions img; actions = actions img }
@@ -54,4 +53,4 @@ queueSound img ss es work = every (eventKeeps img ss) es && eqb work (count ordi
 
 -- all rules but the store's
 abbrev pub queueRulesIn : Image → List ℕ → List ℕ → List ℕ → Counts → Bool
-queueRulesIn img modes ss es c = rules img (stateOf img modes (scopesOf ss) (take (c .waiting) (eventsOf es)) (c .work) emptyStore)
+queueRulesIn img modes ss es c = rules img (stateOf img modes (scopesOf ss) (take (c .waiting) (eventsOf es)) (c .work))

@@ -1,9 +1,8 @@
 -- `calls::perform` meets its contract: by the call. Assumes nothing.
 use mathlib.Core.Path.{refl}
-use native.Mathlib.Omega.{arith}
 use Rattle.value_store.specs.Views.{callOf}
 use Rattle.lens.specs.Holds.{kept-held, kept-waits, kept-rules}
-use Rattle.calls.proofs.CallLaws.{pop-room, few-after, answers-as, push-answers, pop-answers, ask-answers}
+use Rattle.calls.proofs.CallLaws.{pop-tells, idle-grown, answers-as, push-answers, pop-answers, ask-answers}
 use Rattle.calls.proofs.ValueLaws.{kept-lent, value-answers}
 use borrow.Author.Needs.{needs}
 use Rattle.calls.proofs.perform.Statement.{statement}
@@ -62,9 +61,9 @@ returns c =
     let k = p .before .before .before .before .before in
     let a = k .before .before .before .before .before in (
       λ s u.
-          rw (k .call .given .1, t .1 .0)
-          (push-answers (a .args .image .now) s _ u (k .call .given .0 .0) (a .args .keys .now) (p .push-with .ensures .0) (rw (t .0 .0, t .0 .1) (x .outcome-answer .ensures))),
-      (rw (t .1 .0) (p .push-with .ensures .1), ((a .pre .1 .1, omega (arith, t .1 .1)), rw (k .call .given .1) (t .0 .0))),
+          rw (k .call .given .1, t .1)
+          (push-answers (a .args .image .now) s _ u (k .call .given .0 .0) (a .args .keys .now) (p .push-with .ensures .0) (rw (t .0 .0 .0, t .0 .1) (x .outcome-answer .ensures))),
+      (rw (t .1) (p .push-with .ensures .1), (idle-grown (c .told .result) (t .0 .0) _, rw (k .call .given .1) (t .0 .0))),
     )
 
 returns-2 : tie.Need-returns-2
@@ -74,7 +73,7 @@ returns-2 c =
     let a = k .before .before .before .before .before in
     let f = p .pop-next-event .ensures in (
       λ s u. rw (k .enum-told .given .1) (pop-answers (a .args .image .now) s _ u (f .0) refl),
-      (f .1, (pop-room (a .pre .0) (f .0) (a .pre .1 .1), rw (k .enum-told .given .1) refl)),
+      (f .1, (pop-tells (a .pre .0) (f .0) .0, rw (k .enum-told .given .1) (refl, λ n. (n, pop-tells (a .pre .0) (f .0) .1 n)))),
     )
 
 returns-3 : tie.Need-returns-3
@@ -83,7 +82,7 @@ returns-3 c =
     let k = c .before .before .before .before .before .before .before in
     let a = k .before .before .before .before .before in (
       λ s u. rw (k .call2 .given .1) (answers-as (t .0 s u) (rw (t .1 .1 .0))),
-      (t .1 .0, ((a .pre .1 .1, omega (arith, t .1 .1 .1)), rw (k .call2 .given .1) (t .1 .1 .0))),
+      (t .1 .0, (idle-grown (c .transit .result) (t .1 .1) _, rw (k .call2 .given .1) (t .1 .1))),
     )
 
 returns-4 : tie.Need-returns-4
@@ -92,8 +91,8 @@ returns-4 c =
     let x = c .before in
     let k = x .before .before .before .before .before in
     let a = k .before .before .before .before .before in (
-      λ s u. rw (k .call3 .given .1, t .1 .0) (ask-answers (a .args .image .now) s _ u (k .call3 .given .0 .0) (λ s q h. rw (t .0 .0, t .0 .1) (x .ask .ensures s q h))),
-      (rw (t .1 .0) (a .pre .1 .0), ((a .pre .1 .1, omega (arith, t .1 .1)), rw (k .call3 .given .1) (t .0 .0))),
+      λ s u. rw (k .call3 .given .1, t .1) (ask-answers (a .args .image .now) s _ u (k .call3 .given .0 .0) (λ s q h. rw (t .0 .0 .0, t .0 .1) (x .ask .ensures s q h))),
+      (rw (t .1) (a .pre .1 .0), (idle-grown (c .told2 .result) (t .0 .0) _, rw (k .call3 .given .1) (t .0 .0))),
     )
 
 returns-5 : tie.Need-returns-5
@@ -104,10 +103,10 @@ returns-5 c =
     let k = v .before .before .before .before in
     let a = k .before .before .before .before .before in (
       λ s u.
-          rw (k .call4 .given .1, t .1 .0)
+          rw (k .call4 .given .1, t .1)
           (value-answers (a .args .image .now) s (kept-rules (a .pre .0) s u) _ u _ _ (v .call-rows .result) (callOf (k .call4 .given .0 .0)) (v .call-rows .ensures)
-          (rw (t .0 .0, t .0 .1) (x .value-answer .ensures))),
-      (rw (t .1 .0) (a .pre .1 .0), ((a .pre .1 .1, omega (arith, t .1 .1)), rw (k .call4 .given .1) (t .0 .0))),
+          (rw (t .0 .0 .0, t .0 .1) (x .value-answer .ensures))),
+      (rw (t .1) (a .pre .1 .0), (idle-grown (c .told3 .result) (t .0 .0) _, rw (k .call4 .given .1) (t .0 .0))),
     )
 
 pub perform-spec : {M : Type 1} → statement M

@@ -23,8 +23,8 @@ returns c =
     let x = c .before in
     let h = x .before in
     let w = h .before .before .before .before in (
-      λ s u. rw (t .1 .0) (answers-as (w .apply-transition .ensures s u) (rw (t .0 .1) (x .outcome-answer .ensures))),
-      (rw (t .1 .0) (h .heads .ensures), (t .0 .0, t .1 .1)),
+      λ s u. rw (t .1) (answers-as (w .apply-transition .ensures s u) (rw (t .0 .1) (x .outcome-answer .ensures))),
+      (rw (t .1) (h .heads .ensures), t .0 .0),
     )
 
 pub transit-spec : {M : Type 1} → statement M

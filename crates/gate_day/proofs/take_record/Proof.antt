@@ -1,7 +1,8 @@
 -- `gate_day::take_record` meets its contract: by what the record asks for. Assumes nothing.
-use mathlib.Core.Path.{sym}
-use native.Mathlib.Omega.{arith}
+use mathlib.Core.List.{[]}
+use mathlib.Core.Path.{sym, _∙_}
 use lib.Seq.{length-take-le}
+use Rattle.calls.proofs.CallLaws.{idle-grown}
 use Rattle.gate_day.proofs.CallLaws.{call-takes, malformed-takes}
 use borrow.Author.Needs.{needs}
 use Rattle.gate_day.proofs.take_record.Statement.{statement}
@@ -38,7 +39,7 @@ returns c =
     let a = o .before .before .before in
     let p = c .perform .ensures in (
       λ s y u. call-takes (a .args .image .now) s y _ u (a .args .parsed) (a .args .keys .now) (o .op-of .ensures) (k .call .given .1) (n .key-count .ensures) (p .0),
-      (p .1 .0, p .1 .1 .0),
+      (p .1 .0, (p .1 .1 .0 .0 .long ∙ a .pre .1 .1 .0, p .1 .1 .0 .1)),
     )
 
 returns-2 : tie.Need-returns-2
@@ -46,8 +47,8 @@ returns-2 c =
     let o = c .before .before .before in
     let a = o .before .before .before in
     let t = c .told .ensures in (
-      λ s y u. rw (t .1 .0) (malformed-takes (a .args .image .now) s y _ u (a .args .parsed) (a .args .keys .now) (o .op-of .ensures) (c .before .enum-told .given .1)),
-      (rw (t .1 .0) (a .pre .1 .0), (a .pre .1 .1 .0, omega (arith, t .1 .1))),
+      λ s y u. rw (t .1) (malformed-takes (a .args .image .now) s y _ u (a .args .parsed) (a .args .keys .now) (o .op-of .ensures) (c .before .enum-told .given .1)),
+      (rw (t .1) (a .pre .1 .0), (a .pre .1 .1 .0, idle-grown (c .told .result) (t .0 .0) [] .1)),
     )
 
 pub take-record-spec : {M : Type 1} → statement M

@@ -1,7 +1,8 @@
 -- `manager::step_on` meets its contract: 11, or the call on rows. Assumes nothing.
 use mathlib.Core.Logic.{inl, inr}
-use native.Mathlib.Omega.{arith}
+use mathlib.Core.List.{[]}
 use Rattle.calls.specs.Calls.{callOf}
+use Rattle.calls.proofs.CallLaws.{idle-grown}
 use Rattle.manager.specs.Views.{arraysOf}
 use Rattle.manager.proofs.Calls.{call-eleven, call-kept, call-few, call-performs}
 use borrow.Author.Needs.{needs}
@@ -19,8 +20,8 @@ returns c =
     let e = c .before .before .before .before .before in
     let a = e .before .before .before .args in
     let t = c .told .ensures in (
-      call-eleven (a .image .now) (arraysOf (a .m)) (e .enter .ensures .0) (callOf (a .call) (a .keys .now)) (c .told .result) _ (c .before .if1 .taken) (t .0),
-      (omega (arith, t .1 .1), inr (t .0)),
+      call-eleven (a .image .now) (arraysOf (a .m)) (e .enter .ensures .0) (callOf (a .call) (a .keys .now)) (c .told .result) _ (c .before .if1 .taken) (t .0 .0 .0, t .0 .1),
+      (idle-grown (c .told .result) (t .0 .0) [] .1, inr (t .0 .0 .0, t .0 .1)),
     )
 
 heads-requires : tie.Need-heads-requires
