@@ -1,9 +1,24 @@
 -- `pops::peek_is_control_only` meets its contract. Assumes nothing.
 use mathlib.Core.Path.{_∙_}
-use Rattle.pops.proofs.PopLaws.{queue-is, seen-in, control-nothing, control-other, control-both, control-asked}
+use Rattle.machine.specs.State.{State}
+use Rattle.lens.specs.Lens.{Queued, Shows}
+use Rattle.pops.proofs.PopLaws.{queue-is, Seen, seen-in, control-nothing, control-other, control-both, control-asked}
 use borrow.Author.Needs.{needs}
 use Rattle.pops.proofs.peek_is_control_only.Statement.{statement}
 use Rattle.pops.proofs.peek_is_control_only.Tie as tie
+
+-- the heads that were found are the machine's
+abbrev start : tie.After-peek-of → tie.Start
+start p = p .before .before .before .before .before
+
+seen-here : (p : tie.After-peek-of) (s : State) → Queued (s .waiting) (s .work) (start p .args .events .now) (start p .args .counts) → Shows s (start p .args .scopes .now) →
+    Seen (start p .args .image .now) s (p .before .before .root-head .result) (p .before .scope-head .result)
+seen-here p s q h =
+    let l = p .before in
+    let r = l .before in
+    let a = start p in
+    seen-in (a .args .image .now) s (a .args .events .now) (a .args .scopes .now) (a .args .counts) (a .pre .0) q h (r .root-head .result) (l .scope-head .result)
+    (r .before .count .ensures) (a .pre .1) (r .root-head .ensures) (l .scope-head .ensures)
 
 count-requires : tie.Need-count-requires
 count-requires c κs = search needs
@@ -33,14 +48,8 @@ returns : tie.Need-returns
 returns c =
     let t = c .before .before .before .before .before in
     let p = t .before .before in
-    let l = p .before in
-    let r = l .before in
-    let k = r .before in
-    let a = k .before .before in
     λ s q h.
-    let w =
-    seen-in (a .args .image .now) s (a .args .events .now) (a .args .scopes .now) (a .args .counts) (a .pre .0) q h (r .root-head .result) (l .scope-head .result)
-    (k .count .ensures) (a .pre .1) (r .root-head .ensures) (l .scope-head .ensures) in
+    let w = seen-here p s q h in
     control-both w (p .peek-of .result) (p .peek-of .ensures) (t .t .given .1) (c .before .is-at2 .ensures) (c .if2 .taken)
 
 all-controlled-requires : tie.Need-all-controlled-requires
@@ -52,42 +61,24 @@ returns-2 c =
     let i = j .before .before in
     let t = i .before .before in
     let p = t .before .before in
-    let l = p .before in
-    let r = l .before in
-    let k = r .before in
-    let a = k .before .before in
     λ s q h.
-    let w =
-    seen-in (a .args .image .now) s (a .args .events .now) (a .args .scopes .now) (a .args .counts) (a .pre .0) q h (r .root-head .result) (l .scope-head .result)
-    (k .count .ensures) (a .pre .1) (r .root-head .ensures) (l .scope-head .ensures) in
+    let w = seen-here p s q h in
     control-asked w (p .peek-of .result) (p .peek-of .ensures) (t .t .given .1) (i .is-at .ensures) (j .before .if1 .taken) (j .is-at2 .ensures) (c .before .if2 .left)
-    (c .all-controlled .ensures ∙ rw (queue-is s (a .args .events .now) (a .args .counts) (a .pre .0) q))
+    (c .all-controlled .ensures ∙ rw (queue-is s (start p .args .events .now) (start p .args .counts) (start p .pre .0) q))
 
 returns-3 : tie.Need-returns-3
 returns-3 c =
     let p = c .before .before in
-    let l = p .before in
-    let r = l .before in
-    let k = r .before in
-    let a = k .before .before in
     λ s q h.
-    let w =
-    seen-in (a .args .image .now) s (a .args .events .now) (a .args .scopes .now) (a .args .counts) (a .pre .0) q h (r .root-head .result) (l .scope-head .result)
-    (k .count .ensures) (a .pre .1) (r .root-head .ensures) (l .scope-head .ensures) in
+    let w = seen-here p s q h in
     control-nothing w (p .peek-of .result) (p .peek-of .ensures) (c .enum-told .given .1)
 
 returns-4 : tie.Need-returns-4
 returns-4 c =
     let t = c .before .before .before in
     let p = t .before .before in
-    let l = p .before in
-    let r = l .before in
-    let k = r .before in
-    let a = k .before .before in
     λ s q h.
-    let w =
-    seen-in (a .args .image .now) s (a .args .events .now) (a .args .scopes .now) (a .args .counts) (a .pre .0) q h (r .root-head .result) (l .scope-head .result)
-    (k .count .ensures) (a .pre .1) (r .root-head .ensures) (l .scope-head .ensures) in
+    let w = seen-here p s q h in
     control-other w (p .peek-of .result) (p .peek-of .ensures) (t .t .given .1) (c .before .is-at .ensures) (c .if1 .left)
 
 pub peek-is-control-only-spec : {M : Type 1} → statement M
