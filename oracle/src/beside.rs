@@ -115,7 +115,7 @@ pub fn check(day: &[u8], given: Result<Vec<u8>, String>) -> Result<Outcome, Stri
 }
 
 /// The first line in which answers to a day differ, in words.
-fn first_difference(day: &[u8], expected: &[u8], got: &[u8]) -> Result<Option<String>, String> {
+pub fn first_difference(day: &[u8], expected: &[u8], got: &[u8]) -> Result<Option<String>, String> {
     if expected == got {
         return Ok(None);
     }

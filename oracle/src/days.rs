@@ -4,7 +4,7 @@ use std::path::{Path, PathBuf};
 
 use crate::answers::joined;
 use crate::image::{self, LONGEST, MOST_REACTIONS};
-use crate::make::{make, KINDS, LONG_KINDS};
+use crate::make::{make, KINDS};
 use crate::records::split;
 use crate::rng::Rng;
 use crate::text::{assemble, record};
@@ -254,6 +254,8 @@ const LONG: usize = 210_000;
 const BUFFER: usize = 65_536;
 /// Long days of each sort, and one more for so many days.
 const LONG_SORTS: usize = 6;
+/// Their kinds before they are damaged.
+const LONG_BASES: [&str; 3] = ["long-3", "long-20", "long-170"];
 const LONG_EVERY: usize = 250;
 
 /// Damaged days to be rescued, and how many of them are damaged at one byte and how many are long: the first and the last.
@@ -372,7 +374,7 @@ fn damaged_short(bases: &[Case], rng: &mut Rng) -> Case {
 /// from the one before; zeros over more than a buffer; garbage; a byte behind each of many pops; and the longest records, of
 /// which one has only its first bytes in the first buffer.
 fn damaged_long(seed: u64, index: usize, rng: &mut Rng) -> Case {
-    let kind = LONG_KINDS[1 + index % (LONG_KINDS.len() - 1)];
+    let kind = LONG_BASES[index % LONG_BASES.len()];
     let mut case = made(seed.saturating_add(index as u64), kind);
     case.day.truncate(LONG);
     match index % LONG_SORTS {

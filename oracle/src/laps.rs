@@ -7,11 +7,12 @@
 
 use std::hint::black_box;
 use std::path::Path;
-use std::time::{Duration, Instant};
+use std::time::Duration;
 
 use crate::beside::child;
 use crate::image::{KINDS, MAX_LEVEL, REACTION};
 use crate::key_set::KeySet;
+use crate::processor;
 use crate::rng::Rng;
 use crate::schedule::ReactionKey;
 use crate::scripts::Bytes;
@@ -56,9 +57,9 @@ enum Set {
     New,
 }
 
-/// One more number, as `walk_laps` mixes them.
-fn mixed(sum: u64, number: usize) -> u64 {
-    sum.rotate_left(5).wrapping_add(number as u64) ^ 0x9e37_79b9_7f4a_7c15
+/// One more number, as `walk_laps` and `manager_laps` mix them.
+pub fn mixed(sum: u64, number: u64) -> u64 {
+    sum.rotate_left(5).wrapping_add(number) ^ 0x9e37_79b9_7f4a_7c15
 }
 
 /// What the laps of a script come to over the published set.
@@ -85,8 +86,8 @@ fn laps(script: &[u8], kind: Set) -> u64 {
                 (level, ReactionKey::from(key))
             }));
             set.view().for_each_level(|level, keys, _| {
-                sum = keys.fold(mixed(sum, level.0), |sum, key| {
-                    mixed(sum, usize::from(key.0))
+                sum = keys.fold(mixed(sum, level.0 as u64), |sum, key| {
+                    mixed(sum, usize::from(key.0) as u64)
                 });
             });
             left = behind;
@@ -141,7 +142,7 @@ pub fn race(repeat: usize, words: &[&str], folder: &Path) -> Result<String, Stri
 }
 
 fn time(script: &[u8], kind: Set) -> Duration {
-    let start = Instant::now();
-    black_box(laps(black_box(script), kind));
-    start.elapsed()
+    processor::of_call(|| {
+        black_box(laps(black_box(script), kind));
+    })
 }

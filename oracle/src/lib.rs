@@ -4,6 +4,8 @@
 pub mod answers;
 pub mod antt;
 pub mod beside;
+pub mod by_value;
+pub mod calls;
 pub mod compare;
 pub mod days;
 pub mod deep;
@@ -14,6 +16,7 @@ pub mod make;
 pub mod parts;
 pub mod picture;
 pub mod plain;
+mod processor;
 mod published;
 pub mod records;
 pub mod rescue;
@@ -31,6 +34,8 @@ pub mod sweep;
 mod tests;
 pub mod text;
 pub mod timing;
+
+pub use sched::rust_bench;
 
 // The published files name these at the crate's root.
 use published::*;

@@ -9,8 +9,8 @@ use std::time::Duration;
 use oracle::compare::{self, Outcome};
 use oracle::scripts::{self, Written};
 use oracle::{
-    antt, beside, deep, image, judge, laps, make, picture, plain, rescue, rescues, selftest, sweep,
-    text, timing,
+    antt, beside, by_value, calls, deep, image, judge, laps, make, picture, plain, rescue, rescues,
+    rust_bench, selftest, sweep, text, timing,
 };
 
 const USAGE: &str = "\
@@ -34,8 +34,13 @@ oracle walk SEED COUNT SCRIPT ANSWERS           level walks
 oracle table SEED COUNT SCRIPT ANSWERS          images with 01's answers
 oracle table days FOLDER SCRIPT ANSWERS         images of recorded days with the recorded answers
 oracle time DAY REPEAT [ANSWERS]    the day in the Rust alone, nanoseconds a record
+oracle rust-bench                   a day on standard input through the Rust alone; its lines to standard output
 oracle race REPEAT FOLDER PROGRAM [WORD..]
-                                    another program beside the Rust on long days, as a table; FOLDER for two files
+                                    another program beside rust-bench on long days, as a table; FOLDER for two files
+oracle race-calls REPEAT FOLDER PROGRAM [WORD..]
+                                    likewise each call by itself
+oracle race-manager REPEAT FOLDER PROGRAM [WORD..]
+                                    whole public calls of the manager by value, beside rust-bench
 oracle race-walks REPEAT FOLDER PROGRAM [WORD..]
                                     likewise level walks, many laps of them
 oracle selftest DIR                 recorded days, and wrong answers that must be caught
@@ -92,7 +97,7 @@ type Programs = fn(&[&str], &mut Out) -> Result<bool, Failure>;
 
 fn run(words: &[&str]) -> Result<(), Failure> {
     let mut out = BufWriter::new(io::stdout().lock());
-    let all: [Programs; 6] = [answers, days, files, own_tests, scripted, others];
+    let all: [Programs; 7] = [answers, days, files, own_tests, scripted, timed, others];
     for programs in all {
         if programs(words, &mut out)? {
             out.flush()?;
@@ -239,8 +244,8 @@ fn scripted(words: &[&str], out: &mut Out) -> Result<bool, Failure> {
     Ok(true)
 }
 
-/// Other programs beside the Rust and the oracle, and the Rust's own times.
-fn others(words: &[&str], out: &mut Out) -> Result<bool, Failure> {
+/// Times: the Rust's own, and other programs' beside it.
+fn timed(words: &[&str], out: &mut Out) -> Result<bool, Failure> {
     match *words {
         ["time", day, repeat, ref answers @ ..] if answers.len() < 2 => {
             let answers = answers.first().map(|answers| read(answers)).transpose()?;
@@ -248,9 +253,17 @@ fn others(words: &[&str], out: &mut Out) -> Result<bool, Failure> {
             let words = timing::time(&read(day)?, repeat, answers.as_deref()).map_err(Fault)?;
             writeln!(out, "{day}: {words}")?;
         }
+        ["rust-bench"] => rust_bench::run(io::stdin().lock(), out)?,
         ["race", repeat, folder, ref words @ ..] if !words.is_empty() => {
-            let repeat = number(repeat)? as usize;
-            let table = timing::race(repeat, words, Path::new(folder)).map_err(Difference)?;
+            let table = raced(timing::race, repeat, folder, words)?;
+            write!(out, "{table}")?;
+        }
+        ["race-calls", repeat, folder, ref words @ ..] if !words.is_empty() => {
+            let table = raced(calls::race, repeat, folder, words)?;
+            write!(out, "{table}")?;
+        }
+        ["race-manager", repeat, folder, ref words @ ..] if !words.is_empty() => {
+            let table = raced(by_value::race, repeat, folder, words)?;
             write!(out, "{table}")?;
         }
         ["race-walks", repeat, folder, ref words @ ..] if !words.is_empty() => {
@@ -258,6 +271,14 @@ fn others(words: &[&str], out: &mut Out) -> Result<bool, Failure> {
             let table = laps::race(repeat, words, Path::new(folder)).map_err(Difference)?;
             write!(out, "{table}")?;
         }
+        _ => return Ok(false),
+    }
+    Ok(true)
+}
+
+/// Other programs beside the Rust and the oracle.
+fn others(words: &[&str], out: &mut Out) -> Result<bool, Failure> {
+    match *words {
         ["beside", from, to, damaged, folder, ref words @ ..] if !words.is_empty() => {
             let seeds = (number(from)?, number(to)?);
             let damaged = number(damaged)? as usize;
@@ -285,6 +306,20 @@ fn others(words: &[&str], out: &mut Out) -> Result<bool, Failure> {
         _ => return Ok(false),
     }
     Ok(true)
+}
+
+/// A race of processes: how often, over which folder, and the two sides.
+type Race = fn(usize, &timing::Sides<'_>, &Path) -> Result<String, String>;
+
+/// A race of another program with this one as the Rust's bench.
+fn raced(race: Race, repeat: &str, folder: &str, ours: &[&str]) -> Result<String, Failure> {
+    let own = std::env::current_exe()?;
+    let own = own.to_string_lossy();
+    let sides = timing::Sides {
+        ours,
+        rust: &[&own, "rust-bench"],
+    };
+    race(number(repeat)? as usize, &sides, Path::new(folder)).map_err(Difference)
 }
 
 fn read(path: &str) -> Result<Vec<u8>, Failure> {

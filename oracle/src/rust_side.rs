@@ -21,9 +21,9 @@ pub enum Call {
 }
 
 pub struct RustSide {
-    schedule: TableSchedule,
-    manager: EventManager<TableSchedule>,
-    stores: Stores,
+    pub(super) schedule: TableSchedule,
+    pub(super) manager: EventManager<TableSchedule>,
+    pub(super) stores: Stores,
 }
 
 impl RustSide {

@@ -1,5 +1,6 @@
 //! The scheduler's module: the published modal.rs and queue.rs, unchanged, and stand-ins for what they take from
-//! their parent. What they offer is visible only in here, so the module that drives them, rust_side, is a child.
+//! their parent. What they offer is visible only in here, so the modules that drive them, rust_side and rust_bench,
+//! are children.
 
 use std::{iter::Copied, slice::Iter};
 
@@ -8,6 +9,8 @@ use crate::{Level, ReactorData, Tag, TransitionKind};
 include!(concat!(env!("OUT_DIR"), "/queue.rs"));
 include!(concat!(env!("OUT_DIR"), "/modal.rs"));
 
+#[path = "rust_bench.rs"]
+pub mod rust_bench;
 #[path = "rust_side.rs"]
 pub mod rust_side;
 

@@ -88,7 +88,8 @@ impl ExecutionStorage<TableSchedule> for Stores {
         if self.given_up[index] {
             return;
         }
-        if self.stores[index].padding_for(tag) > MOST_PADDING {
+        // A deque begins at microstep 0 here, so that a tag below pads it by less.
+        if tag.microstep() > MOST_PADDING && self.stores[index].padding_for(tag) > MOST_PADDING {
             self.give_up(index);
             return;
         }

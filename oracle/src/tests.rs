@@ -4,7 +4,7 @@ use crate::compare::{aside, compare, table, Outcome};
 use crate::judge::judge;
 use crate::make::{make, KINDS};
 use crate::text::{assemble, numbered_lines_of};
-use crate::{antt, deep, image, laps, plain};
+use crate::{antt, by_value, deep, image, laps, plain};
 
 /// The day of a text.
 fn day(text: &str) -> Vec<u8> {
@@ -234,10 +234,13 @@ fn the_writer_gives_the_image_or_the_first_refusal_in_order() {
 }
 
 #[test]
-fn the_stored_laps_are_those_of_the_rust() {
+fn the_stored_laps_are_those_of_the_rust_and_of_the_plain_machine() {
     let stored = |name| {
         let folder = env!("CARGO_MANIFEST_DIR");
-        std::fs::read(format!("{folder}/../crates/walk_laps/{name}")).unwrap()
+        std::fs::read(format!("{folder}/../crates/{name}")).unwrap()
     };
-    assert_eq!(stored("stdout"), laps::answer(&stored("stdin")));
+    let walks = laps::answer(&stored("walk_laps/stdin"));
+    assert_eq!(stored("walk_laps/stdout"), walks);
+    let calls = by_value::answer(&stored("manager_laps/stdin"));
+    assert_eq!(stored("manager_laps/stdout"), calls.unwrap());
 }

@@ -1,21 +1,21 @@
 // The bench program: document 01, "Standard input: an image, then big-endian records"; the answers go to standard output.
-// A day of any length runs in the memory of a small one: records come and lines go through fixed buffers. What is answered is gate_day's.
+// A day of any length runs in the memory of a small one: records come and lines go through fixed buffers. What is answered is day_run's.
 ghost use mathlib.Core.Path.{_≡_};
 ghost use mathlib.Core.Bool.{true};
 ghost use Prim.Native.Nat.{_≤_};
 ghost use lib.ListN.{length};
 ghost use Rattle.table.specs.Check.{isTable, check};
-ghost use Rattle.rows.specs.Kinds.{largest};
+ghost use Rattle.table_rows.specs.Kinds.{largest};
 use libc::STDIN_FILENO;
 use libc::STDOUT_FILENO;
 use table::Checked;
 use table::ImageRefusal;
 
 // No image is longer.
-const LARGEST: usize = rows::LARGEST;
+const LARGEST: usize = table_rows::LARGEST;
 
 // The bytes of a length.
-const LENGTH: usize = gate_day::IMAGE_LENGTH_BYTES;
+const LENGTH: usize = day_run::IMAGE_LENGTH_BYTES;
 
 // More of standard input behind what is there; how many bytes are there then.
 fn fill(buffer: &mut [u8], from: usize) -> usize
@@ -29,14 +29,14 @@ fn fill(buffer: &mut [u8], from: usize) -> usize
 // A line of the table's check; whether it was written.
 fn say_table(checked: Checked) -> bool {
     let mut line = io::buffer();
-    let n = lines::write_table(&mut line, 0, checked);
+    let n = day_lines::write_table(&mut line, 0, checked);
     io::write_all(STDOUT_FILENO, &line[..n])
 }
 
 // The line of a record that is cut off.
 fn say_cut() {
     let mut line = io::buffer();
-    let n = lines::write_refused(&mut line, 0, 1);
+    let n = day_lines::write_refused(&mut line, 0, 1);
     io::write_all(STDOUT_FILENO, &line[..n]);
 }
 
@@ -44,7 +44,7 @@ fn say_cut() {
 fn run(image: &[u8])
     requires { ⌜ isTable (now image) ≡ true ⌝ }
 {
-    let mut day = gate_day::start(image);
+    let mut day = day_run::start(image);
     let mut input = io::large_buffer();
     let mut output = io::large_buffer();
     let mut filled: usize = 0;
@@ -52,7 +52,7 @@ fn run(image: &[u8])
     while 0 < turns {
         turns -= 1;
         let total = fill(&mut input, filled);
-        let piece = gate_day::run_records(image, day, &input[..total], &mut output);
+        let piece = day_run::run_records(image, day, &input[..total], &mut output);
         let written = piece.written;
         let used = piece.used;
         day = piece.day;
@@ -63,7 +63,7 @@ fn run(image: &[u8])
             return;
         }
         let before = filled;
-        filled = puts::shift(&mut input, used, total);
+        filled = byte_writer::shift(&mut input, used, total);
         if total == before {
             if used == 0 {
                 if 0 < filled {
@@ -94,7 +94,7 @@ fn read_image(space: &mut [u8]) -> usize
     if got < LENGTH {
         return 0;
     }
-    let n = rows::four_bytes(space, 0) as usize;
+    let n = table_rows::four_bytes(space, 0) as usize;
     if LARGEST - LENGTH < n {
         return 0;
     }

@@ -7,12 +7,12 @@ use native.Mathlib.Omega.{arith}
 use lib.ListN.{length, take, length-take}
 use lib.Seq.{length-take-le}
 use Rattle.lists.specs.Lists.{lose, lose-shorter}
-use Rattle.rows.specs.Bytes.{Image}
+use Rattle.table_rows.specs.Bytes.{Image}
 use Rattle.machine.specs.State.{Event}
-use Rattle.slots.specs.Slots.{roomForEvents}
-use Rattle.slots.specs.Slots.{Whole}
-use Rattle.lens.specs.Holds.{Rows, waits}
-use Rattle.gate_day.specs.Views.{Kept}
+use Rattle.state_events.specs.Slots.{roomForEvents}
+use Rattle.state_events.specs.Slots.{Whole}
+use Rattle.state_room.specs.Holds.{Rows, waits}
+use Rattle.day_run.specs.Views.{Kept}
 
 module _ {img : Image} {r : Rows} (k : Kept img r) where
   pub few-wait : r .ledger .counts .waiting ≤ roomForEvents

@@ -1,36 +1,36 @@
 // The facts of a gate day, made of document 01's sentences: an image and its records from standard input; to standard output, for each record, what it
 // asks, what stood before, the line that the bench answers, and what stands after, a fact a line, as numbers. Folder words makes words and pictures of
-// them. A new fact comes in here as a line with its name; what it says is computed in facts and faults.
+// them. A new fact comes in here as a line with its name; what it says is computed in day_telling and table_broken_rules.
 ghost use mathlib.Core.Path.{_≡_};
 ghost use mathlib.Core.Bool.{true};
 ghost use Prim.Native.Nat.{_<_, _≤_};
 ghost use lib.ListN.{length};
 ghost use Rattle.lists.specs.Lent.{was, is};
-ghost use Rattle.records.specs.Records.{mostKeys};
-ghost use Rattle.slots.specs.Slots.{Whole, roomForEvents};
+ghost use Rattle.day_records.specs.Records.{mostKeys};
+ghost use Rattle.state_events.specs.Slots.{Whole, roomForEvents};
 ghost use Rattle.table.specs.Check.{isTable};
-ghost use Rattle.rows.specs.Kinds.{largest};
-ghost use Rattle.lens.specs.Holds.{rowsOf};
-ghost use Rattle.gate_day.specs.Views.{Kept};
-use heads::Head;
-use heads::HeadAt;
+ghost use Rattle.table_rows.specs.Kinds.{largest};
+ghost use Rattle.state_room.specs.Holds.{rowsOf};
+ghost use Rattle.day_run.specs.Views.{Kept};
+use day_records::Parsed;
 use key_set::KeySet;
-use lens::Room;
 use libc::STDIN_FILENO;
 use libc::STDOUT_FILENO;
-use queue::Earliest;
-use queue::Which;
-use records::Parsed;
+use state_heads::Head;
+use state_heads::HeadAt;
+use state_queues::Earliest;
+use state_queues::Which;
+use state_room::Room;
 use table::Checked;
 use table::ImageRefusal;
 use tags::GlobalTag;
 use tags::QueueTag;
 
 // No image is longer.
-const LARGEST: usize = rows::LARGEST;
+const LARGEST: usize = table_rows::LARGEST;
 
 // The bytes of a length.
-const LENGTH: usize = gate_day::IMAGE_LENGTH_BYTES;
+const LENGTH: usize = day_run::IMAGE_LENGTH_BYTES;
 
 // ---- lines
 
@@ -100,7 +100,7 @@ fn put(desk: &mut Desk, bytes: &[u8]) {
 
 fn say(desk: &mut Desk, name: &[u8], words: &[u64]) {
     let mut line = [0u8; LINE];
-    let n = facts::write_fact(&mut line, name, words);
+    let n = day_telling::write_fact(&mut line, name, words);
     put(desk, &line[..n]);
 }
 
@@ -116,7 +116,7 @@ fn say_time(desk: &mut Desk, offset: u64) {
         return;
     }
     desk[cell] = offset;
-    let words = facts::time_words(offset);
+    let words = day_telling::time_words(offset);
     say(desk, b"time", &words);
 }
 
@@ -161,10 +161,10 @@ fn turned(offset: u64) -> u64 {
 
 // Row i of the kind k; of a timer its time too, also as it were with its lowest byte first.
 fn say_row(desk: &mut Desk, image: &[u8], k: u8, i: u16) {
-    let words = faults::row_words(image, k, i);
+    let words = table_broken_rules::row_words(image, k, i);
     say(desk, b"row", &words);
-    if k == rows::TIMER {
-        let offset = rows::timer_offset(image, i);
+    if k == table_rows::TIMER {
+        let offset = table_rows::timer_offset(image, i);
         say_time(desk, offset);
         let other = turned(offset);
         say_two(desk, b"turned", i as u64, other);
@@ -173,7 +173,7 @@ fn say_row(desk: &mut Desk, image: &[u8], k: u8, i: u16) {
 }
 
 fn say_rows_of(desk: &mut Desk, image: &[u8], k: u8) {
-    let total = rows::count(image, k);
+    let total = table_rows::count(image, k);
     let mut i: u16 = 0;
     while i < total {
         say_row(desk, image, k, i);
@@ -183,7 +183,7 @@ fn say_rows_of(desk: &mut Desk, image: &[u8], k: u8) {
 
 fn say_rows(desk: &mut Desk, image: &[u8]) {
     let mut k: u8 = 0;
-    while k < rows::KINDS {
+    while k < table_rows::KINDS {
         say_rows_of(desk, image, k);
         k += 1;
     }
@@ -191,10 +191,10 @@ fn say_rows(desk: &mut Desk, image: &[u8]) {
 
 // A kind's count, its least and most, and where it stands.
 fn say_count(desk: &mut Desk, image: &[u8], k: u8) {
-    let total = rows::count(image, k);
-    let kind = rows::kind_at(k);
-    let most = rows::most_rows(image, k);
-    let at = rows::count_place(k);
+    let total = table_rows::count(image, k);
+    let kind = table_rows::kind_at(k);
+    let most = table_rows::most_rows(image, k);
+    let at = table_rows::count_place(k);
     let words = [
         k as u64,
         total as u64,
@@ -207,7 +207,7 @@ fn say_count(desk: &mut Desk, image: &[u8], k: u8) {
 
 fn say_counts(desk: &mut Desk, image: &[u8]) {
     let mut k: u8 = 0;
-    while k < rows::KINDS {
+    while k < table_rows::KINDS {
         say_count(desk, image, k);
         k += 1;
     }
@@ -215,12 +215,12 @@ fn say_counts(desk: &mut Desk, image: &[u8]) {
 
 // The bytes of row i of the kind k, with their places.
 fn say_bytes(desk: &mut Desk, image: &[u8], k: u8, i: u16) {
-    let start = rows::row_place(image, k, i);
-    let kind = rows::kind_at(k);
+    let start = table_rows::row_place(image, k, i);
+    let kind = table_rows::kind_at(k);
     let end = start + kind.width;
     let mut at = start;
     while at < end {
-        let byte = rows::one_byte(image, at);
+        let byte = table_rows::one_byte(image, at);
         say_two(desk, b"byte", at as u64, byte as u64);
         at += 1;
     }
@@ -228,9 +228,9 @@ fn say_bytes(desk: &mut Desk, image: &[u8], k: u8, i: u16) {
 
 // The first row that breaks a rule, and which.
 fn say_fault(desk: &mut Desk, image: &[u8]) {
-    let k = faults::bad_kind(image);
+    let k = table_broken_rules::bad_kind(image);
     let i = table::bad_row(image, k);
-    let words = faults::fault_words(image, k, i);
+    let words = table_broken_rules::fault_words(image, k, i);
     say(desk, b"fault", &words);
     say_row(desk, image, k, i);
     say_bytes(desk, image, k, i);
@@ -241,13 +241,13 @@ fn refusal_words(image: &[u8], refusal: ImageRefusal) -> [u64; 2] {
     match refusal {
         ImageRefusal::Length => [1, 0],
         ImageRefusal::Version => {
-            let version = rows::one_byte(image, LENGTH);
+            let version = table_rows::one_byte(image, LENGTH);
             [2, version as u64]
         }
         ImageRefusal::Short => [3, 0],
         ImageRefusal::Count(at) => [4, at as u64],
         ImageRefusal::Unfilled => {
-            let end = rows::place(image, rows::KINDS);
+            let end = table_rows::place(image, table_rows::KINDS);
             [5, end as u64]
         }
         ImageRefusal::Row(at) => [6, at as u64],
@@ -275,22 +275,22 @@ fn say_refused(desk: &mut Desk, image: &[u8], refusal: ImageRefusal) {
 // The line of the table's check.
 fn say_table(desk: &mut Desk, checked: Checked) {
     let mut line = io::buffer();
-    let n = lines::write_table(&mut line, 0, checked);
+    let n = day_lines::write_table(&mut line, 0, checked);
     say_answer(desk, &line[..n]);
 }
 
 // ---- the state
 
-fn say_scope(desk: &mut Desk, scopes: &[u64; scopes::ROOM], i: u16) {
-    let words = facts::scope_words(scopes, i);
+fn say_scope(desk: &mut Desk, scopes: &[u64; state_scopes::ROOM], i: u16) {
+    let words = day_telling::scope_words(scopes, i);
     say(desk, b"scope", &words);
     say_time(desk, words[4]);
     say_time(desk, words[6]);
     say_time(desk, words[8]);
 }
 
-fn say_scopes(desk: &mut Desk, image: &[u8], scopes: &[u64; scopes::ROOM]) {
-    let total = rows::count(image, rows::SCOPE);
+fn say_scopes(desk: &mut Desk, image: &[u8], scopes: &[u64; state_scopes::ROOM]) {
+    let total = table_rows::count(image, table_rows::SCOPE);
     let mut i: u16 = 0;
     while i < total {
         say_scope(desk, scopes, i);
@@ -299,10 +299,10 @@ fn say_scopes(desk: &mut Desk, image: &[u8], scopes: &[u64; scopes::ROOM]) {
 }
 
 // Each reactor's current mode.
-fn say_modes(desk: &mut Desk, image: &[u8], modes: &[u16; lens::MOST_REACTORS]) {
-    let total = rows::count(image, rows::REACTOR) as usize;
+fn say_modes(desk: &mut Desk, image: &[u8], modes: &[u16; state_room::MOST_REACTORS]) {
+    let total = table_rows::count(image, table_rows::REACTOR) as usize;
     let mut i: usize = 0;
-    while i < lens::MOST_REACTORS {
+    while i < state_room::MOST_REACTORS {
         let mode = wide(modes[i]);
         let reactor = i;
         i += 1;
@@ -316,11 +316,11 @@ fn say_modes(desk: &mut Desk, image: &[u8], modes: &[u16; lens::MOST_REACTORS]) 
 fn say_place(
     desk: &mut Desk,
     name: &[u8],
-    scopes: &[u64; scopes::ROOM],
+    scopes: &[u64; state_scopes::ROOM],
     queue: u16,
     tag: QueueTag,
 ) {
-    let words = facts::place_words(scopes, queue, tag);
+    let words = day_telling::place_words(scopes, queue, tag);
     say(desk, name, &words);
     say_time(desk, words[1]);
     say_time(desk, words[5]);
@@ -329,12 +329,12 @@ fn say_place(
 // The least tag of a queue, which has the entry k.
 fn say_queue(
     desk: &mut Desk,
-    scopes: &[u64; scopes::ROOM],
-    heads: &[u64; queue::HEADS],
+    scopes: &[u64; state_scopes::ROOM],
+    heads: &[u64; state_queues::HEADS],
     queue: u16,
     k: usize,
 ) {
-    match queue::least_at(heads, k) {
+    match state_queues::least_at(heads, k) {
         Earliest::Nothing => {}
         Earliest::At(t) => say_place(desk, b"queue", scopes, queue, t),
     }
@@ -344,15 +344,21 @@ fn say_queue(
 fn say_queues(
     desk: &mut Desk,
     image: &[u8],
-    scopes: &[u64; scopes::ROOM],
-    events: &[u64; slots::ROOM],
+    scopes: &[u64; state_scopes::ROOM],
+    events: &[u64; state_events::ROOM],
     waiting: usize,
 )
     requires { ⌜ waiting ≤ roomForEvents ⌝ }
 {
-    let heads = queue::heads(events, waiting);
-    say_queue(desk, scopes, &heads, slots::NONE, scopes::MOST_SCOPES);
-    let total = rows::count(image, rows::SCOPE);
+    let heads = state_queues::heads(events, waiting);
+    say_queue(
+        desk,
+        scopes,
+        &heads,
+        state_events::NONE,
+        state_scopes::MOST_SCOPES,
+    );
+    let total = table_rows::count(image, table_rows::SCOPE);
     let mut i: u16 = 0;
     while i < total {
         say_queue(desk, scopes, &heads, i, i as usize);
@@ -365,42 +371,42 @@ fn say_queues(
 // The pop's tag.
 fn peek(
     image: &[u8],
-    scopes: &[u64; scopes::ROOM],
-    events: &[u64; slots::ROOM],
+    scopes: &[u64; state_scopes::ROOM],
+    events: &[u64; state_events::ROOM],
     waiting: usize,
 ) -> Head
     requires { ⌜ waiting ≤ roomForEvents ⌝ }
 {
-    let total = rows::count(image, rows::SCOPE);
-    let heads = queue::heads(events, waiting);
-    heads::peek(&heads, scopes, total)
+    let total = table_rows::count(image, table_rows::SCOPE);
+    let heads = state_queues::heads(events, waiting);
+    state_heads::peek(&heads, scopes, total)
 }
 
-fn root_head(events: &[u64; slots::ROOM], waiting: usize) -> Head
+fn root_head(events: &[u64; state_events::ROOM], waiting: usize) -> Head
     requires { ⌜ waiting ≤ roomForEvents ⌝ }
 {
-    let heads = queue::heads(events, waiting);
-    heads::root_head(&heads)
+    let heads = state_queues::heads(events, waiting);
+    state_heads::root_head(&heads)
 }
 
 fn scope_head(
     image: &[u8],
-    scopes: &[u64; scopes::ROOM],
-    events: &[u64; slots::ROOM],
+    scopes: &[u64; state_scopes::ROOM],
+    events: &[u64; state_events::ROOM],
     waiting: usize,
 ) -> Head
     requires { ⌜ waiting ≤ roomForEvents ⌝ }
 {
-    let total = rows::count(image, rows::SCOPE);
-    let heads = queue::heads(events, waiting);
-    heads::scope_head(&heads, scopes, total)
+    let total = table_rows::count(image, table_rows::SCOPE);
+    let heads = state_queues::heads(events, waiting);
+    state_heads::scope_head(&heads, scopes, total)
 }
 
 // The events at a head are told and taken out; how many are left.
 fn take(
     desk: &mut Desk,
-    scopes: &[u64; scopes::ROOM],
-    events: &mut [u64; slots::ROOM],
+    scopes: &[u64; state_scopes::ROOM],
+    events: &mut [u64; state_events::ROOM],
     waiting: usize,
     h: HeadAt,
 ) -> usize
@@ -417,15 +423,15 @@ fn take(
         stamp,
         inside: none,
     };
-    let gone = queue::remove(events, waiting, which);
+    let gone = state_queues::remove(events, waiting, which);
     gone.count
 }
 
 // The root's events at t if its head is t.
 fn take_root(
     desk: &mut Desk,
-    scopes: &[u64; scopes::ROOM],
-    events: &mut [u64; slots::ROOM],
+    scopes: &[u64; state_scopes::ROOM],
+    events: &mut [u64; state_events::ROOM],
     waiting: usize,
     t: GlobalTag,
 ) -> usize
@@ -450,8 +456,8 @@ fn take_root(
 fn take_scopes(
     desk: &mut Desk,
     image: &[u8],
-    scopes: &[u64; scopes::ROOM],
-    events: &mut [u64; slots::ROOM],
+    scopes: &[u64; state_scopes::ROOM],
+    events: &mut [u64; state_events::ROOM],
     waiting: usize,
     t: GlobalTag,
 )
@@ -529,14 +535,14 @@ fn keys_end(parsed: Parsed) -> usize
     ensures { λ r. ⌜ r ≤ mostKeys ⌝ }
 {
     let n = key_count(parsed) as usize;
-    if n < records::MOST_KEYS {
+    if n < day_records::MOST_KEYS {
         return n;
     }
-    records::MOST_KEYS
+    day_records::MOST_KEYS
 }
 
 fn say_call(desk: &mut Desk, parsed: Parsed) {
-    let words = facts::call_words(parsed);
+    let words = day_telling::call_words(parsed);
     say(desk, b"call", &words);
     say_time(desk, words[4]);
 }
@@ -553,7 +559,7 @@ fn say_keys(desk: &mut Desk, keys: &[u16]) {
 
 // The first key that the table lacks.
 fn say_lack(desk: &mut Desk, image: &[u8], parsed: Parsed, keys: &[u16]) {
-    let words = facts::lacking(image, parsed, keys);
+    let words = day_telling::lacking(image, parsed, keys);
     if words[0] == 1 {
         say(desk, b"lacks", &words);
     }
@@ -561,8 +567,8 @@ fn say_lack(desk: &mut Desk, image: &[u8], parsed: Parsed, keys: &[u16]) {
 
 // What a record asks.
 fn say_asked(desk: &mut Desk, image: &[u8], body: &[u8]) -> Parsed {
-    let mut keys = [0u16; records::MOST_KEYS];
-    let parsed = records::parse(body, &mut keys);
+    let mut keys = [0u16; day_records::MOST_KEYS];
+    let parsed = day_records::parse(body, &mut keys);
     let n = keys_end(parsed);
     say_call(desk, parsed);
     say_keys(desk, &keys[..n]);
@@ -571,14 +577,14 @@ fn say_asked(desk: &mut Desk, image: &[u8], body: &[u8]) -> Parsed {
 }
 
 // A global tag on a scope's scale.
-fn say_local(desk: &mut Desk, scopes: &[u64; scopes::ROOM], i: u16, t: GlobalTag) {
-    let words = facts::local_words(scopes, i, t);
+fn say_local(desk: &mut Desk, scopes: &[u64; state_scopes::ROOM], i: u16, t: GlobalTag) {
+    let words = day_telling::local_words(scopes, i, t);
     say(desk, b"local", &words);
     say_time(desk, words[2]);
 }
 
-fn say_locals(desk: &mut Desk, image: &[u8], scopes: &[u64; scopes::ROOM], t: GlobalTag) {
-    let total = rows::count(image, rows::SCOPE);
+fn say_locals(desk: &mut Desk, image: &[u8], scopes: &[u64; state_scopes::ROOM], t: GlobalTag) {
+    let total = table_rows::count(image, table_rows::SCOPE);
     let mut i: u16 = 0;
     while i < total {
         say_local(desk, scopes, i, t);
@@ -596,7 +602,7 @@ fn say_before(desk: &mut Desk, image: &[u8], day: Room, parsed: Parsed)
         Parsed::Network(_, _) => {}
         Parsed::Control(_) => {}
         Parsed::Action(action, t, _, _) => {
-            let i = rows::action_scope(image, action);
+            let i = table_rows::action_scope(image, action);
             say_local(desk, &scopes, i, t);
         }
         Parsed::Transition(_, _, _, t) => say_locals(desk, image, &scopes, t),
@@ -613,7 +619,7 @@ fn say_last(desk: &mut Desk, day: Room) {
     let counts = ledger.counts;
     let waiting = counts.waiting;
     if 0 < waiting {
-        let s = slots::slot_at(&events, waiting - 1);
+        let s = state_events::slot_at(&events, waiting - 1);
         say_place(desk, b"into", &scopes, s.queue, s.tag);
     }
 }
@@ -665,8 +671,8 @@ fn say_after(desk: &mut Desk, image: &[u8], day: Room, parsed: Parsed)
 
 // How many bytes a record has, its length included, its version and its op, whatever they are.
 fn say_record(desk: &mut Desk, bytes: &[u8]) {
-    let version = rows::one_byte(bytes, LENGTH);
-    let op = rows::one_byte(bytes, LENGTH + 1);
+    let version = table_rows::one_byte(bytes, LENGTH);
+    let op = table_rows::one_byte(bytes, LENGTH + 1);
     let words = [bytes.len() as u64, version as u64, op as u64];
     say(desk, b"record", &words);
 }
@@ -692,7 +698,7 @@ fn tell(desk: &mut Desk, image: &[u8], day: Room, bytes: &[u8]) -> Room
     let parsed = say_asked(desk, image, &bytes[LENGTH..]);
     say_before(desk, image, day, parsed);
     let mut output = io::buffer();
-    let piece = gate_day::run_records(image, day, bytes, &mut output);
+    let piece = day_run::run_records(image, day, bytes, &mut output);
     let after = piece.day;
     let written = piece.written;
     say_answer(desk, &output[..written]);
@@ -738,7 +744,7 @@ fn end_run(desk: &mut Desk) {
 fn say_cut(desk: &mut Desk, said: u64, there: u64) {
     say_two(desk, b"cut", said, there);
     let mut line = io::buffer();
-    let n = lines::write_refused(&mut line, 0, 1);
+    let n = day_lines::write_refused(&mut line, 0, 1);
     say_answer(desk, &line[..n]);
     end_run(desk);
 }
@@ -756,8 +762,8 @@ fn read_record(desk: &mut Desk, space: &mut [u8]) -> usize
         say_cut(desk, 0, got as u64);
         return 0;
     }
-    let n = rows::four_bytes(space, 0) as usize;
-    if records::MOST_BYTES < n {
+    let n = table_rows::four_bytes(space, 0) as usize;
+    if day_records::MOST_BYTES < n {
         say_cut(desk, n as u64, 0);
         return 0;
     }
@@ -783,7 +789,7 @@ fn say_start(desk: &mut Desk, image: &[u8], day: Room)
 fn run(desk: &mut Desk, image: &[u8])
     requires { ⌜ isTable (now image) ≡ true ⌝ }
 {
-    let mut day = gate_day::start(image);
+    let mut day = day_run::start(image);
     say_start(desk, image, day);
     let mut input = io::buffer();
     let mut turns: u64 = 1000000000000000;
@@ -800,7 +806,7 @@ fn run(desk: &mut Desk, image: &[u8])
 // The line of the check, and how many bytes the image says and has.
 fn say_checked(desk: &mut Desk, image: &[u8], checked: Checked) {
     say_table(desk, checked);
-    let said = rows::four_bytes(image, 0);
+    let said = table_rows::four_bytes(image, 0);
     say_two(desk, b"image", said as u64, image.len() as u64);
 }
 
@@ -838,7 +844,7 @@ fn read_image(desk: &mut Desk, space: &mut [u8]) -> usize
         say_no_image(desk, 0, got as u64);
         return 0;
     }
-    let n = rows::four_bytes(space, 0) as usize;
+    let n = table_rows::four_bytes(space, 0) as usize;
     if LARGEST - LENGTH < n {
         say_no_image(desk, n as u64, 0);
         return 0;

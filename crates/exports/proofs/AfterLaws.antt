@@ -4,23 +4,22 @@ use mathlib.Core.Path.{_≡_, refl, ap, _∙_, sym}
 use mathlib.Core.Logic.{_⊎_, inl, inr}
 use mathlib.Core.List.{List, [], append-nil}
 use Prim.Native.Nat.{ℕ, zero, suc, _+_, _-_, _≤_, _<_}
-use lib.Dec.{ltb, eqb}
+use lib.Dec.{eqb}
 use native.Mathlib.Omega.{arith}
 use lib.ListN.{length, take, drop, length-drop}
 use lib.Seq.{drop-drop}
 use borrow.Author.Tests.{eq-eqb, ne-eqb}
 use Rattle.lists.specs.Tests.{same?}
-use Rattle.rows.specs.Bytes.{Image}
+use Rattle.table_rows.specs.Bytes.{Image}
 use Rattle.machine.specs.State.{State, fresh}
-use Rattle.machine.specs.Machine.{rules, run}
-use Rattle.lens.specs.Holds.{Rows, rowsOf, stateIn, state-is}
-use Rattle.records.specs.Records.{recordsFrom}
-use Rattle.records.proofs.DayLaws.{records-behind}
-use Rattle.gate_day.specs.Days.{Next, pending, broken, whole, Ran, bodyAt, nextAt, longest, callsOf, ranIn, ranOn, ran}
-use Rattle.gate_day.proofs.RunLaws.{state-keeps}
-use Rattle.gate_day.proofs.WholeLaws.{rest-is, over-rests, ran-state, rests-calls}
-use Rattle.gate_day.specs.Views.{Kept, Pieced}
-use Rattle.gate_day.specs.declared.Pieces.{Pieces}
+use Rattle.machine.specs.Machine.{run}
+use Rattle.state_room.specs.Holds.{Rows, rowsOf, stateIn, state-is}
+use Rattle.day_records.specs.Records.{recordsFrom}
+use Rattle.day_records.proofs.DayLaws.{records-behind}
+use Rattle.day_run.specs.Days.{Ran, callsOf, ran}
+use Rattle.day_run.proofs.WholeLaws.{rest-is, over-rests, ran-state, rests-calls}
+use Rattle.day_run.specs.Views.{Kept, Pieced}
+use Rattle.day_run.specs.declared.Pieces.{Pieces}
 use Rattle.exports.specs.State.{afterAll}
 
 -- ---- piece by piece
@@ -75,29 +74,6 @@ after-called (suc n) img bytes s h =
     one-more img bytes s n h (ran img bytes s scratch .ended) refl (same? (ran img bytes s scratch .used) 0) λ b t k. after-called n img b t k
 
 -- ---- what a piece leaves
-
-abbrev Keeps : Image → Ran → Type 0
-Keeps img r = rules img (r .state) ≡ true
-
-either-keeps : (img : Image) (b : Bool) (x y : Ran) → Keeps img x → Keeps img y → Keeps img (cond b x y)
-either-keeps img true x y k l = k
-either-keeps img false x y k l = l
-
-on-keeps : (img : Image) (bytes : List ℕ) (s : State) (i room : ℕ) (rest : State → ℕ → ℕ → Ran) (n : Next) → rules img s ≡ true →
-    ((t : State) (j left : ℕ) → rules img t ≡ true → Keeps img (rest t j left)) → Keeps img (ranOn img bytes s i room rest n)
-on-keeps img bytes s i room rest pending k f = k
-on-keeps img bytes s i room rest broken k f = k
-on-keeps img bytes s i room rest (whole m) k f = f _ _ _ (state-keeps img s (bodyAt bytes i m) k)
-
-in-keeps : (n : ℕ) (img : Image) (bytes : List ℕ) (s : State) (i room : ℕ) → rules img s ≡ true → Keeps img (ranIn n img bytes s i room)
-unfolding ranIn
-in-keeps zero img bytes s i room k = k
-in-keeps (suc n) img bytes s i room k =
-    either-keeps img (ltb room longest) _ _ k (on-keeps img bytes s i room (ranIn n img bytes) (nextAt bytes i) k (λ t j left h. in-keeps n img bytes t j left h))
-
-pub ran-keeps : (img : Image) (bytes : List ℕ) (s : State) (room : ℕ) → rules img s ≡ true → Keeps img (ran img bytes s room)
-unfolding ran
-ran-keeps img bytes s room k = in-keeps (length bytes) img bytes s 0 room k
 
 module _ {img : Image} {bytes : List ℕ} {d : Rows} {p : Pieces} {old new : List ℕ} (k : Kept img d) (w : Pieced img (ran img bytes (stateIn img d) scratch) p bytes old new) where
   abbrev R : Ran

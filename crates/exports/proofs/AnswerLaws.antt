@@ -3,20 +3,20 @@ use mathlib.Core.Path.{_≡_, ap, _∙_, sym}
 use mathlib.Core.List.{List}
 use Prim.Native.Nat.{ℕ, _+_, _*_, _≤_, _<_}
 use lib.ListN.{length, take, drop}
-use Rattle.rows.specs.Kinds.{largest}
+use Rattle.table_rows.specs.Kinds.{largest}
 use Rattle.table.specs.Check.{numberOf}
 use Rattle.table.specs.declared.Checked.{Checked}
 use Rattle.table.specs.declared.Checked.the-variants.{Accepted, Refused}
 use Rattle.table.specs.declared.ImageRefusal.{ImageRefusal}
-use Rattle.puts.specs.Written.{Written}
-use Rattle.gate_day.specs.Days.{imageEnd, opened}
-use Rattle.lens.specs.Holds.{Rows, stateIn}
-use Rattle.writer.specs.Writer as writer
-use Rattle.writer.specs.Writer.{wrote, writing, placeOf}
-use Rattle.writer.specs.declared.Wrote.{Wrote}
-use Rattle.writer.proofs.SmallLaws.{small}
+use Rattle.byte_writer.specs.Written.{Written}
+use Rattle.day_run.specs.Days.{imageEnd, opened}
+use Rattle.state_room.specs.Holds.{Rows, stateIn}
+use Rattle.table_writer.specs.Writer as writer
+use Rattle.table_writer.specs.Writer.{wrote, writing, placeOf}
+use Rattle.table_writer.specs.declared.Wrote.{Wrote}
+use Rattle.table_writer.proofs.SmallLaws.{small}
 use Rattle.exports.proofs.ToldLaws.{no-room, in-room}
-use Rattle.rows.specs.Bytes.{beBytes}
+use Rattle.table_rows.specs.Bytes.{beBytes}
 use Rattle.exports.specs.Told.{told, noRoom, front}
 use Rattle.exports.specs.State.{stateBytes, stateLength, afterAll, stateBy, stateTold}
 use Rattle.exports.specs.Answers.{checkNumber, checkPlace, checkTold, half, writeTold}

@@ -5,19 +5,19 @@ use Prim.Native.Nat.{ℕ, _+_, _*_}
 use native.Mathlib.Omega.{arith}
 use lib.ListN.{length, length-append}
 use Rattle.lists.specs.Rows.{flat, flat-length}
-use Rattle.rows.specs.Bytes.{Image}
-use Rattle.entries.specs.Entries.{roomForEntries, blankValue, blankBucket}
-use Rattle.entries.specs.Words.{encodeValue, valueWords, long-value, encodeBucket, bucketWords, long-bucket}
+use Rattle.table_rows.specs.Bytes.{Image}
+use Rattle.store_words.specs.Entries.{roomForEntries, blankValue, blankBucket}
+use Rattle.store_words.specs.Words.{encodeValue, valueWords, long-value, encodeBucket, bucketWords, long-bucket}
 use Rattle.machine.specs.State.{State}
-use Rattle.slots.specs.Slots.{roomForEvents}
+use Rattle.state_events.specs.Slots.{roomForEvents}
 use Rattle.machine.specs.Heads.{peek}
 use Rattle.machine.specs.Machine.{Reply, ok, refusal, nothing, ready, tag, flag, number, peekAt}
-use Rattle.slots.specs.Slots as slot
-use Rattle.scopes.specs.Scopes as scope
-use Rattle.scopes.specs.Scopes.{mostScopes}
-use Rattle.lens.specs.Padded.{padded, padded-length}
-use Rattle.lens.specs.Lens.{mostReactors}
-use Rattle.puts.proofs.NumberLaws.{number-length}
+use Rattle.state_events.specs.Slots as slot
+use Rattle.state_scopes.specs.Scopes as scope
+use Rattle.state_scopes.specs.Scopes.{mostScopes}
+use Rattle.state_room.specs.Padded.{padded, padded-length}
+use Rattle.state_room.specs.PartRows.{mostReactors}
+use Rattle.byte_writer.proofs.NumberLaws.{number-length}
 use Rattle.exports.specs.Told.{wordBytes}
 use Rattle.exports.specs.State.{peekWords, firstWords, modesIn, stateBytes, stateLength}
 

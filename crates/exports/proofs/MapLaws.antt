@@ -10,8 +10,8 @@ use Rattle.refusals.specs.Refusals.{numberOf}
 use Rattle.refusals.specs.declared.Refusal.{Refusal}
 use Rattle.refusals.specs.declared.Refusal.the-variants.{StateRule}
 use Rattle.tags.specs.Tags.{Tag, Clock, Answer}
-use Rattle.records.specs.Records.{tagAt, isBit, isOne}
-use Rattle.puts.specs.Written.{Written}
+use Rattle.day_records.specs.Records.{tagAt, isBit, isOne}
+use Rattle.byte_writer.specs.Written.{Written}
 use Rattle.exports.proofs.ToldLaws.{no-room, in-room}
 use Rattle.exports.specs.Told.{told, noRoom, tagBytes}
 use Rattle.exports.specs.Answers.{clockIn, isClock, mapped, mapBy, mapTold}

@@ -1,29 +1,29 @@
 -- What the rescue for C tells, from what the rescue promises. Assumes nothing.
-use Prim.Native.Nat.{ℕ, _+_, _-_, _*_, _/_, _≤_, _<_, min}
+use Prim.Native.Nat.{ℕ, _+_, _-_, _*_, _/_, _≤_, min}
 use mathlib.Core.Bool.{Bool, true, false, cond, _||_}
 use mathlib.Core.Path.{_≡_, refl, sym, ap, _∙_}
-use mathlib.Core.List.{List, [], _∷_, _++_, append-nil, append-assoc}
+use mathlib.Core.List.{List, [], _++_, append-nil, append-assoc}
 use native.Mathlib.Omega.{arith}
 use lib.Dec.{ltb}
 use lib.ListN.{length, take, drop, length-drop}
 use lib.Seq.{drop-length}
-use Rattle.rows.specs.Bytes.{beBytes}
-use Rattle.rows.specs.Kinds.{largest}
-use Rattle.puts.specs.Written.{Written}
-use Rattle.puts.proofs.WrittenLaws.{written-then, written-as}
+use Rattle.table_rows.specs.Bytes.{beBytes}
+use Rattle.table_rows.specs.Kinds.{largest}
+use Rattle.byte_writer.specs.Written.{Written}
+use Rattle.byte_writer.proofs.WrittenLaws.{written-then, written-as}
 use Rattle.table.specs.Check as table
 use Rattle.table.specs.Check.{check}
 use Rattle.table.specs.declared.Checked.{Checked}
 use Rattle.table.specs.declared.Checked.the-variants.{Accepted, Refused}
 use Rattle.table.specs.declared.ImageRefusal.{ImageRefusal}
 use Rattle.table.specs.declared.ImageRefusal.the-variants.{Length}
-use Rattle.writer.proofs.SmallLaws.{placeIn, check-small}
-use Rattle.gate_day.specs.Days.{imageEnd, imageIn, opened}
-use Rattle.gate_day.proofs.WholeLaws.{rest-is}
-use Rattle.rescue.specs.Rescue.{run, roomy, Answered, answered, saved, savedBy}
-use Rattle.rescue.specs.declared.Totals.{Totals}
-use Rattle.rescue.specs.declared.Rescued.{Rescued}
-use Rattle.rescue.specs.declared.Rescued.the-variants as answers
+use Rattle.table_writer.proofs.SmallLaws.{placeIn, check-small}
+use Rattle.day_run.specs.Days.{imageEnd, imageIn, opened}
+use Rattle.day_run.proofs.WholeLaws.{rest-is}
+use Rattle.day_rescue.specs.Rescue.{run, roomy, Answered, answered, saved, savedBy}
+use Rattle.day_rescue.specs.declared.Totals.{Totals}
+use Rattle.day_rescue.specs.declared.Rescued.{Rescued}
+use Rattle.day_rescue.specs.declared.Rescued.the-variants as answers
 use Rattle.exports.specs.Told.{noRoom, wordBytes}
 use Rattle.exports.specs.Answers.{half, reportHead, headOf, rescueBy, rescueBytes}
 

@@ -8,9 +8,9 @@ use lib.ListN.{length, take, getD}
 use lib.Seq.{take-suc, take-all}
 use borrow.Author.Tests.{lt-ltb, le-ltb}
 use Rattle.tags.specs.Tags.{at}
-use Rattle.puts.specs.Written.{Written}
-use Rattle.puts.proofs.WrittenLaws.{written-none, written-then, written-as}
-use Rattle.rows.specs.Bytes.{beBytes}
+use Rattle.byte_writer.specs.Written.{Written}
+use Rattle.byte_writer.proofs.WrittenLaws.{written-none, written-then, written-as}
+use Rattle.table_rows.specs.Bytes.{beBytes}
 use Rattle.exports.specs.Told.{Told, told, noRoom, withRoom, wordBytes, tagBytes}
 
 -- ---- room

@@ -5,24 +5,24 @@ use mathlib.Core.List.{List, [], _∷_, _++_}
 use Prim.Native.Nat.{ℕ, _*_, _≤_}
 use lib.ListN.{length}
 use Rattle.lists.specs.Held.{held-words, whole-long}
-use Rattle.rows.specs.Bytes.{Image}
-use Rattle.entries.specs.Entries.{roomForEntries}
-use Rattle.entries.specs.Words.{decodeValue, encodeValue, valueWords, long-value, decodeBucket, encodeBucket, bucketWords, long-bucket}
+use Rattle.table_rows.specs.Bytes.{Image}
+use Rattle.store_words.specs.Entries.{roomForEntries}
+use Rattle.store_words.specs.Words.{decodeValue, encodeValue, valueWords, long-value, decodeBucket, encodeBucket, bucketWords, long-bucket}
 use Rattle.machine.specs.State.{State}
-use Rattle.slots.specs.Slots.{roomForEvents}
+use Rattle.state_events.specs.Slots.{roomForEvents}
 use Rattle.machine.specs.Machine.{Reply, flag, perform, peekTag, onlyControl}
 use Rattle.machine.specs.Heads.{controlOnly}
-use Rattle.slots.specs.Slots as slot
-use Rattle.queue.specs.Queue.{headsOf, Held as HeldHeads}
-use Rattle.scopes.specs.Scopes as scope
-use Rattle.scopes.specs.Scopes.{mostScopes}
-use Rattle.lens.specs.Lens.{Queued, Shows}
-use Rattle.lens.specs.Holds.{Rows, stateIn, waits, shows}
-use Rattle.pops.specs.Pops.{replyOf}
-use Rattle.pops.specs.declared.Peeked.{Peeked}
-use Rattle.gate_day.specs.Views.{Kept}
-use Rattle.puts.specs.Written.{Written}
-use Rattle.puts.proofs.WrittenLaws.{written-then, written-as}
+use Rattle.state_events.specs.Slots as slot
+use Rattle.state_queues.specs.Queue.{headsOf, Held as HeldHeads}
+use Rattle.state_scopes.specs.Scopes as scope
+use Rattle.state_scopes.specs.Scopes.{mostScopes}
+use Rattle.state_room.specs.PartRows.{Queued, Shows}
+use Rattle.state_room.specs.Holds.{Rows, stateIn, waits, shows}
+use Rattle.call_pop.specs.Pops.{replyOf}
+use Rattle.call_pop.specs.declared.Peeked.{Peeked}
+use Rattle.day_run.specs.Views.{Kept}
+use Rattle.byte_writer.specs.Written.{Written}
+use Rattle.byte_writer.proofs.WrittenLaws.{written-then, written-as}
 use Rattle.exports.specs.Told.{wordBytes}
 use Rattle.exports.specs.State.{peekWords, flagWord, firstWords, stateBytes}
 

@@ -10,15 +10,15 @@ use Rattle.refusals.specs.declared.Refusal.the-variants.{StateRule}
 use Rattle.table.specs.Check as table
 use Rattle.table.specs.declared.Checked.{Checked}
 use Rattle.table.specs.declared.Checked.the-variants.{Accepted, Refused}
-use Rattle.writer.specs.Writer as writer
-use Rattle.writer.specs.Writer.{Writing}
-use Rattle.rescue.specs.Rescue.{Answered, answered, saved}
-use Rattle.rescue.specs.declared.Totals.{Totals}
-use Rattle.rescue.specs.declared.Rescued.{Rescued}
-use Rattle.rescue.specs.declared.Rescued.the-variants as answers
+use Rattle.table_writer.specs.Writer as writer
+use Rattle.table_writer.specs.Writer.{Writing}
+use Rattle.day_rescue.specs.Rescue.{Answered, answered, saved}
+use Rattle.day_rescue.specs.declared.Totals.{Totals}
+use Rattle.day_rescue.specs.declared.Rescued.{Rescued}
+use Rattle.day_rescue.specs.declared.Rescued.the-variants as answers
 use Rattle.tags.specs.Tags.{Tag, Clock, Answer}
-use Rattle.records.specs.Records.{tagAt, isBit, isOne}
-use Rattle.rows.specs.Bytes.{beBytes}
+use Rattle.day_records.specs.Records.{tagAt, isBit, isOne}
+use Rattle.table_rows.specs.Bytes.{beBytes}
 use Rattle.exports.specs.Told.{Told, told, front, withRoom, noRoom, wordBytes, tagBytes}
 
 -- ---- the table check: 0 for a table, or the refusal's number; its place in eight bytes, 0 for a table

@@ -4,23 +4,23 @@ use mathlib.Core.Bool.{Bool, cond}
 use mathlib.Core.List.{List, [], _∷_, _++_}
 use lib.ListN.{length}
 use Rattle.lists.specs.Held.{wordsOf}
-use Rattle.rows.specs.Bytes.{Image}
+use Rattle.table_rows.specs.Bytes.{Image}
 use Rattle.table.specs.Check.{numberOf}
 use Rattle.table.specs.declared.Checked.{Checked}
 use Rattle.table.specs.declared.Checked.the-variants.{Accepted, Refused}
-use Rattle.entries.specs.Entries.{roomForEntries, blankValue, blankBucket}
-use Rattle.entries.specs.Words.{decodeValue, encodeValue, valueWords, long-value, decodeBucket, encodeBucket, bucketWords, long-bucket}
+use Rattle.store_words.specs.Entries.{roomForEntries, blankValue, blankBucket}
+use Rattle.store_words.specs.Words.{decodeValue, encodeValue, valueWords, long-value, decodeBucket, encodeBucket, bucketWords, long-bucket}
 use Rattle.machine.specs.State.{State, fresh}
-use Rattle.slots.specs.Slots.{roomForEvents}
+use Rattle.state_events.specs.Slots.{roomForEvents}
 use Rattle.machine.specs.Heads.{peek, controlOnly}
 use Rattle.machine.specs.Machine.{Reply, ok, refusal, nothing, ready, tag, flag, number, peekAt, run}
-use Rattle.slots.specs.Slots as slot
-use Rattle.scopes.specs.Scopes as scope
-use Rattle.scopes.specs.Scopes.{mostScopes}
-use Rattle.lens.specs.Padded.{padded}
-use Rattle.lens.specs.Lens.{mostReactors}
-use Rattle.records.specs.Records.{recordsFrom}
-use Rattle.gate_day.specs.Days.{callsOf, imageIn, recordBytes, opened}
+use Rattle.state_events.specs.Slots as slot
+use Rattle.state_scopes.specs.Scopes as scope
+use Rattle.state_scopes.specs.Scopes.{mostScopes}
+use Rattle.state_room.specs.Padded.{padded}
+use Rattle.state_room.specs.PartRows.{mostReactors}
+use Rattle.day_records.specs.Records.{recordsFrom}
+use Rattle.day_run.specs.Days.{callsOf, imageIn, recordBytes, opened}
 use Rattle.exports.specs.Told.{Told, told, front, withRoom, wordBytes}
 
 -- the plain machine's state after the calls among the records

@@ -5,7 +5,7 @@ use mathlib.Core.List.{List, [], _∷_, _++_}
 use lib.Dec.{ltb}
 use lib.ListN.{length}
 use lib.Seq.{sets}
-use Rattle.rows.specs.Bytes.{beBytes}
+use Rattle.table_rows.specs.Bytes.{beBytes}
 use Rattle.tags.specs.Tags.{Tag}
 
 pub record Told : Type 0 where

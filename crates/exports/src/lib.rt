@@ -7,22 +7,22 @@ ghost use Prim.Native.Nat.{_+_, _≤_, min};
 ghost use lib.ListN.{length};
 ghost use Rattle.lists.specs.Lent.{was, is};
 ghost use Rattle.table.specs.Check.{isTable, check};
-ghost use Rattle.pops.specs.Pops.{replyOf};
-ghost use Rattle.puts.specs.Written.{Written};
-ghost use Rattle.gate_day.specs.Days.{fitting, dayAnswers};
-ghost use Rattle.lens.specs.Holds.{rowsOf, stateIn};
-ghost use Rattle.gate_day.specs.Views.{Kept};
+ghost use Rattle.call_pop.specs.Pops.{replyOf};
+ghost use Rattle.byte_writer.specs.Written.{Written};
+ghost use Rattle.day_run.specs.Days.{fitting, dayAnswers};
+ghost use Rattle.state_room.specs.Holds.{rowsOf, stateIn};
+ghost use Rattle.day_run.specs.Views.{Kept};
 ghost use Rattle.tags.specs.Tags.{at, globalToLocal, localToGlobal};
 ghost use Rattle.tags.specs.Views.{ofClock, mappedLocal, mappedGlobal};
 ghost use Rattle.exports.specs.Told.{wordBytes, tagBytes, told};
 ghost use Rattle.exports.specs.State.{peekWords, flagWord, firstWords, stateBytes, afterAll, stateTold};
-ghost use Rattle.writer.specs.Writer.{writing};
-ghost use Rattle.rescue.specs.Rescue.{answered};
+ghost use Rattle.table_writer.specs.Writer.{writing};
+ghost use Rattle.day_rescue.specs.Rescue.{answered};
 ghost use Rattle.exports.specs.Answers.{checkNumber, checkPlace, checkTold, writeTold, reportHead, rescueBytes, clockIn, isClock, mapped, mapTold};
-use lens::Room;
-use pops::Peeked;
+use call_pop::Peeked;
+use day_rescue::Rescued;
 use refusals::Refusal;
-use rescue::Rescued;
+use state_room::Room;
 use table::Checked;
 use tags::GlobalTag;
 use tags::LocalTag;
@@ -44,7 +44,7 @@ fn put_words(bytes: &mut [u8], at: usize, words: &[u64]) -> usize
     let mut i: usize = 0;
     while i < words.len() {
         let word = words[i];
-        end = puts::put_number(bytes, end, 8, word);
+        end = byte_writer::put_number(bytes, end, 8, word);
         i += 1;
     }
     end
@@ -65,7 +65,7 @@ fn put_keys(bytes: &mut [u8], at: usize, keys: &[u16]) -> usize
     let mut i: usize = 0;
     while i < keys.len() {
         let word = wide(keys[i]);
-        end = puts::put_number(bytes, end, 8, word);
+        end = byte_writer::put_number(bytes, end, 8, word);
         i += 1;
     }
     end
@@ -82,11 +82,11 @@ const FIRST_WORDS: usize = 8;
 // Bytes of a state; `stateLength` of specs/ says the same.
 const STATE_BYTES: usize = 8
     * (FIRST_WORDS
-        + lens::MOST_REACTORS
-        + scopes::ROOM
-        + slots::ROOM
-        + entries::ROOM_FOR_ENTRIES * entries::VALUE_WORDS
-        + entries::ROOM_FOR_ENTRIES * entries::BUCKET_WORDS);
+        + state_room::MOST_REACTORS
+        + state_scopes::ROOM
+        + state_events::ROOM
+        + store_words::ROOM_FOR_ENTRIES * store_words::VALUE_WORDS
+        + store_words::ROOM_FOR_ENTRIES * store_words::BUCKET_WORDS);
 
 // The place so many bytes on.
 fn behind(bytes: &[u8], at: usize, n: usize) -> usize
@@ -102,13 +102,13 @@ fn run_all(image: &[u8], records: &[u8]) -> Room
     ensures { λ r. ⌜ Kept (was image) (rowsOf r) ⌝ }
     ensures { λ r. ⌜ stateIn (was image) (rowsOf r) ≡ afterAll (was image) (was records) ⌝ }
 {
-    let mut day = gate_day::start(image);
+    let mut day = day_run::start(image);
     let mut lines = [0u8; SCRATCH];
     let mut at: usize = 0;
     let mut turns = records.len();
     while 0 < turns {
         turns -= 1;
-        let piece = gate_day::run_records(image, day, &records[at..], &mut lines);
+        let piece = day_run::run_records(image, day, &records[at..], &mut lines);
         let used = piece.used;
         day = piece.day;
         if piece.ended {
@@ -162,10 +162,10 @@ fn first_words(image: &[u8], day: Room) -> [u64; FIRST_WORDS]
     let ledger = day.ledger;
     let counts = ledger.counts;
     let held = ledger.held;
-    let heads = queue::heads(&events, counts.waiting);
-    let peeked = pops::peek_tag(image, &scopes, &heads);
+    let heads = state_queues::heads(&events, counts.waiting);
+    let peeked = call_pop::peek_tag(image, &scopes, &heads);
     let p = peek_words(peeked);
-    let only = pops::peek_is_control_only(image, &scopes, &events, counts, &heads);
+    let only = call_pop::peek_is_control_only(image, &scopes, &events, counts, &heads);
     let control = flag_word(only);
     [
         p.found,
@@ -207,10 +207,10 @@ pub extern "C" fn barnshiver_state_after(day: &[u8], state: &mut [u8]) -> u8
     if state.len() < STATE_BYTES {
         return NO_ROOM;
     }
-    let checked = gate_day::open(day);
+    let checked = day_run::open(day);
     match checked {
         Checked::Accepted => {
-            let end = gate_day::image_end(day);
+            let end = day_run::image_end(day);
             let after = run_all(&day[..end], &day[end..]);
             put_state(state, &day[..end], after);
             0
@@ -226,7 +226,7 @@ pub extern "C" fn barnshiver_state_after(day: &[u8], state: &mut [u8]) -> u8
 pub extern "C" fn barnshiver_run_day(day: &[u8], lines: &mut [u8]) -> usize
     ensures { λ r. ⌜ Written (was lines) 0 (fitting (length (was lines)) (dayAnswers (was day))) (is lines) r ⌝ }
 {
-    gate_day::run_day(day, lines)
+    day_run::run_day(day, lines)
 }
 
 // ---- the table check
@@ -261,7 +261,7 @@ pub extern "C" fn barnshiver_check_table(image: &[u8], place: &mut [u8]) -> u8
     }
     let checked = table::check(image);
     let at = place_in(checked);
-    puts::put_number(place, 0, 8, at);
+    byte_writer::put_number(place, 0, 8, at);
     number_in(checked)
 }
 
@@ -275,9 +275,9 @@ const HALF: u64 = 4294967296;
 pub extern "C" fn barnshiver_write_table(counts: &[u8], rows: &[u8], buffer: &mut [u8]) -> u64
     ensures { λ r. ⌜ told r (is buffer) ≡ writeTold (writing (was counts) (was rows) (was buffer)) ⌝ }
 {
-    let answer = writer::write(counts, rows, buffer);
-    let number = writer::number_of(answer) as u64;
-    let place = writer::place_of(answer) as u64;
+    let answer = table_writer::write(counts, rows, buffer);
+    let number = table_writer::number_of(answer) as u64;
+    let place = table_writer::place_of(answer) as u64;
     number * HALF + place
 }
 
@@ -302,12 +302,12 @@ pub extern "C" fn barnshiver_rescue(day: &[u8], output: &mut [u8], report: &mut 
     ensures { λ r. ⌜ answered r (is output) (is report) ≡ rescueBytes (was day) (was output) (was report) ⌝ }
 {
     let head = report_head(report);
-    match rescue::rescue(day, output, &mut report[head..]) {
+    match day_rescue::rescue(day, output, &mut report[head..]) {
         Rescued::Saved(totals) => {
-            let records_at = puts::put_number(report, 0, 8, totals.written as u64);
-            let runs_at = puts::put_number(report, records_at, 8, totals.records as u64);
-            let runs = totals.listed / rescue::RUN_BYTES;
-            puts::put_number(report, runs_at, 8, runs as u64);
+            let records_at = byte_writer::put_number(report, 0, 8, totals.written as u64);
+            let runs_at = byte_writer::put_number(report, records_at, 8, totals.records as u64);
+            let runs = totals.listed / day_rescue::RUN_BYTES;
+            byte_writer::put_number(report, runs_at, 8, runs as u64);
             0
         }
         Rescued::Refused(why) => {
@@ -330,7 +330,7 @@ fn is_clock(clock: &[u8]) -> bool
     ensures { λ r. ⌜ r ≡ isClock (was clock) ⌝ }
 {
     if clock.len() == CLOCK_BYTES {
-        return records::is_bit(clock, 24);
+        return day_records::is_bit(clock, 24);
     }
     false
 }
@@ -338,10 +338,10 @@ fn is_clock(clock: &[u8]) -> bool
 fn clock_in(clock: &[u8]) -> ScopeClock
     ensures { λ r. ⌜ ofClock r ≡ clockIn (was clock) ⌝ }
 {
-    let g = records::tag_at(clock, 0);
-    let l = records::tag_at(clock, 12);
-    let allowed = records::is_one(clock, 24);
-    let s = records::tag_at(clock, 25);
+    let g = day_records::tag_at(clock, 0);
+    let l = day_records::tag_at(clock, 12);
+    let allowed = day_records::is_one(clock, 24);
+    let s = day_records::tag_at(clock, 25);
     ScopeClock {
         activation_global: g,
         activation_local: LocalTag(l.0, l.1),
@@ -374,8 +374,8 @@ fn mapped_global(clock: &[u8], tag: LocalTag) -> MappedGlobal
 fn put_tag(tag: &mut [u8], offset: u64, microstep: u32) -> usize
     ensures { λ r. ⌜ Written (was tag) 0 (tagBytes (at offset microstep)) (is tag) r ⌝ }
 {
-    let next = puts::put_number(tag, 0, 8, offset);
-    puts::put_number(tag, next, 4, microstep as u64)
+    let next = byte_writer::put_number(tag, 0, 8, offset);
+    byte_writer::put_number(tag, next, 4, microstep as u64)
 }
 
 // A global tag on the scope's local scale: 0, or the refusal's number, and the bytes stay as they were.

@@ -1,6 +1,6 @@
 // Sets of keys over 64-bit words: document 01, "Set facts are proved for any number of words"; the set under key_set.rs (tinymap's `KeySet`).
 // A key at or above KEYS is beyond the capacity: no set has it, and inserting it changes nothing.
-// How many words there are comes in here, in WORDS and `wordCount`; callers use the methods, and only slots and state_rules name a word.
+// How many words there are comes in here, in WORDS and `wordCount`; callers use the methods, and only state_events goes over the words.
 ghost use mathlib.Core.Path.{_≡_};
 ghost use mathlib.Core.Bool.{cond};
 ghost use Prim.Native.Nat.{_/_, _%_, _^_};

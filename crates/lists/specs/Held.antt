@@ -1,13 +1,13 @@
 -- Things of one kind as rows of words in one array, the same laws for every kind: `decode` reads a row of w words, `encode` writes one,
 -- and the array has n rows. Any words are things; `Whole` says that they are the words of their things and no others. Assumes nothing.
 use mathlib.Core.Path.{_≡_, refl, ap, _∙_, sym}
-use mathlib.Core.List.{List, [], _∷_, _++_, map}
+use mathlib.Core.List.{List, _∷_, map}
 use Prim.Native.Nat.{ℕ, zero, suc, _+_, _*_, _<_, _≤_}
 use native.Mathlib.Omega.{arith}
 use native.Mathlib.Nat.{add-mul, mul-le-mul-right}
 use lib.ListN.{length, getD, set, replicate, replicate-append-replicate}
 use lib.Seq.{set-out}
-use Rattle.lists.specs.Rows.{tab, tab-all, flat, flat-length, flat-set, flat-row, rowAt, putRow, viewOf, view-length, view-get, view-past, view-put, sets-out, stores, stored}
+use Rattle.lists.specs.Rows.{tab-all, flat, flat-length, flat-set, flat-row, rowAt, putRow, viewOf, view-length, view-get, view-past, view-put, sets-out, stores, stored}
 
 module _ {A : Type 0} (decode : List ℕ → A) (encode : A → List ℕ) (w n : ℕ) (long : (a : A) → length (encode a) ≡ w) where
   -- the things that an array of words holds

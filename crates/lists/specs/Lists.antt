@@ -1,7 +1,7 @@
 -- Keeping, losing, counting and asking by a test, folding, and what a loop over the front of an array knows, with their laws.
 -- Assumes nothing.
 use mathlib.Core.Bool.{Bool, true, false, cond, not, _&&_, _||_}
-use mathlib.Core.Path.{_≡_, refl, ap, _∙_, sym, subst, subst⁻¹}
+use mathlib.Core.Path.{_≡_, refl, _∙_, sym, subst, subst⁻¹}
 use mathlib.Core.List.{List, [], _∷_, _++_, append-assoc, append-nil, map, map-append, List·Memᴰ, List·Memᴰ·head, List·Memᴰ·tail}
 use Prim.Native.Nat.{ℕ, zero, suc, _+_, _-_, _≤_, _<_}
 use native.Mathlib.Omega.{arith}

@@ -6,13 +6,13 @@ use Prim.Native.Nat.{ℕ, zero, suc, _+_, _-_, _*_, _≤_, _<_}
 use native.Mathlib.Omega.{arith}
 use native.Mathlib.Numerals.{add-one}
 use lib.Dec.{ltb, leb}
-use borrow.Author.Tests.{lt-ltb, le-ltb, le-leb, lt-leb, ltb-true, ltb-false}
+use borrow.Author.Tests.{lt-ltb, le-ltb, lt-leb, ltb-true, ltb-false}
 use lib.ListN.{length, take, drop, getD, set, length-take, length-append, length-map, length-set}
 use lib.Seq.{take-suc, take-suc-set, take-all, take-append-seam, getD-take}
-use Rattle.lists.specs.Lists.{lose, any, every, upsert, lose-append, lose-shorter, over, over-read, over-write, drop-step, drop-take-end}
+use Rattle.lists.specs.Lists.{lose, any, upsert, lose-append, lose-shorter, over, over-read, over-write, drop-step, drop-take-end}
 use Rattle.lists.specs.Lay.{lay, lay-same, lay-more, lay-clear, lay-over}
-use Rattle.lists.specs.Rows.{tab, putRow, stores, stored, map-set}
-use Rattle.lists.specs.Held.{thingsOf, things-length, thing-past, thing-get, Whole, Held, held-put, held-past}
+use Rattle.lists.specs.Rows.{tab, stores, stored, map-set}
+use Rattle.lists.specs.Held.{thingsOf, things-length, thing-past, thing-get, Whole, Held, held-put}
 
 suc-ltb : (a b : ℕ) → ltb (suc a) (suc b) ≡ ltb a b
 suc-ltb a b = go (ltb a b) refl

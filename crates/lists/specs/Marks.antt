@@ -1,18 +1,18 @@
 -- Which slots a list's elements have, as marks in one array: what has an unmarked slot is like none of them. Assumes nothing.
 use mathlib.Core.Bool.{Bool, true, false, not, _&&_, _||_}
-use mathlib.Core.Path.{_≡_, refl, ap, _∙_, sym}
+use mathlib.Core.Path.{_≡_, refl, _∙_, sym}
 use mathlib.Core.Logic.{⊎-elim}
 use mathlib.Core.List.{List, [], _∷_}
 use Prim.Native.Nat.{ℕ, zero, suc, _-_, _≤_, _<_}
 use native.Mathlib.Omega.{arith}
 use lib.Dec.{ltb, leb}
-use borrow.Author.Tests.{lt-ltb, le-ltb, le-leb, lt-leb, ltb-true, ltb-false}
+use borrow.Author.Tests.{le-leb, lt-leb, ltb-true, ltb-false}
 use lib.ListN.{length, take, drop, getD, set}
 use lib.Seq.{getD-set-same, getD-set-other}
 use Rattle.lists.specs.Tests.{same?, and-left, and-right, and-both}
 use Rattle.lists.specs.Lists.{any, every, distinct, drop-pred, drop-take-end}
 use Rattle.lists.specs.Held.{thingsOf, things-length}
-use Rattle.lists.specs.Loops.{place, place-any, place-short}
+use Rattle.lists.specs.Loops.{place, place-any}
 
 no-way : {P : Type 0} → _≡_ {A = Bool} false true → P
 no-way e = absurd (let y : _≡_ {A = ℕ} 0 1 = cc in omega arith)

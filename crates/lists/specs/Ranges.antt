@@ -9,8 +9,8 @@ use native.Mathlib.Numerals.{add-one}
 use native.Mathlib.Omega.{arith}
 use lib.Dec.{eqb, ltb, leb}
 use lib.ListN.{length}
-use borrow.Author.Tests.{ltb-true, ltb-false, lt-ltb, le-ltb, le-leb, lt-leb, leb-true, eq-eqb, ne-eqb}
-use Rattle.lists.specs.Tests.{same?, and-left, and-right, which, below?, yes-no, and-no, and-yes, or-no, or-yes}
+use borrow.Author.Tests.{lt-ltb, le-ltb, le-leb, lt-leb, leb-true, eq-eqb, ne-eqb}
+use Rattle.lists.specs.Tests.{same?, and-left, and-right, which, below?, and-no, or-yes}
 use Rattle.lists.specs.Lists.{keep, any, every, count, from}
 
 -- ---- the first of a list, if there is one

@@ -5,9 +5,8 @@ use mathlib.Core.List.{List, [], _∷_, _++_, map}
 use Prim.Native.Nat.{ℕ, zero, suc, _+_, _*_, _-_, _≤_, _<_}
 use native.Mathlib.Omega.{arith}
 use native.Mathlib.Nat.{mul-le-mul-right, add-mul}
-use native.Mathlib.Numerals.{add-one}
-use lib.ListN.{length, take, drop, getD, set, replicate, length-set, length-map, length-append, List·getD-eq-default, length-replicate, getD-replicate, List·getD-map, List·getD-append}
-use lib.Seq.{getD-append-add, getD-set-same, getD-set-other, ext-getD, set-out, sets, length-sets, sets-eq, drop-append-seam, take-suc-set}
+use lib.ListN.{length, getD, set, replicate, length-set, length-map, length-append, List·getD-eq-default, List·getD-append}
+use lib.Seq.{getD-append-add, getD-set-same, getD-set-other, ext-getD, set-out, sets, sets-eq, drop-append-seam}
 use Rattle.lists.specs.Tests.{same?, apart}
 
 module _ {A : Type 0} where
@@ -29,9 +28,6 @@ module _ {A : Type 0} where
 
   pub tab-at : (f : ℕ → A) (n j : ℕ) (d : A) → j < n → getD (tab f 0 n) j d ≡ f j
   tab-at f n j d h = let e : 0 + j ≡ j = omega arith in tab-get f 0 n j d h ∙ rw e
-
-  pub tab-past : (f : ℕ → A) (i n j : ℕ) (d : A) → n ≤ j → getD (tab f i n) j d ≡ d
-  tab-past f i n j d h = List·getD-eq-default (tab f i n) d (rw tab-length h)
 
   -- another table with one entry changed
   pub tab-set : (f g : ℕ → A) (n k : ℕ) (a : A) → (k < n → g k ≡ a) → ((j : ℕ) → j < n → (j ≡ k → ⊥) → g j ≡ f j) → tab g 0 n ≡ set (tab f 0 n) k a
@@ -110,9 +106,6 @@ putRow w ws k row = sets ws (k * w) row
 
 abbrev pub rowsOf : ℕ → List ℕ → ℕ → List (List ℕ)
 rowsOf w ws n = tab (rowAt w ws) 0 n
-
-abbrev pub blankRow : ℕ → List ℕ
-blankRow w = replicate w 0
 
 -- a row below another ends before it
 below : (w j k : ℕ) → j < k → j * w + w ≤ k * w

@@ -1,6 +1,6 @@
 -- Steps that may refuse, taken one at a time: the first to refuse decides. The refusal's type is a parameter. Assumes nothing.
 use mathlib.Core.Path.{_≡_, refl}
-use mathlib.Core.List.{List, [], _∷_, _++_}
+use mathlib.Core.List.{List, [], _∷_}
 use Prim.Native.Nat.{ℕ}
 use native.Mathlib.Omega.{arith}
 

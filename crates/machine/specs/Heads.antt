@@ -1,13 +1,13 @@
 -- Document 01, "The plain machine": heads, peek, control only and pop. Assumes nothing.
 use Prim.Native.Nat.{ℕ, zero, suc}
-use mathlib.Core.Bool.{Bool, true, false, cond, not, _&&_, _||_}
+use mathlib.Core.Bool.{Bool, false, cond, not, _&&_, _||_}
 use mathlib.Core.List.{List, [], _∷_, _++_, map}
 use lib.Dec.{eqb}
 use lib.ListN.{length}
 use Rattle.lists.specs.Lists.{keep, lose, any, every, from, foldl}
-use Rattle.lists.specs.Walk.{Result, done, refused}
-use Rattle.rows.specs.Bytes.{Image}
-use Rattle.rows.specs.Rows.{none}
+use Rattle.lists.specs.Walk.{done, refused}
+use Rattle.table_rows.specs.Bytes.{Image}
+use Rattle.table_rows.specs.Rows.{none}
 use Rattle.tags.specs.Tags.{Tag, Clock, Answer, sameTag, earlier, toGlobal}
 use Rattle.key_set.specs.Sets.{unionOf, noKeys, wordCount}
 use Rattle.machine.specs.Table.{scopes}

@@ -3,19 +3,19 @@ use Prim.Native.Nat.{ℕ, _*_}
 use mathlib.Core.Bool.{Bool, true, false, cond, not, _&&_, _||_, Bool·beq}
 use mathlib.Core.List.{List, [], _∷_}
 use lib.Dec.{ltb, leb, eqb}
-use lib.ListN.{length, getD}
-use Rattle.lists.specs.Lists.{any, every, count, from}
+use lib.ListN.{length}
+use Rattle.lists.specs.Lists.{every, count, from}
 use Rattle.lists.specs.Walk.{Result, done, refused, _>>=_}
 use Rattle.refusals.specs.declared.Refusal.{Refusal}
 use Rattle.refusals.specs.declared.Refusal.the-variants as R
-use Rattle.rows.specs.Bytes.{Image}
-use Rattle.rows.specs.Limits.{limits}
-use Rattle.rows.specs.Rows.{none, modeReactor, actionScope, isLogical}
+use Rattle.table_rows.specs.Bytes.{Image}
+use Rattle.table_rows.specs.Limits.{limits}
+use Rattle.table_rows.specs.Rows.{none, modeReactor, actionScope, isLogical}
 use Rattle.tags.specs.Tags.{Tag, at, within, withinClock, toLocal, toGlobal}
 use Rattle.key_set.specs.Sets.{has, wordCount}
 use Rattle.store.specs.Store as S
 use Rattle.store.specs.Store.{Found, storeRules}
-use Rattle.schedule.specs.Schedule.{isModal, isActive}
+use Rattle.table_schedule.specs.Schedule.{isModal, isActive}
 use Rattle.table.specs.Check.{isTable}
 use Rattle.machine.specs.Table.{scopes, reactors, modes, reactions, actions, hasParent, setOf}
 use Rattle.machine.specs.State.{Event, Scope, State, root, ordinary, rootEvent, scopeIn, scopeAt, activeAt, everAt, withQueue, withStore, accepted}

@@ -1,6 +1,6 @@
 -- Document 01, "The plain machine": events, the state, and what changes them. Assumes nothing.
 use Prim.Native.Nat.{ℕ, _+_, _-_}
-use mathlib.Core.Bool.{Bool, true, false, cond, not, _&&_, _||_}
+use mathlib.Core.Bool.{Bool, false, cond, not, _&&_, _||_}
 use mathlib.Core.List.{List, [], _∷_, _++_, map}
 use lib.Dec.{leb, eqb}
 use lib.ListN.{length, getD, set}
@@ -8,12 +8,12 @@ use Rattle.lists.specs.Lists.{keep, lose, count, from}
 use Rattle.lists.specs.Walk.{Result, done, refused}
 use Rattle.refusals.specs.declared.Refusal.{Refusal}
 use Rattle.refusals.specs.declared.Refusal.the-variants as R
-use Rattle.rows.specs.Bytes.{Image}
-use Rattle.rows.specs.Limits.{limits}
-use Rattle.rows.specs.Rows.{none, initialMode}
+use Rattle.table_rows.specs.Bytes.{Image}
+use Rattle.table_rows.specs.Limits.{limits}
+use Rattle.table_rows.specs.Rows.{none, initialMode}
 use Rattle.tags.specs.Tags.{Tag, Clock, freshClock, zeroTag, sameTag}
 use Rattle.store.specs.Store.{Store, emptyStore}
-use Rattle.schedule.specs.Schedule.{isActive}
+use Rattle.table_schedule.specs.Schedule.{isActive}
 use Rattle.machine.specs.Table.{scopes, reactors}
 
 -- "Events lie in a root queue and one local queue per scope": the root's queue has the number that means "no scope",

@@ -4,10 +4,10 @@ use mathlib.Core.Bool.{Bool, not}
 use mathlib.Core.List.{List}
 use lib.Dec.{eqb}
 use Rattle.lists.specs.Lists.{foldl}
-use Rattle.rows.specs.Bytes.{Image}
-use Rattle.rows.specs.Kinds as K
-use Rattle.rows.specs.Kinds.{count}
-use Rattle.rows.specs.Rows.{none, parent}
+use Rattle.table_rows.specs.Bytes.{Image}
+use Rattle.table_rows.specs.Kinds as K
+use Rattle.table_rows.specs.Kinds.{count}
+use Rattle.table_rows.specs.Rows.{none, parent}
 use Rattle.key_set.specs.Sets.{insertKey, noKeys, wordCount}
 
 abbrev pub scopes : Image → ℕ

@@ -1,5 +1,5 @@
 -- Document 01, "A transition (reactor, target, kind, current tag c), in order": its five steps. Assumes nothing.
-use Prim.Native.Nat.{ℕ, zero, suc}
+use Prim.Native.Nat.{ℕ}
 use mathlib.Core.Bool.{Bool, true, false, cond, not, _&&_, _||_}
 use mathlib.Core.List.{List, [], _∷_, map}
 use lib.Dec.{eqb}
@@ -8,19 +8,20 @@ use Rattle.lists.specs.Lists.{keep, any, every, from, foldl, sortBy}
 use Rattle.lists.specs.Walk.{Result, done, refused, _>>=_, walk}
 use Rattle.refusals.specs.declared.Refusal.{Refusal}
 use Rattle.refusals.specs.declared.Refusal.the-variants as R
-use Rattle.rows.specs.Bytes.{Image}
-use Rattle.rows.specs.Kinds as K
-use Rattle.rows.specs.Kinds.{count}
-use Rattle.rows.specs.Limits.{limits}
-use Rattle.rows.specs.Rows.{none, rootScope, initialMode, modeScope, actionScope, isLogical, startupScope, startupAction, resetScope, timerAction}
-use Rattle.rows.specs.Lineage.{inSubtree, under}
+use Rattle.table_rows.specs.Bytes.{Image}
+use Rattle.table_rows.specs.Kinds as K
+use Rattle.table_rows.specs.Kinds.{count}
+use Rattle.table_rows.specs.Limits.{limits}
+use Rattle.table_rows.specs.Rows.{none, rootScope, initialMode, modeScope, actionScope, isLogical, startupScope, startupAction, resetScope, timerAction}
+use Rattle.table_rows.specs.Lineage.{inSubtree, under}
 use Rattle.table.specs.Rules.{timerTag}
 use Rattle.tags.specs.Tags.{Tag, Clock, Answer, zeroTag, earlier, delayed, toLocal, toGlobal}
 use Rattle.store.specs.Store as S
 use Rattle.store.specs.Store.{Store}
-use Rattle.schedule.specs.Schedule.{isActive, triggersOf, startupsOf, resetsOf}
+use Rattle.table_schedule.specs.Schedule.{isActive, triggersOf, startupsOf, resetsOf}
 use Rattle.machine.specs.Table.{scopes, reactors, actions, hasParent}
-use Rattle.machine.specs.State.{Event, Scope, State, root, scopeAt, clockAt, everAt, clocked, marked, withModes, withScopes, withQueue, withStore, accepted, without, stamped, inQueue, rootEvent}
+use Rattle.machine.specs.State.{Event, Scope, State, root, scopeAt, clockAt, everAt, clocked, marked}
+use Rattle.machine.specs.State.{withModes, withScopes, withQueue, withStore, accepted, without, stamped, inQueue, rootEvent}
 
 abbrev pub Step : Type 0
 Step = Result Refusal State

@@ -7,10 +7,10 @@ use mathlib.Core.List.{List, [], _∷_, _++_, map}
 use lib.ListN.{replicate}
 use Rattle.lists.specs.Lists.{from}
 use Rattle.refusals.specs.declared.Refusal.the-variants as R
-use Rattle.rows.specs.Bytes.{Image}
-use Rattle.rows.specs.Rows.{none}
+use Rattle.table_rows.specs.Bytes.{Image}
+use Rattle.table_rows.specs.Rows.{none}
 use Rattle.tags.specs.Tags.{Tag, at, Clock, freshClock}
-use Rattle.entries.specs.Entries.{Value, Bucket}
+use Rattle.store_words.specs.Entries.{Value, Bucket}
 use Rattle.machine.specs.State.{Event, Scope, State, freshScope, root, rootEvent, withQueue, withStore, withModes, withScopes}
 use Rattle.machine.specs.Machine.{pop, refusal, answer, rules, step}
 use Rattle.machine_days.specs.Computed.{dayOf, scope, clock, value, bucket}

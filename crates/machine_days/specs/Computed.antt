@@ -6,17 +6,17 @@ use mathlib.Core.List.{List, [], _∷_, _++_, map}
 use Rattle.lists.specs.Lists.{keep, lose, count as countOf, any, every, distinct, from, upsert, insertBy, sortBy, foldl}
 use Rattle.lists.specs.Scan.{scan}
 use Rattle.lists.specs.Walk.{walk}
-use Rattle.rows.specs.Bytes.{Image, be}
-use Rattle.rows.specs.Kinds.{kinds, kindOf, countPlace, count, place}
-use Rattle.rows.specs.Limits.{versions, limits}
-use Rattle.rows.specs.Rows.{rowPlace, field, isLogical}
-use Rattle.rows.specs.Lineage.{lineageIn, lineage, ancestors, inSubtree, under}
+use Rattle.table_rows.specs.Bytes.{Image, be}
+use Rattle.table_rows.specs.Kinds.{kinds, kindOf, countPlace, count, place}
+use Rattle.table_rows.specs.Limits.{versions, limits}
+use Rattle.table_rows.specs.Rows.{rowPlace, field, isLogical}
+use Rattle.table_rows.specs.Lineage.{lineageIn, lineage, ancestors, inSubtree, under}
 use Rattle.table.specs.Rules.{keyFields, keyExists, keysExist, parentRule, agrees, scopeRule, initialRule, reactorRule, modeRule, reactionRule, actionRule, timerRule, ownRule, rowRule}
 use Rattle.table.specs.Check.{wrongLength, countFits, badCount, badRow, kindFits, badKind, checkRows, check}
 use Rattle.tags.specs.Tags.{Tag, Clock, within, sameTag, earlier, delayed, shifted, toLocal, toGlobal, withinClock}
 use Rattle.key_set.specs.Sets.{bit, has, insertKey, unionOf}
-use Rattle.schedule.specs.Schedule.{namesMode, isModal, isCurrent, isActive, reactionsOf, triggersOf, startupsOf, resetsOf}
-use Rattle.entries.specs.Entries.{Value, Bucket}
+use Rattle.table_schedule.specs.Schedule.{namesMode, isModal, isCurrent, isActive, reactionsOf, triggersOf, startupsOf, resetsOf}
+use Rattle.store_words.specs.Entries.{Value, Bucket}
 use Rattle.store.specs.Store.{isValue, isBucket, following, larger, lacks, pushed, nextIn, nextMicrostep, valueIn, taken, isBefore, isThere, isSpent, clearedBefore, ofAction, bucketOf, cleared, moved, coveredBy, hasBucket, valueRules, bucketRules, sameValue, sameBucket, storeRules}
 use Rattle.table.specs.Check.{isTable}
 use Rattle.machine.specs.Table.{scopes, hasParent, setOf}

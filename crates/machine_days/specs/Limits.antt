@@ -4,8 +4,9 @@ use mathlib.Core.Path.{_≡_, refl}
 use mathlib.Core.Bool.{true, false}
 use mathlib.Core.List.{List, [], _∷_}
 use Rattle.refusals.specs.declared.Refusal.the-variants as R
-use Rattle.rows.specs.Bytes.{Image}
+use Rattle.table_rows.specs.Bytes.{Image}
 use Rattle.tags.specs.Tags.{at}
+use Rattle.key_set.specs.Sets.{noKeys, wordCount}
 use Rattle.machine.specs.Machine.{Call, action, transit, pop, activeNow, everActive, ok, refusal, ready, flag}
 use Rattle.machine_days.specs.Computed.{dayOf, scope, clock, value, bucket}
 
@@ -35,8 +36,8 @@ pub moves-tie : dayOf moves-image moves-calls ≡
     record {
       replies =
           ok ∷ ok ∷ ok ∷ ok ∷ ok ∷ ok ∷
-          ready (record { tag = at 50 3; terminal = false; work = true; network = false; reactions = 0 ∷ 0 ∷ []; actions = 0 ∷ [] }) ∷
-          ready (record { tag = at 50 2; terminal = false; work = true; network = false; reactions = 0 ∷ 0 ∷ []; actions = 0 ∷ [] }) ∷
+          ready (record { tag = at 50 3; terminal = false; work = true; network = false; reactions = noKeys wordCount; actions = 0 ∷ [] }) ∷
+          ready (record { tag = at 50 2; terminal = false; work = true; network = false; reactions = noKeys wordCount; actions = 0 ∷ [] }) ∷
           [];
       end =
           record {
@@ -69,7 +70,7 @@ limit-calls =
 -- A scope that the table lacks is 5.
 pub at-limit : dayOf moves-image limit-calls .replies ≡
     (ok ∷ refusal R.MappedTag ∷ ok ∷
-    ready (record { tag = at 6 0; terminal = false; work = true; network = false; reactions = 0 ∷ 0 ∷ []; actions = 0 ∷ [] }) ∷
+    ready (record { tag = at 6 0; terminal = false; work = true; network = false; reactions = noKeys wordCount; actions = 0 ∷ [] }) ∷
     flag true ∷ refusal R.Key ∷ refusal R.Key ∷ [])
 unfolding dayOf
 at-limit = refl

@@ -7,8 +7,8 @@ use mathlib.Core.List.{List, [], _∷_, map}
 use lib.ListN.{replicate}
 use Rattle.lists.specs.Lists.{from}
 use Rattle.refusals.specs.declared.Refusal.the-variants as R
-use Rattle.rows.specs.Bytes.{Image}
-use Rattle.rows.specs.Rows.{none}
+use Rattle.table_rows.specs.Bytes.{Image}
+use Rattle.table_rows.specs.Rows.{none}
 use Rattle.tags.specs.Tags.{at, freshClock}
 use Rattle.machine.specs.State.{Scope, State, rootEvent, freshScope}
 use Rattle.machine.specs.Machine.{Call, plain, transit, pushValue, nextStep, takeValue, clearBefore, moveValue, clearAction, ok, refusal, nothing, number, answer, perform, step}

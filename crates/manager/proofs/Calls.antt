@@ -1,40 +1,37 @@
 -- One call on the manager from the call on its rows. Assumes nothing.
 use mathlib.Core.Bool.{Bool, true, false, cond, not, _||_}
 use mathlib.Core.Path.{_≡_, refl, ap, _∙_, sym}
-use mathlib.Core.Logic.{_⊎_, inl, inr, ⊎-elim}
-use mathlib.Core.List.{List, []}
+use mathlib.Core.Logic.{_⊎_, ⊎-elim}
+use mathlib.Core.List.{List}
 use Prim.Native.Nat.{ℕ, _≤_}
 use native.Mathlib.Nat.{min-eq-left}
-use native.Mathlib.Omega.{arith}
 use lib.ListN.{length, take, replicate, length-take}
 use borrow.Author.Tests.{not-true, not-false}
 use Rattle.lists.specs.Every.{no-way}
 use Rattle.refusals.specs.declared.Refusal.the-variants as R
-use Rattle.rows.specs.Bytes.{Image}
+use Rattle.table_rows.specs.Bytes.{Image}
 use Rattle.tags.specs.Tags.{zeroTag}
 use Rattle.tags.specs.Views.{ofGlobal}
 use Rattle.key_set.specs.Sets.{noKeys, wordCount}
-use Rattle.machine.specs.State.{State}
-use Rattle.slots.specs.Slots.{roomForEvents}
+use Rattle.state_events.specs.Slots.{roomForEvents}
 use Rattle.machine.specs.Machine as M
 use Rattle.machine.specs.Machine.{perform}
-use Rattle.lens.specs.Padded.{padded, padded-none}
-use Rattle.lens.specs.declared.Room.{Room}
-use Rattle.lens.specs.Holds as L
-use Rattle.lens.specs.Holds.{rowsOf, Holds, Kept, Performs}
-use Rattle.pushes.specs.Pushes as pushes
-use Rattle.pushes.specs.declared.Push.{Push}
-use Rattle.pushes.specs.declared.Push.the-variants as P
-use Rattle.calls.specs.Calls.{questionOf, callOf, answerReply, replyOf, isPop, Tells}
-use Rattle.calls.specs.declared.Answer as code
-use Rattle.calls.specs.declared.Answer.the-variants as A
-use Rattle.calls.specs.declared.Call.{Call}
-use Rattle.calls.specs.declared.Call.the-variants as K
-use Rattle.calls.specs.declared.Performed.{Performed}
-use Rattle.calls.specs.declared.Question.{Question}
-use Rattle.calls.specs.declared.Question.the-variants as Q
-use Rattle.manager.specs.Arrays.{Arrays, Answered, answered, asks, isRefusal, ended, endedBy, packed, viewOf, isSound, stepOn, Shown, shownReady, noReady, Popped, popped}
-use Rattle.manager.specs.Views.{arraysIn, Unpacks, TellsOrEleven, workReply, readyFrom, readyIn}
+use Rattle.state_room.specs.Padded.{padded, padded-none}
+use Rattle.state_room.specs.declared.Room.{Room}
+use Rattle.state_room.specs.Holds as L
+use Rattle.state_room.specs.Holds.{rowsOf, Holds, Kept, Performs}
+use Rattle.call_push.specs.Pushes as pushes
+use Rattle.call_push.specs.declared.Push.{Push}
+use Rattle.call_push.specs.declared.Push.the-variants as P
+use Rattle.call_perform.specs.Calls.{questionOf, callOf, answerReply, replyOf, isPop, Tells}
+use Rattle.call_perform.specs.declared.Answer.the-variants as A
+use Rattle.call_perform.specs.declared.Call.{Call}
+use Rattle.call_perform.specs.declared.Call.the-variants as K
+use Rattle.call_perform.specs.declared.Performed.{Performed}
+use Rattle.call_perform.specs.declared.Question.{Question}
+use Rattle.call_perform.specs.declared.Question.the-variants as Q
+use Rattle.manager.specs.Arrays.{Arrays, Answered, answered, asks, isRefusal, viewOf, isSound, stepOn, Shown, shownReady, noReady, popped}
+use Rattle.manager.specs.Views.{arraysIn, Unpacks, TellsOrEleven, readyFrom, readyIn}
 use Rattle.manager.proofs.Front.{front-view}
 use Rattle.manager.proofs.Packs.{holds-packs, holds, kept}
 

@@ -15,11 +15,11 @@ use Rattle.lists.specs.Held.{thingsOf, things-length, Held}
 use Rattle.tags.specs.Tags.{Clock}
 use Rattle.tags.specs.Views.{ofClock}
 use Rattle.tags.specs.declared.ScopeClock.{ScopeClock}
-use Rattle.scopes.specs.declared.Scope as code
-use Rattle.scopes.specs.Scopes as scope
-use Rattle.scopes.specs.Scopes.{Scope, mostScopes, scopeOf, scopesOf}
-use Rattle.lens.specs.Padded.{padded, padded-none, padded-length, padded-take, padded-more}
-use Rattle.lens.specs.Lens.{Scoped}
+use Rattle.state_scopes.specs.declared.Scope as code
+use Rattle.state_scopes.specs.Scopes as scope
+use Rattle.state_scopes.specs.Scopes.{Scope, mostScopes, scopeOf, scopesOf}
+use Rattle.state_room.specs.Padded.{padded, padded-none, padded-length, padded-take, padded-more}
+use Rattle.state_room.specs.PartRows.{Scoped}
 use Rattle.manager.specs.Views.{joined}
 
 module _ {A : Type 0} (b : A) (N : ℕ) (l : List A) (full : length l ≡ N) where

@@ -8,28 +8,28 @@ use lib.Dec.{leb}
 use lib.ListN.{length, take, replicate, length-take, length-map}
 use borrow.Author.Tests.{leb-true}
 use Rattle.lists.specs.Tests.{and-left, and-right}
-use Rattle.rows.specs.Bytes.{Image}
-use Rattle.rows.specs.Limits.{limits}
+use Rattle.table_rows.specs.Bytes.{Image}
+use Rattle.table_rows.specs.Limits.{limits}
 use Rattle.table.specs.Check.{isTable, check}
 use Rattle.table.specs.declared.Checked.{Checked}
 use Rattle.table.specs.declared.Checked.the-variants.{Accepted, Refused}
 use Rattle.tags.specs.Views.{ofClock}
-use Rattle.entries.specs.Entries.{roomForEntries, held-fits, blankValue, blankBucket, ofValue, ofBucket}
-use Rattle.entries.specs.Words.{HeldValues, HeldBuckets}
+use Rattle.store_words.specs.Entries.{roomForEntries, held-fits, blankValue, blankBucket, ofValue, ofBucket}
+use Rattle.store_words.specs.Words.{HeldValues, HeldBuckets}
 use Rattle.store_rules.proofs.Kept.{Kept as KeptStore, rules-kept}
 use Rattle.machine.specs.Table.{scopes, reactors, actions}
 use Rattle.machine.specs.State.{State, fresh, noState}
 use Rattle.machine.specs.Machine.{rules}
-use Rattle.kept.specs.Steps.{Ruled}
-use Rattle.fresh.specs.Fresh.{Bare, bare-queued, bare-stored}
-use Rattle.slots.specs.Slots as slot
-use Rattle.slots.specs.Slots.{eventOf, roomForEvents, waiting-fits}
-use Rattle.scopes.specs.Scopes as scope
-use Rattle.scopes.specs.Scopes.{mostScopes}
-use Rattle.lens.specs.Padded.{padded, padded-none, padded-take}
-use Rattle.lens.specs.Lens.{Scoped, Queued, Stored, mostReactors}
-use Rattle.lens.specs.declared.Room.{Room}
-use Rattle.lens.specs.Holds.{rowsOf, stateIn, Holds, Kept, ruled-holds, most-scopes, most-reactors, rules-table}
+use Rattle.machine_rules_kept.specs.Steps.{Ruled}
+use Rattle.state_fresh.specs.Fresh.{Bare, bare-queued, bare-stored}
+use Rattle.state_events.specs.Slots as slot
+use Rattle.state_events.specs.Slots.{eventOf, roomForEvents, waiting-fits}
+use Rattle.state_scopes.specs.Scopes as scope
+use Rattle.state_scopes.specs.Scopes.{mostScopes}
+use Rattle.state_room.specs.Padded.{padded, padded-none, padded-take}
+use Rattle.state_room.specs.PartRows.{Scoped, Queued, Stored, mostReactors}
+use Rattle.state_room.specs.declared.Room.{Room}
+use Rattle.state_room.specs.Holds.{rowsOf, stateIn, Holds, Kept, ruled-holds, most-scopes, most-reactors, rules-table}
 use Rattle.state_rules.specs.Sound.{sound, soundIn}
 use Rattle.manager.specs.Arrays.{Arrays, viewOf, packed, isSound, freshOver}
 use Rattle.manager.specs.Views.{joined, arraysOf, arraysIn, Unpacks}

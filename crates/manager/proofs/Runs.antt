@@ -7,13 +7,13 @@ use native.Mathlib.Omega.{arith}
 use lib.Dec.{ltb, eqb}
 use borrow.Author.Tests.{le-leb}
 use Rattle.lists.specs.Every.{no-way, both}
-use Rattle.lists.specs.Walk.{Result, done, refused, _>>=_}
+use Rattle.lists.specs.Walk.{done, refused, _>>=_}
 use Rattle.refusals.specs.declared.Refusal.{Refusal}
 use Rattle.refusals.specs.declared.Refusal.the-variants as R
-use Rattle.rows.specs.Rows.{modeReactor}
+use Rattle.table_rows.specs.Rows.{modeReactor}
 use Rattle.tags.specs.Tags.{at, within}
-use Rattle.rows.specs.Bytes.{Image}
-use Rattle.rows.specs.Limits.{limits}
+use Rattle.table_rows.specs.Bytes.{Image}
+use Rattle.table_rows.specs.Limits.{limits}
 use Rattle.table.specs.Check.{isTable}
 use Rattle.store.specs.Store as S
 use Rattle.store_rules.proofs.Kept.{Kept, rules-kept}
@@ -24,10 +24,10 @@ use Rattle.machine.specs.Heads.{Head, peek}
 use Rattle.machine.specs.Transition.{Step, transition}
 use Rattle.machine.specs.Machine as M
 use Rattle.machine.specs.Machine.{Call, Reply, Outcome, settleWith, popAt, foundReply, need, forStore, pushRoot, pushAction, perform, rules, step, run}
-use Rattle.kept.specs.Kept.{rules-tell, rules-pass, step-performs, step-keeps, fresh-rules}
-use Rattle.kept.specs.Steps.{Ruled}
+use Rattle.machine_rules_kept.specs.Kept.{rules-tell, rules-pass, step-performs, step-keeps, fresh-rules}
+use Rattle.machine_rules_kept.specs.Steps.{Ruled}
 use Rattle.state_rules.specs.Sound.{sound}
-use Rattle.calls.proofs.CallLaws.{asked-back}
+use Rattle.call_perform.proofs.CallLaws.{asked-back}
 use Rattle.manager.specs.Arrays.{Arrays, asks, ended, packed, viewOf, isSound, stepOn, runOn, freshOver}
 use Rattle.manager.proofs.Packs.{view-packed, table-of-sound, rules-of-sound}
 

@@ -4,26 +4,26 @@ use mathlib.Core.Bool.{Bool, true, false, cond, _||_}
 use mathlib.Core.List.{List, [], _∷_}
 use lib.ListN.{length, take}
 use Rattle.refusals.specs.declared.Refusal.the-variants as R
-use Rattle.rows.specs.Bytes.{Image}
+use Rattle.table_rows.specs.Bytes.{Image}
 use Rattle.table.specs.Check.{isTable}
 use Rattle.tags.specs.Tags.{Tag, zeroTag}
 use Rattle.key_set.specs.Sets.{noKeys, wordCount}
-use Rattle.entries.specs.Entries.{roomForEntries, blankValue, blankBucket}
+use Rattle.store_words.specs.Entries.{roomForEntries, blankValue, blankBucket}
 use Rattle.store.specs.Store.{Store}
 use Rattle.value_store.specs.Calls as store
 use Rattle.value_store.specs.Calls.{heldIn}
 use Rattle.machine.specs.Table.{scopes, reactors}
 use Rattle.machine.specs.State.{Event, Scope, State, fresh, noState}
-use Rattle.slots.specs.Slots.{roomForEvents}
+use Rattle.state_events.specs.Slots.{roomForEvents}
 use Rattle.machine.specs.Heads.{Ready}
 use Rattle.machine.specs.Machine as M
 use Rattle.machine.specs.Machine.{Call, Reply, Outcome, refusal, perform}
-use Rattle.slots.specs.Slots as slot
-use Rattle.scopes.specs.Scopes as scope
-use Rattle.scopes.specs.Scopes.{mostScopes}
-use Rattle.lens.specs.Padded.{padded}
+use Rattle.state_events.specs.Slots as slot
+use Rattle.state_scopes.specs.Scopes as scope
+use Rattle.state_scopes.specs.Scopes.{mostScopes}
+use Rattle.state_room.specs.Padded.{padded}
 use Rattle.state_rules.specs.Sound.{sound}
-use Rattle.lens.specs.Lens.{mostReactors}
+use Rattle.state_room.specs.PartRows.{mostReactors}
 
 -- "Arrays by value of scope clocks, active flags and event slots inside the manager"
 pub record Arrays : Type 0 where

@@ -6,29 +6,29 @@ use mathlib.Core.Logic.{_⊎_}
 use mathlib.Core.List.{List, [], _∷_, map}
 use lib.Dec.{ltb}
 use lib.ListN.{length, take}
-use Rattle.rows.specs.Bytes.{Image}
+use Rattle.table_rows.specs.Bytes.{Image}
 use Rattle.tags.specs.Views.{ofGlobal, ofClock}
 use Rattle.tags.specs.Tags.{Clock}
-use Rattle.entries.specs.Entries.{roomForEntries, blankValue, blankBucket}
-use Rattle.entries.specs.Words.{HeldValues, HeldBuckets}
+use Rattle.store_words.specs.Entries.{roomForEntries, blankValue, blankBucket}
+use Rattle.store_words.specs.Words.{HeldValues, HeldBuckets}
 use Rattle.value_store.specs.Views as stores
 use Rattle.machine.specs.State.{Scope}
-use Rattle.slots.specs.Slots as slot
-use Rattle.slots.specs.Slots.{eventOf, eventsOf, roomForEvents}
-use Rattle.scopes.specs.Scopes.{mostScopes, scopesOf}
-use Rattle.lens.specs.Padded.{padded}
-use Rattle.lens.specs.Lens.{mostReactors, Scoped}
+use Rattle.state_events.specs.Slots as slot
+use Rattle.state_events.specs.Slots.{eventOf, eventsOf, roomForEvents}
+use Rattle.state_scopes.specs.Scopes.{mostScopes, scopesOf}
+use Rattle.state_room.specs.Padded.{padded}
+use Rattle.state_room.specs.PartRows.{mostReactors, Scoped}
 use Rattle.machine.specs.Machine as M
 use Rattle.machine.specs.Machine.{Reply}
-use Rattle.lens.specs.declared.Room.{Room}
+use Rattle.state_room.specs.declared.Room.{Room}
 use Rattle.manager.specs.Arrays.{Arrays, Answered, answered, Shown, Popped, viewOf}
 use Rattle.machine.specs.Heads.{Ready}
 use Rattle.refusals.specs.declared.Refusal.the-variants.{StateRule}
-use Rattle.ready.specs.Gathering.{readyAt, gatheringOf}
-use Rattle.calls.specs.Calls.{answerReply, replyOf, Tells}
-use Rattle.calls.specs.declared.Answer.the-variants.{Refused}
-use Rattle.calls.specs.declared.Call.{Call}
-use Rattle.calls.specs.declared.Performed.{Performed}
+use Rattle.call_pop_ready.specs.Gathering.{readyAt, gatheringOf}
+use Rattle.call_perform.specs.Calls.{answerReply, replyOf, Tells}
+use Rattle.call_perform.specs.declared.Answer.the-variants.{Refused}
+use Rattle.call_perform.specs.declared.Call.{Call}
+use Rattle.call_perform.specs.declared.Performed.{Performed}
 use Rattle.manager.specs.declared.Answered as code
 use Rattle.manager.specs.declared.Called.{Called}
 use Rattle.manager.specs.declared.Popped as code-popped

@@ -14,44 +14,44 @@ ghost use Prim.Native.Nat.{ℕ, _≤_, min};
 ghost use lib.ListN.{length, take};
 ghost use Rattle.lists.specs.Lent.{was};
 ghost use Rattle.tags.specs.Views.{ofClock, ofGlobal};
-ghost use Rattle.entries.specs.Entries.{roomForEntries, blankValue, blankBucket, ofValue, ofBucket};
-ghost use Rattle.entries.specs.Words.{HeldValues, HeldBuckets};
-ghost use Rattle.slots.specs.Slots.{eventOf, eventsOf};
-ghost use Rattle.slots.specs.Slots as slot;
-ghost use Rattle.scopes.specs.Scopes.{mostScopes, scopesOf};
-ghost use Rattle.slots.specs.Slots.{roomForEvents};
-ghost use Rattle.lens.specs.Padded.{padded};
-ghost use Rattle.lens.specs.Lens.{Scoped, mostReactors};
-ghost use Rattle.manager.specs.Arrays.{isSound, asks, isRefusal, stepOn, shownReady, noReady, popped, freshOver};
+ghost use Rattle.store_words.specs.Entries.{roomForEntries, blankValue, blankBucket, ofValue, ofBucket};
+ghost use Rattle.store_words.specs.Words.{HeldValues, HeldBuckets};
+ghost use Rattle.state_events.specs.Slots.{eventOf, eventsOf};
+ghost use Rattle.state_events.specs.Slots as slot;
+ghost use Rattle.state_scopes.specs.Scopes.{mostScopes, scopesOf};
+ghost use Rattle.state_events.specs.Slots.{roomForEvents};
+ghost use Rattle.state_room.specs.Padded.{padded};
+ghost use Rattle.state_room.specs.PartRows.{Scoped, mostReactors};
+ghost use Rattle.manager.specs.Arrays.{asks, isRefusal, stepOn, shownReady, noReady, popped, freshOver};
 ghost use Rattle.table.specs.Check.{check};
 ghost use Rattle.manager.specs.Views.{joined, arraysOf, arraysIn, Unpacks, answeredOf, calledOf, workReply, someWork};
 ghost use Rattle.manager.specs.Views.{TellsOrEleven, shownOf, readyFrom, readyIn, poppedOf};
 ghost use Rattle.value_store.specs.Views.{callOf as storeCall};
-ghost use Rattle.calls.specs.Calls.{valueCall, callOf, answerReply, replyOf, isPop};
-ghost use Rattle.calls.specs.declared.Call.the-variants as K;
+ghost use Rattle.call_perform.specs.Calls.{valueCall, callOf, answerReply, replyOf, isPop};
+ghost use Rattle.call_perform.specs.declared.Call.the-variants as K;
 ghost use Rattle.machine.specs.Machine.{plain, network, control, action, transit, peekTag, onlyControl, ordinaryWork, activeNow, everActive, pop};
 ghost use Rattle.machine.specs.Machine.{pushValue, nextStep, takeValue, clearBefore, moveValue, clearAction};
-use calls::Answer;
-use calls::Call;
-use calls::Performed;
-use calls::Question;
-use entries::Bucket;
-use entries::BucketRows;
-use entries::ROOM_FOR_ENTRIES;
-use entries::Value;
-use entries::ValueRows;
+use call_perform::Answer;
+use call_perform::Call;
+use call_perform::Performed;
+use call_perform::Question;
+use call_push::ActionPush;
+use call_push::Push;
+use call_transition_plan::Request;
 use key_set::KeySet;
-use lens::Ledger;
-use lens::MOST_REACTORS;
-use lens::Room;
-use plan::Request;
-use pushes::ActionPush;
-use pushes::Push;
 use refusals::Refusal;
-use scopes::MOST_SCOPES;
-use scopes::Scope;
-use slots::ROOM_FOR_EVENTS;
-use slots::Slot;
+use state_events::ROOM_FOR_EVENTS;
+use state_events::Slot;
+use state_room::Ledger;
+use state_room::MOST_REACTORS;
+use state_room::Room;
+use state_scopes::MOST_SCOPES;
+use state_scopes::Scope;
+use store_words::Bucket;
+use store_words::BucketRows;
+use store_words::ROOM_FOR_ENTRIES;
+use store_words::Value;
+use store_words::ValueRows;
 use table::Checked;
 use tags::GlobalTag;
 use tags::ScopeClock;
@@ -99,12 +99,12 @@ fn scope_rows(
     active: [bool; MOST_SCOPES],
     ever: [bool; MOST_SCOPES],
     n: usize,
-) -> [u64; scopes::ROOM]
+) -> [u64; state_scopes::ROOM]
     ensures { λ r. ⌜ Scoped (take n (joined (map ofClock clocks) active ever)) r ⌝ }
     ensures { λ _. ⌜ (length clocks ≡ mostScopes) × (length active ≡ mostScopes) × (length ever ≡ mostScopes) ⌝ }
 {
     let end = at_most(n, MOST_SCOPES);
-    let mut rows = scopes::blank_rows();
+    let mut rows = state_scopes::blank_rows();
     let mut i: usize = 0;
     while i < end {
         let clock = clocks[i];
@@ -115,22 +115,22 @@ fn scope_rows(
             active: now,
             ever: before,
         };
-        scopes::put_scope(&mut rows, i, s);
+        state_scopes::put_scope(&mut rows, i, s);
         i += 1;
     }
     rows
 }
 
-fn slot_rows(slots: [Slot; ROOM_FOR_EVENTS], n: usize) -> [u64; slots::ROOM]
+fn slot_rows(slots: [Slot; ROOM_FOR_EVENTS], n: usize) -> [u64; state_events::ROOM]
     ensures { λ r. ⌜ slot.Held r (padded slot.blank roomForEvents (take n (map eventOf slots))) ⌝ }
     ensures { λ _. ⌜ length slots ≡ roomForEvents ⌝ }
 {
     let end = at_most(n, ROOM_FOR_EVENTS);
-    let mut rows = slots::blank_rows();
+    let mut rows = state_events::blank_rows();
     let mut i: usize = 0;
     while i < end {
         let s = slots[i];
-        slots::put_slot(&mut rows, i, s);
+        state_events::put_slot(&mut rows, i, s);
         i += 1;
     }
     rows
@@ -141,11 +141,11 @@ fn value_rows(values: [Value; ROOM_FOR_ENTRIES], n: usize) -> ValueRows
     ensures { λ _. ⌜ length values ≡ roomForEntries ⌝ }
 {
     let end = at_most(n, ROOM_FOR_ENTRIES);
-    let mut rows: ValueRows = [0; entries::ROOM_FOR_ENTRIES * entries::VALUE_WORDS];
+    let mut rows: ValueRows = [0; store_words::ROOM_FOR_ENTRIES * store_words::VALUE_WORDS];
     let mut i: usize = 0;
     while i < end {
         let v = values[i];
-        entries::put_value(&mut rows, i, v);
+        store_words::put_value(&mut rows, i, v);
         i += 1;
     }
     rows
@@ -156,11 +156,11 @@ fn bucket_rows(buckets: [Bucket; ROOM_FOR_ENTRIES], n: usize) -> BucketRows
     ensures { λ _. ⌜ length buckets ≡ roomForEntries ⌝ }
 {
     let end = at_most(n, ROOM_FOR_ENTRIES);
-    let mut rows: BucketRows = [0; entries::ROOM_FOR_ENTRIES * entries::BUCKET_WORDS];
+    let mut rows: BucketRows = [0; store_words::ROOM_FOR_ENTRIES * store_words::BUCKET_WORDS];
     let mut i: usize = 0;
     while i < end {
         let b = buckets[i];
-        entries::put_bucket(&mut rows, i, b);
+        store_words::put_bucket(&mut rows, i, b);
         i += 1;
     }
     rows
@@ -169,8 +169,8 @@ fn bucket_rows(buckets: [Bucket; ROOM_FOR_ENTRIES], n: usize) -> BucketRows
 fn unpack(image: &[u8], m: Manager) -> Room
     ensures { λ r. ⌜ Unpacks (was image) (arraysOf m) r ⌝ }
 {
-    let scope_count = rows::count(image, rows::SCOPE);
-    let reactor_count = rows::count(image, rows::REACTOR);
+    let scope_count = table_rows::count(image, table_rows::SCOPE);
+    let reactor_count = table_rows::count(image, table_rows::REACTOR);
     let all_modes = m.modes;
     let clocks = m.clocks;
     let active = m.active;
@@ -184,7 +184,7 @@ fn unpack(image: &[u8], m: Manager) -> Room
     let events = slot_rows(slots, m.waiting);
     let values = value_rows(all_values, store.held);
     let buckets = bucket_rows(all_buckets, store.open);
-    let counts = lens::Counts {
+    let counts = state_room::Counts {
         waiting: m.waiting,
         work: m.work,
     };
@@ -208,28 +208,28 @@ fn unpack(image: &[u8], m: Manager) -> Room
 
 // ---- and back
 
-fn slots_of(rows: &[u64; slots::ROOM]) -> [Slot; ROOM_FOR_EVENTS]
+fn slots_of(rows: &[u64; state_events::ROOM]) -> [Slot; ROOM_FOR_EVENTS]
     ensures { λ r. ⌜ map eventOf r ≡ eventsOf (was rows) ⌝ }
 {
     let blank = Slot::blank();
     let mut out = [blank; ROOM_FOR_EVENTS];
     let mut i: usize = 0;
     while i < ROOM_FOR_EVENTS {
-        let s = slots::slot_at(rows, i);
+        let s = state_events::slot_at(rows, i);
         out[i] = s;
         i += 1;
     }
     out
 }
 
-fn clocks_of(rows: &[u64; scopes::ROOM]) -> [ScopeClock; MOST_SCOPES]
+fn clocks_of(rows: &[u64; state_scopes::ROOM]) -> [ScopeClock; MOST_SCOPES]
     ensures { λ r. ⌜ map ofClock r ≡ map (λ x. x .clock) (scopesOf (was rows)) ⌝ }
 {
     let blank = ScopeClock::fresh(false);
     let mut out = [blank; MOST_SCOPES];
     let mut i: usize = 0;
     while i < MOST_SCOPES {
-        let s = scopes::scope_at(rows, i);
+        let s = state_scopes::scope_at(rows, i);
         let clock = s.clock;
         out[i] = clock;
         i += 1;
@@ -237,26 +237,26 @@ fn clocks_of(rows: &[u64; scopes::ROOM]) -> [ScopeClock; MOST_SCOPES]
     out
 }
 
-fn active_of(rows: &[u64; scopes::ROOM]) -> [bool; MOST_SCOPES]
+fn active_of(rows: &[u64; state_scopes::ROOM]) -> [bool; MOST_SCOPES]
     ensures { λ r. ⌜ r ≡ map (λ x. x .active) (scopesOf (was rows)) ⌝ }
 {
     let mut out = [false; MOST_SCOPES];
     let mut i: usize = 0;
     while i < MOST_SCOPES {
-        let s = scopes::scope_at(rows, i);
+        let s = state_scopes::scope_at(rows, i);
         out[i] = s.active;
         i += 1;
     }
     out
 }
 
-fn ever_of(rows: &[u64; scopes::ROOM]) -> [bool; MOST_SCOPES]
+fn ever_of(rows: &[u64; state_scopes::ROOM]) -> [bool; MOST_SCOPES]
     ensures { λ r. ⌜ r ≡ map (λ x. x .ever) (scopesOf (was rows)) ⌝ }
 {
     let mut out = [false; MOST_SCOPES];
     let mut i: usize = 0;
     while i < MOST_SCOPES {
-        let s = scopes::scope_at(rows, i);
+        let s = state_scopes::scope_at(rows, i);
         out[i] = s.ever;
         i += 1;
     }
@@ -298,26 +298,6 @@ pub struct Fresh {
 }
 
 // ---- what every call begins and ends with
-
-// Whether the state handed in keeps the state rules, and its rows.
-struct Entered {
-    sound: bool,
-    rows: Room,
-}
-
-fn enter(image: &[u8], m: Manager) -> Entered
-    ensures { λ r. ⌜ r .sound ≡ isSound (was image) (arraysOf m) ⌝ }
-    ensures { λ r. ⌜ Unpacks (was image) (arraysOf m) (r .rows) ⌝ }
-{
-    let rows = unpack(image, m);
-    let scopes = rows.scopes;
-    let events = rows.events;
-    let values = rows.values;
-    let buckets = rows.buckets;
-    let ledger = rows.ledger;
-    let sound = state_rules::keeps_rules(image, &scopes, &events, &values, &buckets, ledger);
-    Entered { sound, rows }
-}
 
 // The answer, and the manager after the call.
 pub struct Answered {
@@ -471,25 +451,26 @@ fn step_on(m: Manager, image: &[u8], call: Call, keys: &[u16]) -> Called
     ensures { λ r. ⌜ calledOf r ≡ stepOn (was image) (arraysOf m) (callOf call (was keys)) ⌝ }
     ensures { λ r. ⌜ (r .performed .gathered .actions ≤ roomForEvents) × TellsOrEleven call (r .performed) ⌝ }
 {
-    let e = enter(image, m);
-    let u = e.rows;
+    let u = unpack(image, m);
     let given = u.ledger;
+    let mut scopes = u.scopes;
+    let mut events = u.events;
+    let mut values = u.values;
+    let mut buckets = u.buckets;
     let mut actions = [0u16; ROOM_FOR_EVENTS];
-    if !e.sound {
-        let performed = calls::told(Answer::Refused(Refusal::StateRule), given);
+    let sound = state_rules::keeps_rules(image, &scopes, &events, &values, &buckets, given);
+    if !sound {
+        let performed = call_perform::told(Answer::Refused(Refusal::StateRule), given);
         return Called {
             performed,
             actions,
             manager: m,
         };
     }
-    let mut scopes = u.scopes;
-    let mut events = u.events;
-    let mut values = u.values;
-    let mut buckets = u.buckets;
     let counts = given.counts;
-    let mut heads = queue::heads(&events, counts.waiting);
-    let performed = calls::perform(
+    let mut heads = state_queues::heads(&events, counts.waiting);
+    let mut spare = [0u64; state_room::SPARE];
+    let performed = call_perform::perform(
         image,
         &mut scopes,
         &mut events,
@@ -497,6 +478,7 @@ fn step_on(m: Manager, image: &[u8], call: Call, keys: &[u16]) -> Called
         &mut buckets,
         &mut heads,
         &mut actions,
+        &mut spare,
         given,
         call,
         keys,
@@ -592,13 +574,13 @@ impl Manager {
         let checked = table::check(image);
         match checked {
             Checked::Refused(_) => {
-                let none = scopes::blank_rows();
-                let room = fresh::bare([0u16; MOST_REACTORS], none);
+                let none = state_scopes::blank_rows();
+                let room = state_fresh::bare([0u16; MOST_REACTORS], none);
                 let manager = pack(room);
                 Fresh { checked, manager }
             }
             Checked::Accepted => {
-                let room = fresh::room(image);
+                let room = state_fresh::room(image);
                 let manager = pack(room);
                 Fresh { checked, manager }
             }

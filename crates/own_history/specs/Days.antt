@@ -1,4 +1,4 @@
--- Demand 3 for a gate day: of `gate_day::run_day`, and of `gate_day::run_records` over pieces one after another. Assumes nothing but the accepted table.
+-- Demand 3 for a gate day: of `day_run::run_day`, and of `day_run::run_records` over pieces one after another. Assumes nothing but the accepted table.
 use Prim.Native.Nat.{ℕ, zero, suc, _+_, _-_, _<_, _≤_}
 use mathlib.Core.Bool.{Bool, true, false, cond}
 use mathlib.Core.Path.{_≡_, refl, ap, _∙_, sym, subst}
@@ -8,27 +8,26 @@ use lib.Dec.{ltb}
 use lib.ListN.{length, drop, length-drop}
 use lib.Seq.{drop-cons, drop-append-le}
 use borrow.Author.Tests.{ltb-true, ltb-false}
-use Rattle.rows.specs.Bytes.{Image, be}
+use Rattle.table_rows.specs.Bytes.{Image, be}
 use Rattle.table.specs.Check.{isTable}
 use Rattle.table.specs.declared.Checked.the-variants.{Accepted}
 use Rattle.machine.specs.State.{State, fresh}
-use Rattle.machine.specs.Machine.{Call, peekTag, rules, step, run}
-use Rattle.kept.specs.Kept.{run-keeps}
-use Rattle.lens.specs.Holds.{Rows, rowsOf, stateIn, state-is}
-use Rattle.records.specs.Records.{Record, call, malformed, cut, over, mostBytes, recordsFrom}
-use Rattle.records.proofs.DayLaws.{records-behind}
-use Rattle.lines.specs.Lines.{lineOf, tableLine}
-use Rattle.gate_day.specs.Days.{pending, broken, whole, nextAt, bytesLeft, bodyAt, malformedLine, longest, lineAt, stateAt, answersOf, together, linesOf, callsOf, Ran, stopped, ranIn, ranOn}
-use Rattle.gate_day.specs.Days.{ran, imageIn, opened, answersBy, dayAnswers, recordBytes}
-use Rattle.gate_day.specs.Views.{Pieced}
-use Rattle.gate_day.specs.declared.Pieces.{Pieces}
-use Rattle.gate_day.specs.Calls.{before, callsIn, callsOn, callsTaken, ran-runs}
-use Rattle.gate_day.proofs.WholeLaws.{open-table, whole-goes, broken-stops, piece-lines}
-use Rattle.rescue.specs.Rescue.{dayRescue}
-use Rattle.rescue.proofs.DayTheorems.{opened-again}
-use Rattle.history.specs.History.{moment, outcome}
-use Rattle.history.specs.Fates.{run-next}
-use Rattle.history.specs.One.{TheHistory, the-history, head-is, tail-is}
+use Rattle.machine.specs.Machine.{Call, peekTag, step, run}
+use Rattle.state_room.specs.Holds.{Rows, rowsOf, stateIn, state-is}
+use Rattle.day_records.specs.Records.{Record, call, malformed, cut, over, mostBytes, recordsFrom}
+use Rattle.day_records.proofs.DayLaws.{records-behind}
+use Rattle.day_lines.specs.Lines.{lineOf, tableLine}
+use Rattle.day_run.specs.Days.{pending, broken, whole, nextAt, bytesLeft, bodyAt, malformedLine, longest, lineAt, stateAt, answersOf, together, linesOf, callsOf, Ran, stopped, ranIn, ranOn}
+use Rattle.day_run.specs.Days.{ran, imageIn, opened, answersBy, dayAnswers, recordBytes}
+use Rattle.day_run.specs.Views.{Pieced}
+use Rattle.day_run.specs.declared.Pieces.{Pieces}
+use Rattle.day_run.specs.Calls.{before, callsIn, callsOn, callsTaken, ran-runs}
+use Rattle.day_run.proofs.WholeLaws.{open-table, whole-goes, broken-stops, piece-lines}
+use Rattle.day_rescue.specs.Rescue.{dayRescue}
+use Rattle.day_rescue.proofs.DayTheorems.{opened-again}
+use Rattle.machine_history.specs.History.{moment, outcome}
+use Rattle.machine_history.specs.Fates.{run-next}
+use Rattle.machine_history.specs.One.{TheHistory, the-history, head-is, tail-is}
 
 -- ---- the lines of a file
 
@@ -70,7 +69,7 @@ file-lines img bytes = lines-are img (fileCalls bytes) (recordsOf bytes) 0 (fres
 
 -- ---- a whole day
 
--- where its table is accepted, the lines that `gate_day::run_day` writes (`dayAnswers`) are the table's, and then those of the machine's answers in a run
+-- where its table is accepted, the lines that `day_run::run_day` writes (`dayAnswers`) are the table's, and then those of the machine's answers in a run
 -- of the calls among all records of the file; and this run has one history
 pub day-fates :
     (day : List ℕ) → opened day ≡ Accepted → let img = imageIn day in
@@ -101,7 +100,7 @@ pub record Fed : Type 0 where
   pub left : List ℕ
   pub ended : Bool
 
--- the run of one piece, of the bytes that were left before and its own: what `gate_day::run_records` promises (`Pieced`)
+-- the run of one piece, of the bytes that were left before and its own: what `day_run::run_records` promises (`Pieced`)
 abbrev pub first : Image → State → List ℕ → Piece → Fed
 first img s left p =
     let a = left ++ p .bytes in
@@ -117,7 +116,7 @@ unfoldable pub fed : Image → State → List ℕ → List Piece → Fed
 fed img s left [] = record { state = s; calls = []; lines = []; left = left; ended = false }
 fed img s left (p ∷ ps) = let f = first img s left p in cond (f .ended) f (thenFed f (fed img (f .state) (f .left) ps))
 
--- for the day that `gate_day::run_records` hands back holds the state that its run came to
+-- for the day that `day_run::run_records` hands back holds the state that its run came to
 pub handed-on :
     (img : Image) (d : Rows) (bytes : List ℕ) (p : Pieces) {old new : List ℕ} → Pieced img (ran img bytes (stateIn img d) (length old)) p bytes old new →
     stateIn img (rowsOf (p .day)) ≡ ran img bytes (stateIn img d) (length old) .state
@@ -240,7 +239,7 @@ fed-says img (p ∷ ps) s left more =
     go true e h k = says-last img s _ (first img s left p) _ _ e h
     go false e h k = says-then img s _ (first img s left p) _ _ _ e h k
 
--- pieces one after another from `gate_day::start`, and whatever comes behind them: the calls taken so far are the first of all calls of the file, the state
+-- pieces one after another from `day_run::start`, and whatever comes behind them: the calls taken so far are the first of all calls of the file, the state
 -- is the machine's after them, and they have one history, as all calls of the file have; the lines are the first of the file's, each call's the line of the
 -- machine's answer to it
 pub record PieceFates (img : Image) (ps : List Piece) (more : List ℕ) : Type 0 where

@@ -6,14 +6,14 @@ use mathlib.Core.Path.{_≡_, ap, _∙_}
 use mathlib.Core.List.{List, [], _∷_}
 use Prim.Native.Nat.{ℕ}
 use lib.ListN.{take}
-use Rattle.rows.specs.Bytes.{Image}
+use Rattle.table_rows.specs.Bytes.{Image}
 use Rattle.table.specs.Check.{isTable}
 use Rattle.machine.specs.State.{State}
 use Rattle.machine.specs.Machine.{Call, step}
 use Rattle.manager.specs.Arrays.{Arrays, viewOf, isSound, stepOn, runOn, freshOver}
 use Rattle.manager.proofs.Runs.{step-reply, step-sound, fresh-sound, own-view}
-use Rattle.history.specs.History.{moment, callAt, outcome}
-use Rattle.history.specs.One.{TheHistory, the-history}
+use Rattle.machine_history.specs.History.{moment, callAt, outcome}
+use Rattle.machine_history.specs.One.{TheHistory, the-history}
 
 -- the manager's arrays before the call at place n
 abbrev pub managerAt : Image → List Call → ℕ → Arrays

@@ -1,14 +1,14 @@
 // The program of ./rescue, document 02, C-23, "A tool copies what still reads": a damaged gate day from standard input, its image and kept records to
 // standard output, a line for each dropped run to standard error, and to descriptor 4 one line of what it came to: "rescued RECORDS BYTES RUNS" (the
 // records kept, the bytes and the runs dropped), the table's refusal in the bench's words, or "unread", "unwritten" or "untold" where a read, a write or
-// the list's write failed. A file of any size runs in the memory of a small one. What is kept is rescue's.
+// the list's write failed. A file of any size runs in the memory of a small one. What is kept is day_rescue's.
 ghost use mathlib.Core.Path.{_≡_};
 ghost use Prim.Native.Nat.{_≤_};
 ghost use lib.ListN.{length};
+use day_rescue::Run;
 use libc::STDERR_FILENO;
 use libc::STDIN_FILENO;
 use libc::STDOUT_FILENO;
-use rescue::Run;
 use table::Checked;
 
 const VERDICT: i32 = 4;
@@ -67,14 +67,14 @@ fn say_runs(list: &[u8]) -> bool {
             }
             end = 0;
         }
-        let place = rows::eight_bytes(list, at);
-        let length = rows::eight_bytes(list, at + 8);
-        end = puts::write_text(&mut text, end, b"dropped ");
-        end = lines::write_decimal(&mut text, end, place);
-        end = puts::put(&mut text, end, b' ');
-        end = lines::write_decimal(&mut text, end, length);
-        end = puts::put(&mut text, end, b'\n');
-        at += rescue::RUN_BYTES;
+        let place = table_rows::eight_bytes(list, at);
+        let length = table_rows::eight_bytes(list, at + 8);
+        end = byte_writer::write_text(&mut text, end, b"dropped ");
+        end = day_lines::write_decimal(&mut text, end, place);
+        end = byte_writer::put(&mut text, end, b' ');
+        end = day_lines::write_decimal(&mut text, end, length);
+        end = byte_writer::put(&mut text, end, b'\n');
+        at += day_rescue::RUN_BYTES;
     }
     io::write_all(STDERR_FILENO, &text[..end])
 }
@@ -88,20 +88,20 @@ struct Sums {
 
 fn say_sums(sums: Sums) {
     let mut text = io::buffer();
-    let mut end = puts::write_text(&mut text, 0, b"rescued ");
-    end = lines::write_decimal(&mut text, end, sums.records);
-    end = puts::put(&mut text, end, b' ');
-    end = lines::write_decimal(&mut text, end, sums.dropped);
-    end = puts::put(&mut text, end, b' ');
-    end = lines::write_decimal(&mut text, end, sums.runs);
-    end = puts::put(&mut text, end, b'\n');
+    let mut end = byte_writer::write_text(&mut text, 0, b"rescued ");
+    end = day_lines::write_decimal(&mut text, end, sums.records);
+    end = byte_writer::put(&mut text, end, b' ');
+    end = day_lines::write_decimal(&mut text, end, sums.dropped);
+    end = byte_writer::put(&mut text, end, b' ');
+    end = day_lines::write_decimal(&mut text, end, sums.runs);
+    end = byte_writer::put(&mut text, end, b'\n');
     say(&text[..end]);
 }
 
 // The table's refusal, as the bench says it.
 fn say_table(checked: Checked) {
     let mut line = io::buffer();
-    let n = lines::write_table(&mut line, 0, checked);
+    let n = day_lines::write_table(&mut line, 0, checked);
     say(&line[..n]);
 }
 
@@ -113,7 +113,7 @@ fn added(sum: u64, more: usize) -> u64 {
 fn summed(sums: Sums, records: usize, dropped: usize, listed: usize) -> Sums {
     let records = added(sums.records, records);
     let dropped = added(sums.dropped, dropped);
-    let runs = added(sums.runs, listed / rescue::RUN_BYTES);
+    let runs = added(sums.runs, listed / day_rescue::RUN_BYTES);
     Sums {
         records,
         dropped,
@@ -160,7 +160,7 @@ fn run(input: &mut [u8], first: Filled, start: usize)
         }
         let last = there.over;
         let total = there.total;
-        let piece = rescue::rescue_piece(
+        let piece = day_rescue::rescue_piece(
             &input[from..total],
             last,
             pending,
@@ -178,7 +178,7 @@ fn run(input: &mut [u8], first: Filled, start: usize)
             say_sums(sums);
             return;
         }
-        let left = puts::shift(input, from + piece.used, total);
+        let left = byte_writer::shift(input, from + piece.used, total);
         there = fill(input, left);
         from = 0;
     }
@@ -192,10 +192,10 @@ fn main() {
         return;
     }
     let total = first.total;
-    let checked = gate_day::open(&input[..total]);
+    let checked = day_run::open(&input[..total]);
     match checked {
         Checked::Accepted => {
-            let end = gate_day::image_end(&input[..total]);
+            let end = day_run::image_end(&input[..total]);
             if io::write_all(STDOUT_FILENO, &input[..end]) {
                 run(&mut input, first, end);
             } else {

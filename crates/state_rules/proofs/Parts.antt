@@ -1,79 +1,47 @@
 -- The parts of the state rules from what the code's tests tell. Assumes nothing.
 use mathlib.Core.Bool.{Bool, true, false, not, _&&_, _||_, Bool·beq}
 use mathlib.Core.Path.{_≡_, refl, ap, _∙_, sym}
-use mathlib.Core.List.{List, [], _∷_, map}
-use mathlib.Core.Option.{none, some}
-use mathlib.Core.Logic.{_⊎_, ⊎-elim}
-use Prim.Native.Nat.{ℕ, suc, _+_, _-_, _*_, _/_, _%_, _^_, _≤_, _<_}
-use native.Mathlib.Nat.{zero-div, div-div-eq-div-mul}
+use mathlib.Core.List.{List, [], _∷_}
+use mathlib.Core.Option.{none}
+use Prim.Native.Nat.{ℕ, _+_, _-_, _*_, _≤_, _<_}
 use native.Mathlib.Omega.{arith}
-use lib.Pow.{pow-add}
-use lib.Dec.{ltb, leb, eqb}
+use lib.Dec.{ltb, eqb}
 use lib.ListN.{length, take, drop, getD}
-use borrow.Author.Tests.{lt-ltb, le-ltb, ltb-true, ltb-false, eq-eqb, ne-eqb, eqb-true}
-use Rattle.lists.specs.Tests.{flag, flag-no, flag-yes, below?, yes-no}
+use borrow.Author.Tests.{lt-ltb, le-ltb, ltb-true, ltb-false, eq-eqb, ne-eqb}
+use Rattle.lists.specs.Tests.{flag-no, flag-yes}
 use Rattle.lists.specs.Lists.{every, count, from, drop-pred, drop-take-end, count-yes, count-no}
 use Rattle.lists.specs.Every.{by-test, or-left, or-right, every-below, below-every}
 use Rattle.lists.specs.Steps.{from-next, from-end, every-pass, every-fail, every-end}
 use Rattle.lists.specs.Held as H
 use Rattle.lists.specs.Loops.{test-on, test-fails, test-all}
-use Rattle.rows.specs.Bytes.{Image}
-use Rattle.rows.specs.Rows as rows
-use Rattle.tags.specs.Tags.{Tag, Answer, within, withinClock, toGlobal}
+use Rattle.table_rows.specs.Bytes.{Image}
+use Rattle.table_rows.specs.Rows as rows
+use Rattle.tags.specs.Tags.{Tag, within, withinClock, toGlobal}
 use Rattle.tags.specs.declared.MappedGlobal.{MappedGlobal}
 use Rattle.tags.specs.declared.MappedGlobal.the-variants as M
 use Rattle.tags.specs.Views.{mappedGlobal}
-use Rattle.key_set.specs.Sets.{bit, has, wordCount, lowestFrom}
+use Rattle.key_set.specs.Sets.{has, wordCount, lowestFrom}
 use Rattle.key_set.specs.Views.{foundOf}
 use Rattle.key_set.specs.declared.Found.{Found}
 use Rattle.key_set.specs.declared.Found.the-variants.{Key, Nothing}
-use Rattle.key_set.proofs.Laws.{bit-zero, told-key, told-nothing, lowest-key, lowest-range, none-from}
+use Rattle.key_set.proofs.Laws.{told-key, told-nothing, lowest-key, lowest-range, none-from}
 use Rattle.machine.specs.Table.{scopes, reactions, actions, hasParent}
 use Rattle.machine.specs.State.{Event, root, ordinary, scopeIn}
-use Rattle.machine.specs.Transition.{isTag}
 use Rattle.machine.specs.Machine.{eventRules, queueRules, scopeRules, imageRules}
-use Rattle.slots.specs.Slots as slot
-use Rattle.slots.specs.Slots.{eventsOf, roomForEvents}
-use Rattle.scopes.specs.Scopes as scope
-use Rattle.scopes.specs.Scopes.{Scope, mostScopes, scopesOf}
-use Rattle.schedule.specs.Schedule.{isActive}
+use Rattle.state_events.specs.Slots as slot
+use Rattle.state_events.specs.Slots.{eventsOf, roomForEvents}
+use Rattle.state_scopes.specs.Scopes as scope
+use Rattle.state_scopes.specs.Scopes.{Scope, mostScopes, scopesOf}
+use Rattle.table_schedule.specs.Schedule.{isActive}
 use Rattle.state_rules.specs.declared.Sizes.{Sizes}
-use Rattle.state_rules.specs.Sound.{sizesOf, keysBelow, eventKeeps}
+use Rattle.state_rules.specs.Sound.{sizesOf, keysBelow}
 
 -- ---- keys of a set
-
--- a word without a bit from b on
-no-bit : (w b d : ℕ) → w / 2 ^ b ≡ 0 → bit w (b + d) ≡ 0
-unfolding bit
-no-bit w b d e = ap (λ (x : ℕ). x % 2) (ap (λ (x : ℕ). w / x) (pow-add 2 b d) ∙ (sym (div-div-eq-div-mul w (2 ^ b) (2 ^ d)) ∙ (ap (λ (x : ℕ). x / 2 ^ d) e ∙ zero-div (2 ^ d))))
-
-no-key : (ws : List ℕ) (k : ℕ) → bit (getD ws (k / 64) 0) (k % 64) ≡ 0 → has ws k ≡ false
-unfolding has
-no-key ws k e = rw e
 
 below-all : (ws : List ℕ) (n : ℕ) → ((k : ℕ) → k < wordCount * 64 → n ≤ k → has ws k ≡ false) → keysBelow ws n ≡ true
 below-all ws n h =
     every-below (λ k. not (has ws k) || ltb k n) (wordCount * 64) λ k l.
     by-test (ltb k n) (λ y. or-right (not (has ws k)) y) (λ y. or-left (ltb k n) (ap not (h k l (ltb-false k n y))))
-
-module _ (ws : List ℕ) (n : ℕ) {r : Bool} where
-  pub fit-first : n < 64 → getD ws 1 0 ≡ 0 → r ≡ eqb (getD ws 0 0 / 2 ^ n) 0 → r ≡ true → keysBelow ws n ≡ true
-  fit-first h z q y = below-all ws n λ k l m. no-key ws k (go k l m)
-    where
-      go : (k : ℕ) → k < wordCount * 64 → n ≤ k → bit (getD ws (k / 64) 0) (k % 64) ≡ 0
-      go k l m =
-          ⊎-elim
-          (λ b. let i : k / 64 ≡ 0 = omega arith in let j : k % 64 ≡ n + (k - n) = omega arith in rw (i, j) (no-bit (getD ws 0 0) n (k - n) (eqb-true _ 0 (sym q ∙ y))))
-          (λ b. let i : k / 64 ≡ 1 = omega arith in rw (i, z) (bit-zero (k % 64))) (below? k 64)
-
-  pub fit-second : 64 ≤ n → n < 128 → r ≡ eqb (getD ws 1 0 / 2 ^ (n - 64)) 0 → r ≡ true → keysBelow ws n ≡ true
-  fit-second h g q y = below-all ws n λ k l m. no-key ws k (go k l m)
-    where
-      go : (k : ℕ) → k < wordCount * 64 → n ≤ k → bit (getD ws (k / 64) 0) (k % 64) ≡ 0
-      go k l m =
-          let i : k / 64 ≡ 1 = omega arith in
-          let j : k % 64 ≡ (n - 64) + (k - n) = omega arith in
-          rw (i, j) (no-bit (getD ws 1 0) (n - 64) (k - n) (eqb-true _ 0 (sym q ∙ y)))
 
 -- the keys from n on are looked for
 module _ (ws : List ℕ) (n : ℕ) (f : Found) (e : foundOf f ≡ lowestFrom ws n) where
@@ -90,9 +58,6 @@ module _ (ws : List ℕ) (n : ℕ) (f : Found) (e : foundOf f ≡ lowestFrom ws 
       let b : ltb j n ≡ true = simp (lowest-key ws n s .is .passes) at a in
       absurd (let c = ltb-true j n b in let d = w .0 in omega arith))
       (λ t. sym t)
-
-pub keys-fit : {r b : Bool} → (r ≡ true → b ≡ true) → r ≡ true → true ≡ b
-keys-fit f y = sym (f y)
 
 -- ---- an event
 

@@ -1,41 +1,36 @@
 -- The state rules from their parts on rows. Assumes nothing.
-use mathlib.Core.Bool.{Bool, true, false, not, _&&_, _||_}
-use mathlib.Core.Path.{_≡_, refl, ap, _∙_, sym}
-use mathlib.Core.List.{List, [], _∷_, map}
+use mathlib.Core.Bool.{Bool, true, false, not, _&&_}
+use mathlib.Core.Path.{_≡_, refl, _∙_, sym}
+use mathlib.Core.List.{List, [], _∷_}
 use Prim.Native.Nat.{ℕ, zero, suc, _+_, _≤_, _<_}
 use native.Mathlib.Nat.{le-trans, min-eq-left}
 use native.Mathlib.Omega.{arith}
 use lib.Dec.{ltb, leb, eqb}
-use lib.ListN.{length, take, getD, length-take, length-map, List·getD-map}
+use lib.ListN.{length, take, length-take}
 use lib.Seq.{getD-take}
-use borrow.Author.Tests.{lt-leb, le-leb, eq-eqb, leb-true, ltb-true, not-true, not-false}
-use Rattle.lists.specs.Tests.{flag, flag-no, flag-yes, and-left, and-right, and-yes, and-no}
+use borrow.Author.Tests.{lt-leb, le-leb, eq-eqb, ltb-true, not-true, not-false}
+use Rattle.lists.specs.Tests.{flag-no, flag-yes, and-left, and-yes, and-no}
 use Rattle.lists.specs.Lists.{every, count, from}
-use Rattle.lists.specs.Every.{by-test, no-way}
+use Rattle.lists.specs.Every.{by-test}
 use Rattle.lists.specs.Held as H
 use Rattle.lists.specs.Loops.{front-long}
-use Rattle.rows.specs.Bytes.{Image}
-use Rattle.rows.specs.Limits.{limits}
-use Rattle.rows.specs.Kinds as K
+use Rattle.table_rows.specs.Bytes.{Image}
+use Rattle.table_rows.specs.Limits.{limits}
 use Rattle.table.specs.Check.{isTable}
-use Rattle.table.specs.Table.{Table}
-use Rattle.table.proofs.TableLaws.{count-most}
-use Rattle.kept.specs.Kept.{table-is}
-use Rattle.kept.specs.Stored.{empty-rules}
-use Rattle.tags.specs.Tags.{withinClock, freshClock, toGlobal}
-use Rattle.entries.specs.Entries.{roomForEntries, held-fits}
-use Rattle.store.specs.Store.{Store, storeRules, emptyStore}
+use Rattle.machine_rules_kept.specs.Stored.{empty-rules}
+use Rattle.tags.specs.Tags.{withinClock}
+use Rattle.store_words.specs.Entries.{roomForEntries, held-fits}
+use Rattle.store.specs.Store.{storeRules, emptyStore}
 use Rattle.store_rules.specs.Rules.{countedRules}
 use Rattle.machine.specs.Table.{scopes, reactors, actions, hasParent}
-use Rattle.machine.specs.State.{Event, State, root, ordinary, scopeIn, scopeAt, withStore, noState, withModes, withScopes, withQueue}
-use Rattle.machine.specs.Transition.{isTag}
+use Rattle.machine.specs.State.{Event, State, root, ordinary, scopeIn, scopeAt, noState, withModes, withScopes, withQueue}
 use Rattle.machine.specs.Machine.{modeRules, eventRules, queueRules, imageRules, scopeRules, sized, rules}
-use Rattle.slots.specs.Slots as slot
-use Rattle.slots.specs.Slots.{eventsOf, roomForEvents, waiting-fits}
-use Rattle.scopes.specs.Scopes as scope
-use Rattle.scopes.specs.Scopes.{Scope, mostScopes, scopesOf}
-use Rattle.lens.specs.Lens.{mostReactors}
-use Rattle.lens.specs.Holds.{most-scopes, most-reactors}
+use Rattle.state_events.specs.Slots as slot
+use Rattle.state_events.specs.Slots.{eventsOf, roomForEvents, waiting-fits}
+use Rattle.state_scopes.specs.Scopes as scope
+use Rattle.state_scopes.specs.Scopes.{Scope, mostScopes, scopesOf}
+use Rattle.state_room.specs.PartRows.{mostReactors}
+use Rattle.state_room.specs.Holds.{most-scopes, most-reactors}
 use Rattle.state_rules.specs.Sound.{stateOf, eventKeeps, scopesSound, queueSound, sound}
 
 -- ---- what a table's counts allow

@@ -5,17 +5,17 @@ use mathlib.Core.List.{List}
 use lib.Dec.{ltb, leb, eqb}
 use lib.ListN.{take}
 use Rattle.lists.specs.Lists.{every, count, from}
-use Rattle.rows.specs.Bytes.{Image}
-use Rattle.rows.specs.Limits.{limits}
+use Rattle.table_rows.specs.Bytes.{Image}
+use Rattle.table_rows.specs.Limits.{limits}
 use Rattle.tags.specs.Tags.{withinClock}
 use Rattle.key_set.specs.Sets.{has, wordCount}
 use Rattle.machine.specs.Table.{scopes, reactors, reactions, actions}
 use Rattle.machine.specs.State.{Event, Scope, State, ordinary, noState, withModes, withScopes, withQueue}
 use Rattle.machine.specs.Machine.{modeRules, scopeRules, eventRules, queueRules, imageRules, rules}
-use Rattle.slots.specs.Slots.{eventsOf}
-use Rattle.scopes.specs.Scopes.{scopesOf}
-use Rattle.lens.specs.declared.Counts.{Counts}
-use Rattle.lens.specs.Holds.{Rows, stateIn}
+use Rattle.state_events.specs.Slots.{eventsOf}
+use Rattle.state_scopes.specs.Scopes.{scopesOf}
+use Rattle.state_room.specs.declared.Counts.{Counts}
+use Rattle.state_room.specs.Holds.{Rows, stateIn}
 use Rattle.state_rules.specs.declared.Sizes.{Sizes}
 
 -- no more are counted than may be, and the state that is counted keeps the rules

@@ -1,7 +1,7 @@
 // The state rules on lent rows: document 01, "State rules", and 11, "the state handed in breaks a state rule".
 // A new rule comes in here beside the machine's `rules`; callers ask `keeps_rules` alone.
 ghost use mathlib.Core.Path.{_≡_};
-ghost use mathlib.Core.Bool.{true, _&&_};
+ghost use mathlib.Core.Bool.{_&&_};
 ghost use mathlib.Core.List.{map};
 ghost use Prim.Native.Nat.{_≤_};
 ghost use lib.Dec.{leb};
@@ -10,21 +10,21 @@ ghost use Rattle.lists.specs.Lists.{every, count, from};
 ghost use Rattle.tags.specs.Tags.{withinClock};
 ghost use Rattle.machine.specs.State.{ordinary};
 ghost use Rattle.machine.specs.Machine.{modeRules, scopeRules, eventRules, queueRules, imageRules};
-ghost use Rattle.rows.specs.Limits.{limits};
-ghost use Rattle.slots.specs.Slots.{eventsOf, eventOf, roomForEvents};
-ghost use Rattle.scopes.specs.Scopes.{mostScopes, scopesOf, blank};
-ghost use Rattle.lens.specs.Lens.{mostReactors};
-ghost use Rattle.lens.specs.Holds.{were};
+ghost use Rattle.table_rows.specs.Limits.{limits};
+ghost use Rattle.state_events.specs.Slots.{eventsOf, eventOf, roomForEvents};
+ghost use Rattle.state_scopes.specs.Scopes.{mostScopes, scopesOf, blank};
+ghost use Rattle.state_room.specs.PartRows.{mostReactors};
+ghost use Rattle.state_room.specs.Holds.{were};
 ghost use Rattle.lists.specs.Lent.{was};
 ghost use Rattle.state_rules.specs.Sound.{keysBelow, eventKeeps, sizesOf, scopesSound, queueSound, queueRulesIn, soundIn};
-use entries::BucketRows;
-use entries::ValueRows;
 use key_set::Found;
 use key_set::KeySet;
-use lens::Counts;
-use lens::Ledger;
-use lens::MOST_REACTORS;
-use slots::Slot;
+use state_events::Slot;
+use state_room::Counts;
+use state_room::Ledger;
+use state_room::MOST_REACTORS;
+use store_words::BucketRows;
+use store_words::ValueRows;
 use tags::MappedGlobal;
 
 // How many scopes, reactions and actions the table has.
@@ -37,9 +37,9 @@ struct Sizes {
 fn sizes_in(image: &[u8]) -> Sizes
     ensures { λ r. ⌜ r ≡ sizesOf (was image) ⌝ }
 {
-    let scopes = rows::count(image, rows::SCOPE);
-    let reactions = rows::count(image, rows::REACTION);
-    let actions = rows::count(image, rows::ACTION);
+    let scopes = table_rows::count(image, table_rows::SCOPE);
+    let reactions = table_rows::count(image, table_rows::REACTION);
+    let actions = table_rows::count(image, table_rows::ACTION);
     Sizes {
         scopes,
         reactions,
@@ -52,10 +52,10 @@ fn sizes_in(image: &[u8]) -> Sizes
 fn mode_exists(image: &[u8], m: u16) -> bool
     ensures { λ r. ⌜ r ≡ modeRules (was image) m ⌝ }
 {
-    if m == rows::NONE {
+    if m == table_rows::NONE {
         return true;
     }
-    let n = rows::count(image, rows::MODE);
+    let n = table_rows::count(image, table_rows::MODE);
     m < n
 }
 
@@ -75,13 +75,13 @@ fn modes_exist(image: &[u8], modes: &[u16]) -> bool
 
 // ---- scopes
 
-fn clocks_within(scopes: &[u64; scopes::ROOM], n: usize) -> bool
+fn clocks_within(scopes: &[u64; state_scopes::ROOM], n: usize) -> bool
     requires { ⌜ n ≤ mostScopes ⌝ }
     ensures { λ r. ⌜ r ≡ every (λ x. withinClock (x .clock)) (take n (scopesOf (was scopes))) ⌝ }
 {
     let mut i: usize = 0;
     while i < n {
-        let s = scopes::scope_at(scopes, i);
+        let s = state_scopes::scope_at(scopes, i);
         let clock = s.clock;
         i += 1;
         if clock.within() {} else {
@@ -92,11 +92,11 @@ fn clocks_within(scopes: &[u64; scopes::ROOM], n: usize) -> bool
 }
 
 // Scope i is active exactly if the modes say so, and counts as active before where it is.
-fn scope_keeps(image: &[u8], modes: &[u16], scopes: &[u64; scopes::ROOM], i: u16) -> bool
+fn scope_keeps(image: &[u8], modes: &[u16], scopes: &[u64; state_scopes::ROOM], i: u16) -> bool
     ensures { λ r. ⌜ r ≡ scopeRules (was image) (was modes) (scopesOf (was scopes)) i ⌝ }
 {
-    let s = scopes::scope_at(scopes, i as usize);
-    let current = schedule::is_active(image, modes, i);
+    let s = state_scopes::scope_at(scopes, i as usize);
+    let current = table_schedule::is_active(image, modes, i);
     if s.active {
         if current { s.ever } else { false }
     } else {
@@ -104,7 +104,7 @@ fn scope_keeps(image: &[u8], modes: &[u16], scopes: &[u64; scopes::ROOM], i: u16
     }
 }
 
-fn scopes_keep(image: &[u8], modes: &[u16], scopes: &[u64; scopes::ROOM], n: u16) -> bool
+fn scopes_keep(image: &[u8], modes: &[u16], scopes: &[u64; state_scopes::ROOM], n: u16) -> bool
     ensures { λ r. ⌜ r ≡ every (scopeRules (was image) (was modes) (scopesOf (was scopes))) (from 0 n) ⌝ }
 {
     let mut i: u16 = 0;
@@ -120,32 +120,10 @@ fn scopes_keep(image: &[u8], modes: &[u16], scopes: &[u64; scopes::ROOM], n: u16
 
 // ---- events
 
-// The words have no bit from n on: then no key is n or more.
-fn words_fit(set: KeySet, n: u16) -> bool
-    ensures { λ r. ⌜ (r ≡ true → keysBelow (set .words) n ≡ true) ⌝ }
-{
-    let words = set.words;
-    let first = words[0];
-    let second = words[1];
-    if n < 64 {
-        if second == 0 {
-            return first >> n == 0;
-        }
-        return false;
-    }
-    if n < 128 {
-        return second >> (n - 64) == 0;
-    }
-    false
-}
-
-// Every key of the set is below n; where the words alone don't tell it, the keys from n on are looked for.
+// Every key of the set is below n: there is none from n on.
 fn keys_exist(set: KeySet, n: u16) -> bool
     ensures { λ r. ⌜ r ≡ keysBelow (set .words) n ⌝ }
 {
-    if words_fit(set, n) {
-        return true;
-    }
     match set.lowest_from(n as usize) {
         Found::Key(_) => false,
         Found::Nothing => true,
@@ -166,7 +144,7 @@ fn is_proper(image: &[u8], z: Sizes, s: Slot) -> bool
     if !keys_exist(set, z.reactions) {
         return false;
     }
-    if s.action == slots::NONE {
+    if s.action == state_events::NONE {
         return true;
     }
     if z.actions <= s.action {
@@ -180,24 +158,24 @@ fn has_queue(image: &[u8], z: Sizes, s: Slot) -> bool
     requires { ⌜ z ≡ sizesOf (now image) ⌝ }
     ensures { λ r. ⌜ r ≡ queueRules (was image) (eventOf s) ⌝ }
 {
-    if s.queue == slots::NONE {
+    if s.queue == state_events::NONE {
         return true;
     }
     if z.scopes <= s.queue {
         return false;
     }
-    let above = rows::parent(image, s.queue);
-    above != rows::NONE
+    let above = table_rows::parent(image, s.queue);
+    above != table_rows::NONE
 }
 
 // An event in an active scope maps within limits.
-fn has_image(scopes: &[u64; scopes::ROOM], s: Slot) -> bool
+fn has_image(scopes: &[u64; state_scopes::ROOM], s: Slot) -> bool
     ensures { λ r. ⌜ r ≡ imageRules (scopesOf (was scopes)) (eventOf s) ⌝ }
 {
-    if s.queue == slots::NONE {
+    if s.queue == state_events::NONE {
         return true;
     }
-    let x = scopes::scope_at(scopes, s.queue as usize);
+    let x = state_scopes::scope_at(scopes, s.queue as usize);
     let clock = x.clock;
     if x.active {
         let local = s.tag.as_local();
@@ -210,7 +188,7 @@ fn has_image(scopes: &[u64; scopes::ROOM], s: Slot) -> bool
     }
 }
 
-fn event_keeps(image: &[u8], z: Sizes, scopes: &[u64; scopes::ROOM], s: Slot) -> bool
+fn event_keeps(image: &[u8], z: Sizes, scopes: &[u64; state_scopes::ROOM], s: Slot) -> bool
     requires { ⌜ z ≡ sizesOf (now image) ⌝ }
     ensures { λ r. ⌜ r ≡ eventKeeps (was image) (scopesOf (was scopes)) (eventOf s) ⌝ }
 {
@@ -224,8 +202,8 @@ fn event_keeps(image: &[u8], z: Sizes, scopes: &[u64; scopes::ROOM], s: Slot) ->
 
 fn events_keep(
     image: &[u8],
-    scopes: &[u64; scopes::ROOM],
-    events: &[u64; slots::ROOM],
+    scopes: &[u64; state_scopes::ROOM],
+    events: &[u64; state_events::ROOM],
     n: usize,
 ) -> bool
     requires { ⌜ n ≤ roomForEvents ⌝ }
@@ -234,7 +212,7 @@ fn events_keep(
     let z = sizes_in(image);
     let mut i: usize = 0;
     while i < n {
-        let s = slots::slot_at(events, i);
+        let s = state_events::slot_at(events, i);
         i += 1;
         if event_keeps(image, z, scopes, s) {} else {
             return false;
@@ -244,7 +222,7 @@ fn events_keep(
 }
 
 // How many of the events are ordinary.
-fn ordinary_work(events: &[u64; slots::ROOM], n: usize) -> usize
+fn ordinary_work(events: &[u64; state_events::ROOM], n: usize) -> usize
     requires { ⌜ n ≤ roomForEvents ⌝ }
     ensures { λ r. ⌜ r ≡ count ordinary (take n (eventsOf (was events))) ⌝ }
 {
@@ -252,7 +230,7 @@ fn ordinary_work(events: &[u64; slots::ROOM], n: usize) -> usize
     let mut i = n;
     while 0 < i {
         i -= 1;
-        let s = slots::slot_at(events, i);
+        let s = state_events::slot_at(events, i);
         if s.is_ordinary() {
             work += 1;
         }
@@ -262,7 +240,7 @@ fn ordinary_work(events: &[u64; slots::ROOM], n: usize) -> usize
 
 // ---- all but the store's
 
-fn scopes_sound(image: &[u8], modes: &[u16], scopes: &[u64; scopes::ROOM], n: u16) -> bool
+fn scopes_sound(image: &[u8], modes: &[u16], scopes: &[u64; state_scopes::ROOM], n: u16) -> bool
     requires { ⌜ n ≤ mostScopes ⌝ }
     ensures { λ r. ⌜ r ≡ scopesSound (was image) (was modes) (scopesOf (was scopes)) n ⌝ }
 {
@@ -277,8 +255,8 @@ fn scopes_sound(image: &[u8], modes: &[u16], scopes: &[u64; scopes::ROOM], n: u1
 
 fn queue_sound(
     image: &[u8],
-    scopes: &[u64; scopes::ROOM],
-    events: &[u64; slots::ROOM],
+    scopes: &[u64; state_scopes::ROOM],
+    events: &[u64; state_events::ROOM],
     counts: Counts,
 ) -> bool
     requires { ⌜ counts .waiting ≤ roomForEvents ⌝ }
@@ -296,23 +274,23 @@ fn queue_sound(
 fn queue_rules(
     image: &[u8],
     modes: &[u16; MOST_REACTORS],
-    scopes: &[u64; scopes::ROOM],
-    events: &[u64; slots::ROOM],
+    scopes: &[u64; state_scopes::ROOM],
+    events: &[u64; state_events::ROOM],
     counts: Counts,
 ) -> bool
     requires { ⌜ length (now modes) ≡ mostReactors ⌝ }
     ensures { λ r. ⌜ r ≡ (leb (counts .waiting) (limits (was image) .waiting) && queueRulesIn (was image) (was modes) (was scopes) (was events) counts) ⌝ }
 {
     let waiting = counts.waiting;
-    let limit = rows::most_waiting(image);
+    let limit = table_rows::most_waiting(image);
     if limit < waiting {
         return false;
     }
     if !table::accepted(image) {
         return false;
     }
-    let scope_count = rows::count(image, rows::SCOPE);
-    let reactors = rows::count(image, rows::REACTOR) as usize;
+    let scope_count = table_rows::count(image, table_rows::SCOPE);
+    let reactors = table_rows::count(image, table_rows::REACTOR) as usize;
     let all = *modes;
     if !scopes_sound(image, &all[..reactors], scopes, scope_count) {
         return false;
@@ -325,8 +303,8 @@ fn queue_rules(
 // The state handed in keeps the state rules.
 pub fn keeps_rules(
     image: &[u8],
-    scopes: &[u64; scopes::ROOM],
-    events: &[u64; slots::ROOM],
+    scopes: &[u64; state_scopes::ROOM],
+    events: &[u64; state_events::ROOM],
     values: &ValueRows,
     buckets: &BucketRows,
     ledger: Ledger,
@@ -339,7 +317,7 @@ pub fn keeps_rules(
     if !queue_rules(image, &modes, scopes, events, counts) {
         return false;
     }
-    let limit = rows::most_held(image);
-    let actions = rows::count(image, rows::ACTION);
+    let limit = table_rows::most_held(image);
+    let actions = table_rows::count(image, table_rows::ACTION);
     store_rules::keeps_rules(values, buckets, held, limit, actions)
 }

@@ -1,12 +1,12 @@
 -- The cases of the store's tests, each in the form of the code's goal. Assumes nothing.
-use mathlib.Core.Bool.{Bool, true, false, not, _&&_, _||_}
-use mathlib.Core.Path.{_≡_, refl, ap, _∙_, sym}
+use mathlib.Core.Bool.{Bool, true, false, not}
+use mathlib.Core.Path.{_≡_, refl, _∙_, sym}
 use Prim.Native.Nat.{ℕ}
 use lib.Dec.{eqb, leb}
 use Rattle.tags.specs.Tags.{Tag}
 use Rattle.tags.specs.Views.{ofGlobal}
 use Rattle.tags.specs.declared.GlobalTag.{GlobalTag}
-use Rattle.entries.specs.Entries.{Value, Bucket}
+use Rattle.store_words.specs.Entries.{Value, Bucket}
 use Rattle.store.specs.Store.{isValue, isBucket, isBefore, isThere, isSpent, following, larger, raised, ofAction, bucketOf, coveredBy, valueRules, bucketRules}
 use Rattle.store.specs.Views.{valueTest, bucketTest}
 use Rattle.store.specs.declared.ValueTest.{ValueTest}

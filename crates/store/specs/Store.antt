@@ -1,6 +1,6 @@
 -- Document 01, "Values and level walks", first part: values under action and tag, buckets under action and offset. Assumes nothing.
 use Prim.Native.Nat.{ℕ, _+_}
-use mathlib.Core.Bool.{Bool, true, false, cond, not, _&&_, _||_}
+use mathlib.Core.Bool.{Bool, cond, not, _&&_, _||_}
 use mathlib.Core.List.{List, [], _∷_}
 use lib.Dec.{ltb, leb, eqb}
 use lib.ListN.{length}
@@ -8,7 +8,7 @@ use Rattle.lists.specs.Lists.{lose, any, every, distinct, upsert}
 use Rattle.lists.specs.Walk.{Result, done, refused}
 use Rattle.refusals.specs.declared.Refusal.{Refusal}
 use Rattle.refusals.specs.declared.Refusal.the-variants as R
-use Rattle.entries.specs.Entries.{Value, Bucket}
+use Rattle.store_words.specs.Entries.{Value, Bucket}
 use Rattle.tags.specs.Tags.{Tag, at, maxMicrostep, within, sameTag, earlier}
 
 pub record Store : Type 0 where

@@ -3,7 +3,7 @@ use mathlib.Core.Bool.{Bool, not}
 use mathlib.Core.List.{List}
 use Rattle.lists.specs.Lists.{upsert}
 use Rattle.tags.specs.Views.{ofGlobal}
-use Rattle.entries.specs.Entries.{Value, Bucket}
+use Rattle.store_words.specs.Entries.{Value, Bucket}
 use Rattle.store.specs.Store.{overwritten, raised, isValue, isBucket, isBefore, isThere, isSpent, ofAction, bucketOf, coveredBy, valueRules, bucketRules}
 use Rattle.store.specs.declared.ValueTest.{ValueTest}
 use Rattle.store.specs.declared.ValueTest.the-variants as VT

@@ -6,15 +6,15 @@ ghost use lib.ListN.{length, take, drop};
 ghost use Rattle.lists.specs.Lists.{lose, over};
 ghost use Rattle.lists.specs.Lay.{lay};
 ghost use Rattle.tags.specs.Views.{ofGlobal};
-ghost use Rattle.entries.specs.Entries.{roomForEntries, ofValue, ofBucket, blankValue, blankBucket};
-ghost use Rattle.entries.specs.Words.{valuesOf, bucketsOf, WholeValues, WholeBuckets, HeldValues, HeldBuckets};
+ghost use Rattle.store_words.specs.Entries.{roomForEntries, ofValue, ofBucket, blankValue, blankBucket};
+ghost use Rattle.store_words.specs.Words.{valuesOf, bucketsOf, WholeValues, WholeBuckets, HeldValues, HeldBuckets};
 ghost use Rattle.lists.specs.Loops.{place};
 ghost use Rattle.store.specs.Store.{isValue, isBucket, isBefore, isThere, isSpent, following, larger, raised, valueRules, bucketRules, coveredBy};
 ghost use Rattle.store.specs.Views.{valueTest, bucketTest, valuePut, bucketPut};
-use entries::Bucket;
-use entries::BucketRows;
-use entries::Value;
-use entries::ValueRows;
+use store_words::Bucket;
+use store_words::BucketRows;
+use store_words::Value;
+use store_words::ValueRows;
 use tags::GlobalTag;
 
 // Which values are meant.
@@ -185,7 +185,7 @@ pub fn value_from(rows: &ValueRows, from: usize, n: usize, which: ValueTest) -> 
 {
     let mut i = from;
     while i < n {
-        let v = entries::value_at(rows, i);
+        let v = store_words::value_at(rows, i);
         if which.passes(v) {
             return i;
         }
@@ -201,7 +201,7 @@ pub fn bucket_from(rows: &BucketRows, from: usize, n: usize, which: BucketTest) 
 {
     let mut i = from;
     while i < n {
-        let b = entries::bucket_at(rows, i);
+        let b = store_words::bucket_at(rows, i);
         if which.passes(b) {
             return i;
         }
@@ -235,10 +235,10 @@ fn compact_values(rows: &mut ValueRows, n: usize, which: ValueTest) -> usize
     let mut w: usize = 0;
     let mut i: usize = 0;
     while i < n {
-        let v = entries::value_at(rows, i);
+        let v = store_words::value_at(rows, i);
         i += 1;
         if which.passes(v) {} else {
-            entries::put_value(rows, w, v);
+            store_words::put_value(rows, w, v);
             w += 1;
         }
     }
@@ -255,10 +255,10 @@ fn compact_buckets(rows: &mut BucketRows, n: usize, which: BucketTest) -> usize
     let mut w: usize = 0;
     let mut i: usize = 0;
     while i < n {
-        let b = entries::bucket_at(rows, i);
+        let b = store_words::bucket_at(rows, i);
         i += 1;
         if which.passes(b) {} else {
-            entries::put_bucket(rows, w, b);
+            store_words::put_bucket(rows, w, b);
             w += 1;
         }
     }
@@ -266,7 +266,7 @@ fn compact_buckets(rows: &mut BucketRows, n: usize, which: BucketTest) -> usize
 }
 
 // The rows from w to n blank.
-fn blank_values(rows: &mut ValueRows, w: usize, n: usize)
+pub fn blank_values(rows: &mut ValueRows, w: usize, n: usize)
     requires { ⌜ WholeValues (now rows) ⌝ }
     requires { ⌜ (w ≤ n) × (n ≤ roomForEntries) ⌝ }
     ensures { λ _. ⌜ HeldValues (now (rows .exit)) (lay blankValue (valuesOf (now (rows .entry))) (take w (valuesOf (now (rows .entry)))) n) ⌝ }
@@ -274,12 +274,12 @@ fn blank_values(rows: &mut ValueRows, w: usize, n: usize)
     let v = Value::blank();
     let mut i = w;
     while i < n {
-        entries::put_value(rows, i, v);
+        store_words::put_value(rows, i, v);
         i += 1;
     }
 }
 
-fn blank_buckets(rows: &mut BucketRows, w: usize, n: usize)
+pub fn blank_buckets(rows: &mut BucketRows, w: usize, n: usize)
     requires { ⌜ WholeBuckets (now rows) ⌝ }
     requires { ⌜ (w ≤ n) × (n ≤ roomForEntries) ⌝ }
     ensures { λ _. ⌜ HeldBuckets (now (rows .exit)) (lay blankBucket (bucketsOf (now (rows .entry))) (take w (bucketsOf (now (rows .entry)))) n) ⌝ }
@@ -287,7 +287,7 @@ fn blank_buckets(rows: &mut BucketRows, w: usize, n: usize)
     let b = Bucket::blank();
     let mut i = w;
     while i < n {
-        entries::put_bucket(rows, i, b);
+        store_words::put_bucket(rows, i, b);
         i += 1;
     }
 }
@@ -326,12 +326,12 @@ pub fn set_value(rows: &mut ValueRows, n: usize, i: usize, v: Value) -> usize
     ensures { λ _. ⌜ HeldValues (now (rows .exit)) (lay blankValue (valuesOf (now (rows .entry))) (valuePut (ofValue v) (take n (valuesOf (now (rows .entry))))) n) ⌝ }
 {
     if i < n {
-        let mut old = entries::value_at(rows, i);
+        let mut old = store_words::value_at(rows, i);
         old.value = v.value;
-        entries::put_value(rows, i, old);
+        store_words::put_value(rows, i, old);
         return n;
     }
-    entries::put_value(rows, n, v);
+    store_words::put_value(rows, n, v);
     n + 1
 }
 
@@ -353,10 +353,10 @@ pub fn raise_bucket(rows: &mut BucketRows, n: usize, i: usize, b: Bucket) -> usi
     ensures { λ _. ⌜ HeldBuckets (now (rows .exit)) (lay blankBucket (bucketsOf (now (rows .entry))) (bucketPut (ofBucket b) (take n (bucketsOf (now (rows .entry))))) n) ⌝ }
 {
     if i < n {
-        let old = entries::bucket_at(rows, i);
-        entries::put_bucket(rows, i, raised_to(old, b.next));
+        let old = store_words::bucket_at(rows, i);
+        store_words::put_bucket(rows, i, raised_to(old, b.next));
         return n;
     }
-    entries::put_bucket(rows, n, b);
+    store_words::put_bucket(rows, n, b);
     n + 1
 }

@@ -1,27 +1,24 @@
 -- What each call leaves in the rows that it is lent, from what its parts promise. Assumes nothing.
-use mathlib.Core.Bool.{Bool, true, false, cond, not, _&&_, _||_}
+use mathlib.Core.Bool.{Bool, true, false, cond, _||_}
 use mathlib.Core.Path.{_≡_, refl, ap, _∙_, sym}
 use mathlib.Core.List.{List, [], _∷_}
 use Prim.Native.Nat.{ℕ, suc, _<_, _≤_, max}
 use native.Mathlib.Omega.{arith}
 use lib.Dec.{ltb, leb}
-use borrow.Author.Tests.{le-leb, lt-leb, lt-ltb, le-ltb}
+use borrow.Author.Tests.{le-leb, lt-leb}
 use lib.ListN.{length, take, getD}
 use lib.Seq.{getD-take}
 use Rattle.lists.specs.Lists.{lose, any, lose-shorter}
 use Rattle.lists.specs.Lay.{lay, lay-same, lay-take, lay-lay}
 use Rattle.lists.specs.Held.{things-length}
-use Rattle.lists.specs.Walk.{Result, done, refused}
-use Rattle.refusals.specs.declared.Refusal.{Refusal}
+use Rattle.lists.specs.Walk.{done, refused}
 use Rattle.refusals.specs.declared.Refusal.the-variants as R
 use Rattle.tags.specs.Tags.{Tag, sameTag}
-use Rattle.tags.specs.Views.{ofGlobal}
-use Rattle.tags.specs.declared.GlobalTag.{GlobalTag}
-use Rattle.entries.specs.Entries.{Value, Bucket, roomForEntries, blankValue, blankBucket}
-use Rattle.entries.specs.Words.{valuesOf, bucketsOf, HeldValues, HeldBuckets, decodeValue, encodeValue, valueWords, long-value, decodeBucket, encodeBucket, bucketWords, long-bucket}
-use Rattle.lists.specs.Loops.{place, place-any, place-full, place-here, place-next, place-short, lose-none, lose-fewer, front-long}
-use Rattle.store.specs.Store.{Store, isValue, isBucket, isThere, isSpent, isBefore, following, larger, raised, lacks, pushed, Found}
-use Rattle.store.specs.Store.{nothing, found, nextIn, valueIn, atLeast, unlessLast, taken, clearedBefore, cleared, moved}
+use Rattle.store_words.specs.Entries.{Value, Bucket, roomForEntries, blankValue, blankBucket}
+use Rattle.store_words.specs.Words.{valuesOf, bucketsOf, HeldValues, HeldBuckets, decodeValue, encodeValue, valueWords, long-value, decodeBucket, encodeBucket, bucketWords, long-bucket}
+use Rattle.lists.specs.Loops.{place, place-any, place-full, place-short, lose-none, lose-fewer, front-long}
+use Rattle.store.specs.Store.{Store, isValue, isBucket, isThere, isSpent, isBefore, following, larger, lacks, pushed, Found}
+use Rattle.store.specs.Store.{nothing, found, nextIn, valueIn, atLeast, unlessLast, taken, clearedBefore, moved}
 use Rattle.store.specs.Views.{valuePut, bucketPut}
 use Rattle.store_calls.specs.Lent.{storeOf, Lent, Laid, Did, overfull}
 use Rattle.store_calls.specs.declared.Counts.{Counts}

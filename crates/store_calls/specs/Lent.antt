@@ -7,8 +7,8 @@ use Rattle.lists.specs.Lay.{lay}
 use Rattle.lists.specs.Walk.{Result, done, refused}
 use Rattle.refusals.specs.declared.Refusal.{Refusal}
 use Rattle.refusals.specs.declared.Refusal.the-variants as R
-use Rattle.entries.specs.Entries.{roomForEntries, blankValue, blankBucket}
-use Rattle.entries.specs.Words.{valuesOf, bucketsOf, WholeValues, WholeBuckets, HeldValues, HeldBuckets}
+use Rattle.store_words.specs.Entries.{roomForEntries, blankValue, blankBucket}
+use Rattle.store_words.specs.Words.{valuesOf, bucketsOf, WholeValues, WholeBuckets, HeldValues, HeldBuckets}
 use Rattle.store.specs.Store as S
 use Rattle.store.specs.Store.{Store}
 use Rattle.store_calls.specs.declared.Counts.{Counts}

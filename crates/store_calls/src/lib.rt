@@ -6,18 +6,18 @@ ghost use Prim.Native.Nat.{_≤_};
 ghost use lib.ListN.{take};
 ghost use Rattle.lists.specs.Lent.{was, is};
 ghost use Rattle.tags.specs.Views.{ofGlobal};
-ghost use Rattle.entries.specs.Entries.{roomForEntries};
-ghost use Rattle.entries.specs.Words.{valuesOf, bucketsOf};
+ghost use Rattle.store_words.specs.Entries.{roomForEntries};
+ghost use Rattle.store_words.specs.Words.{valuesOf, bucketsOf};
 ghost use Rattle.store.specs.Store.{pushed, nextIn, atLeast, unlessLast, valueIn, taken, clearedBefore, cleared, moved};
 ghost use Rattle.store_calls.specs.Lent.{storeOf, Lent, Laid, Did, foundOf, nextOf, overfull};
-use entries::Bucket;
-use entries::BucketRows;
-use entries::Value;
-use entries::ValueRows;
 use refusals::Outcome;
 use refusals::Refusal;
 use store::BucketTest;
 use store::ValueTest;
+use store_words::Bucket;
+use store_words::BucketRows;
+use store_words::Value;
+use store_words::ValueRows;
 use tags::GlobalTag;
 
 // How many values and buckets are held.
@@ -132,7 +132,7 @@ pub fn next_microstep(buckets: &BucketRows, n: usize, action: u16, offset: u64, 
     if n <= j {
         return unless_last(least);
     }
-    let b = entries::bucket_at(buckets, j);
+    let b = store_words::bucket_at(buckets, j);
     unless_last(store::larger_of(b.next, least))
 }
 
@@ -156,7 +156,7 @@ pub fn take(
             held: held,
         };
     }
-    let v = entries::value_at(values, i);
+    let v = store_words::value_at(values, i);
     let left = store::lose_values(values, n, ValueTest::At(action, tag));
     Taken {
         found: Found::Value(v.value),
@@ -236,7 +236,7 @@ pub fn move_value(
     if limit <= j {
         return full(held);
     }
-    let v = entries::value_at(values, i);
+    let v = store_words::value_at(values, i);
     let left = store::lose_values(values, n, ValueTest::At(action, old));
     let less = Counts {
         values: left,

@@ -1,8 +1,7 @@
 -- Every accepted call keeps the state rules that speak of values and buckets. Assumes nothing.
-use mathlib.Core.Bool.{Bool, true, false, cond, not, _&&_, _||_}
-use mathlib.Core.Path.{_≡_, refl, ap, _∙_, sym}
-use mathlib.Core.List.{List, [], _∷_}
-use Prim.Native.Nat.{ℕ, _+_, _<_, _≤_}
+use mathlib.Core.Bool.{Bool, true, false, not, _&&_, _||_}
+use mathlib.Core.Path.{_≡_, refl, ap, _∙_}
+use Prim.Native.Nat.{ℕ, _+_, _≤_}
 use native.Mathlib.Omega.{arith}
 use lib.Dec.{ltb, leb, eqb}
 use lib.ListN.{length}
@@ -12,7 +11,7 @@ use Rattle.lists.specs.Lists.{lose, any, every, distinct, upsert, lose-shorter}
 use Rattle.lists.specs.Walk.{Result, done, refused}
 use Rattle.refusals.specs.declared.Refusal.{Refusal}
 use Rattle.tags.specs.Tags.{Tag, at, maxMicrostep, maxOffset, within, sameTag, earlier}
-use Rattle.entries.specs.Entries.{Value, Bucket}
+use Rattle.store_words.specs.Entries.{Value, Bucket}
 use Rattle.store.specs.Store.{Store, emptyStore, isValue, isBucket, isBefore, isThere, isSpent, ofAction, bucketOf, following, larger, raised, overwritten, lacks, pushed, Found, nothing}
 use Rattle.store.specs.Store.{found, valueIn, taken, pushFound, moved, cleared, clearedBefore, coveredBy, hasBucket, valueRules, bucketRules, sameValue, sameBucket, storeRules}
 use Rattle.lists.specs.Changes.{no-way, or-no-left, or-no-right, not-no, by-test, either-is, any-upsert-more, any-upsert-new, every-upsert}

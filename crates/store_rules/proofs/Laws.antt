@@ -1,5 +1,5 @@
 -- The store's rules from what the loops over rows promise. Assumes nothing.
-use mathlib.Core.Bool.{Bool, true, false, not, _&&_, _||_}
+use mathlib.Core.Bool.{Bool, true, false, not, _&&_}
 use mathlib.Core.Path.{_≡_, refl, ap, _∙_, sym}
 use mathlib.Core.List.{List, [], _∷_}
 use Prim.Native.Nat.{ℕ, _+_, _-_, _<_, _≤_}
@@ -8,18 +8,18 @@ use lib.Dec.{ltb, leb, eqb}
 use borrow.Author.Tests.{le-leb, lt-leb, leb-true, leb-false, eqb-true, eqb-false, eq-eqb, ne-eqb}
 use lib.ListN.{length, take, drop, getD, length-drop}
 use lib.Seq.{getD-take}
-use Rattle.lists.specs.Tests.{and-left, and-right, flag, flag-yes, flag-no}
+use Rattle.lists.specs.Tests.{and-left, and-right, flag-yes, flag-no}
 use Rattle.lists.specs.Lists.{any, every, distinct, any-at}
 use Rattle.lists.specs.Held.{thingsOf}
-use Rattle.tags.specs.Tags.{Tag, sameTag}
-use Rattle.entries.specs.Entries.{Value, Bucket, roomForEntries, blankValue, blankBucket}
-use Rattle.entries.specs.Words.{valuesOf, bucketsOf, decodeValue, encodeValue, valueWords, long-value, decodeBucket, encodeBucket, bucketWords, long-bucket}
+use Rattle.tags.specs.Tags.{sameTag}
+use Rattle.store_words.specs.Entries.{Value, Bucket, roomForEntries, blankValue, blankBucket}
+use Rattle.store_words.specs.Words.{valuesOf, bucketsOf, decodeValue, encodeValue, valueWords, long-value, decodeBucket, encodeBucket, bucketWords, long-bucket}
 use Rattle.lists.specs.Loops.{place, place-any, front-long, test-on, test-fails, test-all}
-use Rattle.store.specs.Store.{Store, isValue, isBucket, sameValue, sameBucket, hasBucket, coveredBy, valueRules, bucketRules, storeRules}
+use Rattle.store.specs.Store.{isValue, isBucket, sameValue, sameBucket, hasBucket, coveredBy, valueRules, bucketRules, storeRules}
 use Rattle.store_calls.specs.Lent.{storeOf}
 use Rattle.store_calls.specs.declared.Counts.{Counts}
 use Rattle.lists.specs.Marks.{any-same, every-not, place-not, marked, marked-new}
-use Rattle.store_rules.specs.Rules.{slotOf, valueSlot, bucketSlot, countedRules}
+use Rattle.store_rules.specs.Rules.{valueSlot, bucketSlot, countedRules}
 
 -- ---- one key is as like another as the other is like it, and then their slots are one
 

@@ -2,7 +2,7 @@
 use Prim.Native.Nat.{ℕ, _+_, _*_, _%_}
 use mathlib.Core.Bool.{Bool, _&&_}
 use lib.Dec.{leb}
-use Rattle.entries.specs.Entries.{Value, Bucket}
+use Rattle.store_words.specs.Entries.{Value, Bucket}
 use Rattle.store.specs.Store.{Store, storeRules}
 
 -- no more are counted than may be held, and the store that is counted keeps the rules

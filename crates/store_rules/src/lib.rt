@@ -6,19 +6,19 @@ ghost use mathlib.Core.Bool.{true, not};
 ghost use Prim.Native.Nat.{_+_, _≤_, _<_};
 ghost use lib.ListN.{take, drop};
 ghost use Rattle.lists.specs.Lists.{any, every, distinct};
-ghost use Rattle.entries.specs.Entries.{roomForEntries, ofValue, ofBucket};
-ghost use Rattle.entries.specs.Words.{valuesOf, bucketsOf};
+ghost use Rattle.store_words.specs.Entries.{roomForEntries, ofValue, ofBucket};
+ghost use Rattle.store_words.specs.Words.{valuesOf, bucketsOf};
 ghost use Rattle.store.specs.Store.{valueRules, bucketRules, sameValue, sameBucket, hasBucket};
 ghost use Rattle.store_calls.specs.Lent.{storeOf};
 ghost use Rattle.lists.specs.Marks.{marked};
 ghost use Rattle.store_rules.specs.Rules.{slots, slotOf, valueSlot, bucketSlot, countedRules};
-use entries::Bucket;
-use entries::BucketRows;
-use entries::Value;
-use entries::ValueRows;
 use store::BucketTest;
 use store::ValueTest;
 use store_calls::Counts;
+use store_words::Bucket;
+use store_words::BucketRows;
+use store_words::Value;
+use store_words::ValueRows;
 
 const SLOTS: usize = 4096;
 
@@ -79,7 +79,7 @@ fn values_differ(rows: &ValueRows, n: usize) -> bool
     let mut seen = [false; SLOTS];
     let mut i = n;
     while 0 < i {
-        let v = entries::value_at(rows, i - 1);
+        let v = store_words::value_at(rows, i - 1);
         let h = slot_of(v.action, v.tag.0, v.tag.1);
         if is_new_value(&seen, h, rows, i, n, v) {
             seen[h] = true;
@@ -99,7 +99,7 @@ fn buckets_differ(rows: &BucketRows, n: usize) -> bool
     let mut seen = [false; SLOTS];
     let mut i = n;
     while 0 < i {
-        let b = entries::bucket_at(rows, i - 1);
+        let b = store_words::bucket_at(rows, i - 1);
         let h = slot_of(b.action, b.offset, 0);
         if is_new_bucket(&seen, h, rows, i, n, b) {
             seen[h] = true;
@@ -123,7 +123,7 @@ fn note_buckets(places: &mut [u16; SLOTS], rows: &BucketRows, n: usize)
 {
     let mut i: usize = 0;
     while i < n {
-        let b = entries::bucket_at(rows, i);
+        let b = store_words::bucket_at(rows, i);
         let h = slot_of(b.action, b.offset, 0);
         places[h] = i as u16;
         i += 1;
@@ -138,7 +138,7 @@ fn is_noted(places: &[u16; SLOTS], rows: &BucketRows, n: usize, v: Value) -> boo
     let h = slot_of(v.action, v.tag.0, 0);
     let j = wide(places[h]);
     if j < n {
-        let b = entries::bucket_at(rows, j);
+        let b = store_words::bucket_at(rows, j);
         return store::is_cover(b, v.action, v.tag);
     }
     false
@@ -163,7 +163,7 @@ fn all_covered(values: &ValueRows, n: usize, buckets: &BucketRows, m: usize) -> 
     note_buckets(&mut places, buckets, m);
     let mut i: usize = 0;
     while i < n {
-        let v = entries::value_at(values, i);
+        let v = store_words::value_at(values, i);
         i += 1;
         if has_bucket(&places, buckets, m, v) {} else {
             return false;

@@ -6,11 +6,11 @@
 ghost use mathlib.Core.Path.{_≡_};
 ghost use Prim.Native.Nat.{_<_, _≤_};
 ghost use lib.ListN.{length};
-use entries::Bucket;
-use entries::ROOM_FOR_ENTRIES;
-use entries::Value;
 use libc::STDIN_FILENO;
 use libc::STDOUT_FILENO;
+use store_words::Bucket;
+use store_words::ROOM_FOR_ENTRIES;
+use store_words::Value;
 use tags::GlobalTag;
 use value_store::Answer;
 use value_store::Answered;

@@ -8,12 +8,12 @@ use lib.ListN.{length}
 use borrow.Author.Tests.{lt-ltb, le-ltb, le-leb, lt-leb, eq-eqb, ne-eqb}
 use Rattle.lists.specs.Tests.{flag, flag-no, flag-yes}
 use Rattle.tags.specs.Tags.{at, within}
-use Rattle.rows.specs.Bytes.{Image, be}
-use Rattle.rows.specs.Kinds.{kindOf, kindCount, headBytes, count, countPlace, place, scope, reactor, mode, reaction, action, timer}
-use Rattle.rows.specs.Limits.{most}
-use Rattle.rows.specs.Rows.{none, rowPlace, parent, scopeReactor, scopeMode, rootScope, initialMode, modeScope, timerOffset, timerMicrostep}
-use Rattle.rows.specs.Lineage.{under}
-use Rattle.rows.specs.declared.Kind.{Kind}
+use Rattle.table_rows.specs.Bytes.{Image, be}
+use Rattle.table_rows.specs.Kinds.{kindOf, kindCount, headBytes, count, countPlace, place, scope, reactor, mode, reaction, action, timer}
+use Rattle.table_rows.specs.Limits.{most}
+use Rattle.table_rows.specs.Rows.{none, rowPlace, parent, scopeReactor, scopeMode, rootScope, initialMode, modeScope, timerOffset, timerMicrostep}
+use Rattle.table_rows.specs.Lineage.{under}
+use Rattle.table_rows.specs.declared.Kind.{Kind}
 use Rattle.lists.specs.Steps.{and-pass, and-stop}
 use Rattle.table.specs.Rules.{parentRule, agrees, scopeRule, initialRule, reactorRule, modeRule, reactionRule, actionRule, timerRule, ownRule, keysExist, rowRule}
 use Rattle.table.specs.Check.{version, wrongLength, countFits, badCount, badRow, kindFits, badKind, checkRows, check}

@@ -7,11 +7,11 @@ use native.Mathlib.Omega.{arith}
 use lib.ListN.{length, getD}
 use Rattle.lists.specs.Lists.{every}
 use Rattle.lists.specs.Scan.{scan}
-use Rattle.rows.specs.Bytes.{Image, be}
-use Rattle.rows.specs.Kinds.{kinds, kindOf, kindCount, headBytes, count, countPlace, place, largest}
-use Rattle.rows.specs.Limits.{versions, limits, most, limits-fit}
-use Rattle.rows.specs.Rows.{rowPlace, field}
-use Rattle.rows.specs.declared.Limits.{Limits}
+use Rattle.table_rows.specs.Bytes.{Image, be}
+use Rattle.table_rows.specs.Kinds.{kinds, kindOf, kindCount, headBytes, count, countPlace, place, largest}
+use Rattle.table_rows.specs.Limits.{versions, limits, most, limits-fit}
+use Rattle.table_rows.specs.Rows.{rowPlace, field}
+use Rattle.table_rows.specs.declared.Limits.{Limits}
 use Rattle.table.specs.Rules.{keyFields, keyExists, keysExist, parentRule, scopeRule, initialRule, reactorRule, ownRule, rowRule}
 use Rattle.table.specs.Check.{wrongLength, countFits, badCount, badRow, kindFits, badKind, checkRows, check}
 use Rattle.table.specs.Table.{Table}

@@ -12,12 +12,12 @@ use Rattle.lists.specs.Tests.{and-left, and-right}
 use Rattle.lists.specs.Lists.{every, every-at}
 use Rattle.lists.specs.Scan.{scan-all}
 use Rattle.tags.specs.Tags.{within}
-use Rattle.rows.specs.Bytes.{Image, be}
-use Rattle.rows.specs.Kinds.{kindOf, kindCount, headBytes, count, countPlace, place, scope, reactor, mode, reaction, action, trigger, startup, reset, timer}
-use Rattle.rows.specs.Limits.{versions, most, limits-fit}
-use Rattle.rows.specs.Rows.{none, rowPlace, field, parent, scopeReactor, scopeMode, rootScope, initialMode, modeScope, modeReactor, level, actionScope, logical}
-use Rattle.rows.specs.Rows.{triggerAction, triggerReaction, startupScope, startupAction, startupReaction, resetScope, resetReaction, timerAction}
-use Rattle.rows.specs.Lineage.{under}
+use Rattle.table_rows.specs.Bytes.{Image, be}
+use Rattle.table_rows.specs.Kinds.{kindOf, kindCount, headBytes, count, countPlace, place, scope, reactor, mode, reaction, action, trigger, startup, reset, timer}
+use Rattle.table_rows.specs.Limits.{versions, most, limits-fit}
+use Rattle.table_rows.specs.Rows.{none, rowPlace, field, parent, scopeReactor, scopeMode, rootScope, initialMode, modeScope, modeReactor, level, actionScope, logical}
+use Rattle.table_rows.specs.Rows.{triggerAction, triggerReaction, startupScope, startupAction, startupReaction, resetScope, resetReaction, timerAction}
+use Rattle.table_rows.specs.Lineage.{under}
 use Rattle.table.specs.Rules.{key, keyFields, keyExists, keysExist, parentRule, agrees, scopeRule, initialRule, reactorRule}
 use Rattle.table.specs.Rules.{modeRule, maxLevel, reactionRule, actionRule, timerTag, timerRule, ownRule, rowRule}
 use Rattle.table.specs.Check.{version, wrongLength, countFits, badCount, badRow, kindFits, badKind, checkRows, check}

@@ -5,10 +5,10 @@ use mathlib.Core.Bool.{Bool, true, false, cond, not, _&&_, _||_}
 use lib.Dec.{ltb, leb, eqb}
 use lib.ListN.{length}
 use Rattle.lists.specs.Scan.{scan}
-use Rattle.rows.specs.Bytes.{Image, be}
-use Rattle.rows.specs.Kinds.{kindOf, kindCount, headBytes, count, countPlace, place}
-use Rattle.rows.specs.Limits.{most}
-use Rattle.rows.specs.Rows.{rowPlace}
+use Rattle.table_rows.specs.Bytes.{Image, be}
+use Rattle.table_rows.specs.Kinds.{kindOf, kindCount, headBytes, count, countPlace, place}
+use Rattle.table_rows.specs.Limits.{most}
+use Rattle.table_rows.specs.Rows.{rowPlace}
 use Rattle.table.specs.Rules.{rowRule}
 use Rattle.table.specs.declared.Checked.{Checked}
 use Rattle.table.specs.declared.Checked.the-variants.{Accepted, Refused}

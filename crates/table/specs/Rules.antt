@@ -5,10 +5,10 @@ use mathlib.Core.List.{List, [], _∷_}
 use lib.Dec.{ltb, leb, eqb}
 use Rattle.lists.specs.Lists.{every}
 use Rattle.tags.specs.Tags.{Tag, at, within}
-use Rattle.rows.specs.Bytes.{Image}
-use Rattle.rows.specs.Kinds.{count, scope, reactor, mode, reaction, action, trigger, startup, reset, timer}
-use Rattle.rows.specs.Rows.{none, field, parent, scopeReactor, scopeMode, rootScope, initialMode, modeScope, modeReactor, level, logical, timerOffset, timerMicrostep}
-use Rattle.rows.specs.Lineage.{under}
+use Rattle.table_rows.specs.Bytes.{Image}
+use Rattle.table_rows.specs.Kinds.{count, scope, reactor, mode, reaction, action, trigger, startup, reset, timer}
+use Rattle.table_rows.specs.Rows.{none, field, parent, scopeReactor, scopeMode, rootScope, initialMode, modeScope, modeReactor, level, logical, timerOffset, timerMicrostep}
+use Rattle.table_rows.specs.Lineage.{under}
 use Rattle.table.specs.declared.KeyField.{KeyField}
 
 -- a field that is a key: its row's kind, its place in the row, and the kind that it names

@@ -3,8 +3,8 @@ use mathlib.Core.Path.{_≡_}
 use mathlib.Core.Bool.{true}
 use Prim.Native.Nat.{ℕ, _≤_, _<_}
 use lib.ListN.{length}
-use Rattle.rows.specs.Bytes.{Image, be}
-use Rattle.rows.specs.Kinds.{kindCount, headBytes, count, place}
+use Rattle.table_rows.specs.Bytes.{Image, be}
+use Rattle.table_rows.specs.Kinds.{kindCount, headBytes, count, place}
 use Rattle.table.specs.Rules.{rowRule}
 use Rattle.table.specs.Check.{version, countFits}
 

@@ -1,5 +1,5 @@
 // The check of a table image: document 01, "Checks", and the rules of its rows. An accepted image is the table itself: nothing is copied.
-// A new rule of a row comes in here, in `KEY_FIELDS` or `own_rule` and in specs/Rules; reader and writer go by it, and faults tells it.
+// A new rule of a row comes in here, in `KEY_FIELDS` or `own_rule` and in specs/Rules; reader and writer go by it, and table_broken_rules tells it.
 ghost use mathlib.Core.Path.{_≡_};
 ghost use Prim.Native.Nat.{_+_};
 ghost use lib.ListN.{getD};
@@ -75,69 +75,69 @@ pub const KEYS: usize = 13;
 // Every key that must exist.
 const KEY_FIELDS: [KeyField; KEYS] = [
     KeyField {
-        kind: rows::SCOPE,
+        kind: table_rows::SCOPE,
         offset: 2,
-        names: rows::REACTOR,
+        names: table_rows::REACTOR,
     },
     KeyField {
-        kind: rows::REACTOR,
+        kind: table_rows::REACTOR,
         offset: 0,
-        names: rows::SCOPE,
+        names: table_rows::SCOPE,
     },
     KeyField {
-        kind: rows::MODE,
+        kind: table_rows::MODE,
         offset: 0,
-        names: rows::SCOPE,
+        names: table_rows::SCOPE,
     },
     KeyField {
-        kind: rows::MODE,
+        kind: table_rows::MODE,
         offset: 2,
-        names: rows::REACTOR,
+        names: table_rows::REACTOR,
     },
     KeyField {
-        kind: rows::ACTION,
+        kind: table_rows::ACTION,
         offset: 0,
-        names: rows::SCOPE,
+        names: table_rows::SCOPE,
     },
     KeyField {
-        kind: rows::TRIGGER,
+        kind: table_rows::TRIGGER,
         offset: 0,
-        names: rows::ACTION,
+        names: table_rows::ACTION,
     },
     KeyField {
-        kind: rows::TRIGGER,
+        kind: table_rows::TRIGGER,
         offset: 2,
-        names: rows::REACTION,
+        names: table_rows::REACTION,
     },
     KeyField {
-        kind: rows::STARTUP,
+        kind: table_rows::STARTUP,
         offset: 0,
-        names: rows::SCOPE,
+        names: table_rows::SCOPE,
     },
     KeyField {
-        kind: rows::STARTUP,
+        kind: table_rows::STARTUP,
         offset: 2,
-        names: rows::ACTION,
+        names: table_rows::ACTION,
     },
     KeyField {
-        kind: rows::STARTUP,
+        kind: table_rows::STARTUP,
         offset: 4,
-        names: rows::REACTION,
+        names: table_rows::REACTION,
     },
     KeyField {
-        kind: rows::RESET,
+        kind: table_rows::RESET,
         offset: 0,
-        names: rows::SCOPE,
+        names: table_rows::SCOPE,
     },
     KeyField {
-        kind: rows::RESET,
+        kind: table_rows::RESET,
         offset: 2,
-        names: rows::REACTION,
+        names: table_rows::REACTION,
     },
     KeyField {
-        kind: rows::TIMER,
+        kind: table_rows::TIMER,
         offset: 0,
-        names: rows::ACTION,
+        names: table_rows::ACTION,
     },
 ];
 
@@ -162,8 +162,8 @@ pub fn key_exists(image: &[u8], k: u8, i: u16, f: KeyField) -> bool
     if k != f.kind {
         return true;
     }
-    let named = rows::field16(image, k, i, f.offset);
-    let total = rows::count(image, f.names);
+    let named = table_rows::field16(image, k, i, f.offset);
+    let total = table_rows::count(image, f.names);
     named < total
 }
 
@@ -186,8 +186,8 @@ fn keys_exist(image: &[u8], k: u8, i: u16) -> bool
 fn parent_rule(image: &[u8], i: u16) -> bool
     ensures { λ r. ⌜ r ≡ parentRule (now (image .entry)) i ⌝ }
 {
-    let above = rows::parent(image, i);
-    if above == rows::NONE {
+    let above = table_rows::parent(image, i);
+    if above == table_rows::NONE {
         return true;
     }
     above < i
@@ -197,23 +197,23 @@ fn parent_rule(image: &[u8], i: u16) -> bool
 fn mode_agrees(image: &[u8], i: u16, parent: u16, reactor: u16, mode: u16) -> bool
     ensures { λ r. ⌜ r ≡ agrees (now (image .entry)) i parent reactor mode ⌝ }
 {
-    let modes = rows::count(image, rows::MODE);
+    let modes = table_rows::count(image, table_rows::MODE);
     if modes <= mode {
         return false;
     }
-    if parent == rows::NONE {
+    if parent == table_rows::NONE {
         return false;
     }
-    let scope = rows::mode_scope(image, mode);
+    let scope = table_rows::mode_scope(image, mode);
     if scope != i {
         return false;
     }
-    let owner = rows::mode_reactor(image, mode);
+    let owner = table_rows::mode_reactor(image, mode);
     if owner != reactor {
         return false;
     }
-    let root = rows::root_scope(image, reactor);
-    rows::under(image, root, i)
+    let root = table_rows::root_scope(image, reactor);
+    table_rows::under(image, root, i)
 }
 
 fn scope_rule(image: &[u8], i: u16) -> bool
@@ -222,12 +222,12 @@ fn scope_rule(image: &[u8], i: u16) -> bool
     if !parent_rule(image, i) {
         return false;
     }
-    let mode = rows::scope_mode(image, i);
-    if mode == rows::NONE {
+    let mode = table_rows::scope_mode(image, i);
+    if mode == table_rows::NONE {
         return true;
     }
-    let parent = rows::parent(image, i);
-    let reactor = rows::scope_reactor(image, i);
+    let parent = table_rows::parent(image, i);
+    let reactor = table_rows::scope_reactor(image, i);
     mode_agrees(image, i, parent, reactor, mode)
 }
 
@@ -235,21 +235,21 @@ fn scope_rule(image: &[u8], i: u16) -> bool
 fn initial_rule(image: &[u8], reactor: u16, mode: u16) -> bool
     ensures { λ r. ⌜ r ≡ initialRule (now (image .entry)) reactor mode ⌝ }
 {
-    if mode == rows::NONE {
+    if mode == table_rows::NONE {
         return true;
     }
-    let modes = rows::count(image, rows::MODE);
+    let modes = table_rows::count(image, table_rows::MODE);
     if modes <= mode {
         return false;
     }
-    let owner = rows::mode_reactor(image, mode);
+    let owner = table_rows::mode_reactor(image, mode);
     owner == reactor
 }
 
 fn reactor_rule(image: &[u8], i: u16) -> bool
     ensures { λ r. ⌜ r ≡ reactorRule (now (image .entry)) i ⌝ }
 {
-    let mode = rows::initial_mode(image, i);
+    let mode = table_rows::initial_mode(image, i);
     initial_rule(image, i, mode)
 }
 
@@ -257,30 +257,30 @@ fn reactor_rule(image: &[u8], i: u16) -> bool
 fn mode_rule(image: &[u8], i: u16) -> bool
     ensures { λ r. ⌜ r ≡ modeRule (now (image .entry)) i ⌝ }
 {
-    let scope = rows::mode_scope(image, i);
-    let back = rows::scope_mode(image, scope);
+    let scope = table_rows::mode_scope(image, i);
+    let back = table_rows::scope_mode(image, scope);
     back == i
 }
 
 fn reaction_rule(image: &[u8], i: u16) -> bool
     ensures { λ r. ⌜ r ≡ reactionRule (now (image .entry)) i ⌝ }
 {
-    let level = rows::level(image, i);
+    let level = table_rows::level(image, i);
     level <= MAX_LEVEL
 }
 
 fn action_rule(image: &[u8], i: u16) -> bool
     ensures { λ r. ⌜ r ≡ actionRule (now (image .entry)) i ⌝ }
 {
-    let logical = rows::logical(image, i);
+    let logical = table_rows::logical(image, i);
     logical <= 1
 }
 
 fn timer_rule(image: &[u8], i: u16) -> bool
     ensures { λ r. ⌜ r ≡ timerRule (now (image .entry)) i ⌝ }
 {
-    let offset = rows::timer_offset(image, i);
-    let microstep = rows::timer_microstep(image, i);
+    let offset = table_rows::timer_offset(image, i);
+    let microstep = table_rows::timer_microstep(image, i);
     LocalTag(offset, microstep).within()
 }
 
@@ -288,22 +288,22 @@ fn timer_rule(image: &[u8], i: u16) -> bool
 fn own_rule(image: &[u8], k: u8, i: u16) -> bool
     ensures { λ r. ⌜ r ≡ ownRule (now (image .entry)) k i ⌝ }
 {
-    if k == rows::SCOPE {
+    if k == table_rows::SCOPE {
         return scope_rule(image, i);
     }
-    if k == rows::REACTOR {
+    if k == table_rows::REACTOR {
         return reactor_rule(image, i);
     }
-    if k == rows::MODE {
+    if k == table_rows::MODE {
         return mode_rule(image, i);
     }
-    if k == rows::REACTION {
+    if k == table_rows::REACTION {
         return reaction_rule(image, i);
     }
-    if k == rows::ACTION {
+    if k == table_rows::ACTION {
         return action_rule(image, i);
     }
-    if k == rows::TIMER {
+    if k == table_rows::TIMER {
         return timer_rule(image, i);
     }
     true
@@ -325,7 +325,7 @@ fn row_rule(image: &[u8], k: u8, i: u16) -> bool
 pub fn bad_row(image: &[u8], k: u8) -> u16
     ensures { λ r. ⌜ r ≡ badRow (now (image .entry)) k ⌝ }
 {
-    let total = rows::count(image, k);
+    let total = table_rows::count(image, k);
     let mut i: u16 = 0;
     while i < total {
         if row_rule(image, k, i) {
@@ -342,11 +342,11 @@ pub fn check_rows(image: &[u8]) -> Checked
     ensures { λ r. ⌜ r ≡ checkRows (now (image .entry)) ⌝ }
 {
     let mut k: u8 = 0;
-    while k < rows::KINDS {
+    while k < table_rows::KINDS {
         let i = bad_row(image, k);
-        let total = rows::count(image, k);
+        let total = table_rows::count(image, k);
         if i < total {
-            let at = rows::row_place(image, k, i);
+            let at = table_rows::row_place(image, k, i);
             return Checked::Refused(ImageRefusal::Row(at));
         }
         k += 1;
@@ -357,9 +357,9 @@ pub fn check_rows(image: &[u8]) -> Checked
 fn count_fits(image: &[u8], k: u8) -> bool
     ensures { λ r. ⌜ r ≡ countFits (now (image .entry)) k ⌝ }
 {
-    let kind = rows::kind_at(k);
-    let most = rows::most_rows(image, k);
-    let total = rows::count(image, k);
+    let kind = table_rows::kind_at(k);
+    let most = table_rows::most_rows(image, k);
+    let total = table_rows::count(image, k);
     if total < kind.least {
         return false;
     }
@@ -371,7 +371,7 @@ pub fn bad_count(image: &[u8]) -> u8
     ensures { λ r. ⌜ r ≡ badCount (now (image .entry)) ⌝ }
 {
     let mut k: u8 = 0;
-    while k < rows::KINDS {
+    while k < table_rows::KINDS {
         if count_fits(image, k) {
             k += 1;
         } else {
@@ -387,7 +387,7 @@ fn wrong_length(image: &[u8]) -> bool
     if image.len() < 5 {
         return true;
     }
-    let rest = rows::four_bytes(image, 0);
+    let rest = table_rows::four_bytes(image, 0);
     rest as usize + 4 != image.len()
 }
 
@@ -398,19 +398,19 @@ pub fn check(image: &[u8]) -> Checked
     if wrong_length(image) {
         return Checked::Refused(ImageRefusal::Length);
     }
-    let version = rows::one_byte(image, 4);
+    let version = table_rows::one_byte(image, 4);
     if version != VERSION {
         return Checked::Refused(ImageRefusal::Version);
     }
-    if image.len() < rows::HEAD {
+    if image.len() < table_rows::HEAD {
         return Checked::Refused(ImageRefusal::Short);
     }
     let k = bad_count(image);
-    if k < rows::KINDS {
-        let at = rows::count_place(k);
+    if k < table_rows::KINDS {
+        let at = table_rows::count_place(k);
         return Checked::Refused(ImageRefusal::Count(at));
     }
-    let end = rows::place(image, rows::KINDS);
+    let end = table_rows::place(image, table_rows::KINDS);
     if end != image.len() {
         return Checked::Refused(ImageRefusal::Unfilled);
     }

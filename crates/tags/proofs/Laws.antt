@@ -3,18 +3,17 @@
 -- Assumes nothing.
 use Prim.Native.Nat.{ℕ, zero, suc, _+_, _-_, _<_, _≤_, zero-le}
 use mathlib.Core.Path.{_≡_, refl, sym, ap, _∙_}
-use mathlib.Core.Bool.{Bool, true, false, not, cond, _&&_}
-use lib.Dec.{leb, ltb}
+use mathlib.Core.Bool.{Bool, true, false, cond, _&&_}
+use lib.Dec.{ltb}
 use lib.IntN.{ℤ, pos, negsuc, negℤ, subℕ, _+ℤ_, _-ℤ_, +ℤ-assoc}
-use native.Mathlib.Nat.{le-of-lt}
 use native.Mathlib.Omega.{arith}
 use borrow.Author.Tests.{lt-ltb, le-ltb, le-leb, lt-leb, eq-eqb, ne-eqb, leb-true, ltb-false}
 use Rattle.lists.specs.Tests.{gt-ltb, gt-eqb, flag, flag-no, flag-yes, and-left, and-right}
-use Rattle.lists.specs.Walk.{Result, done, refused}
+use Rattle.lists.specs.Walk.{done, refused}
 use Rattle.refusals.specs.declared.Refusal.{Refusal}
 use Rattle.refusals.specs.declared.Refusal.the-variants.{ArgumentTag, MappedTag, StateRule}
-use Rattle.tags.specs.Tags.{Tag, Clock, Answer, Shifted, at, maxOffset, maxMicrostep, within, withinClock, sameTag, earlier, delayed, shifted}
-use Rattle.tags.specs.Tags.{settled, settledTag, heldBack, heldBackTag, checked, toLocal, toGlobal, isHeld, globalToLocal, localToGlobal}
+use Rattle.tags.specs.Tags.{Tag, Clock, Answer, at, maxOffset, maxMicrostep, within, withinClock, sameTag, earlier, delayed, shifted}
+use Rattle.tags.specs.Tags.{settledTag, heldBackTag, checked, toLocal, toGlobal, isHeld, globalToLocal, localToGlobal}
 use Rattle.tags.specs.Views.{ofFields, answered, wide, placeOf, placeAt, settledAt, heldBackAt, heldAt, placedAt}
 use Rattle.tags.specs.declared.Fields.{Fields}
 use Rattle.tags.specs.declared.Settled.{Settled}

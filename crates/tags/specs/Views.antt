@@ -3,7 +3,7 @@ use Prim.Native.Nat.{ℕ}
 use mathlib.Core.Bool.{Bool, true, false, cond}
 use lib.Dec.{ltb}
 use lib.IntN.{ℤ, pos, negsuc}
-use Rattle.lists.specs.Walk.{Result, done, refused}
+use Rattle.lists.specs.Walk.{done, refused}
 use Rattle.refusals.specs.declared.Refusal.the-variants.{MappedTag}
 use Rattle.tags.specs.declared.GlobalTag.{GlobalTag}
 use Rattle.tags.specs.declared.LocalTag.{LocalTag}

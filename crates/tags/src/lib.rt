@@ -3,7 +3,8 @@
 // What a map answers is changed here (`MappedGlobal`, `MappedLocal`, specs/Tags); callers use the maps, and name the scale that they mean.
 ghost use mathlib.Core.Path.{_≡_};
 ghost use mathlib.Core.Bool.{true, _&&_};
-ghost use Rattle.tags.specs.Tags.{maxOffset, maxMicrostep, within, sameTag, earlier, delayed, shifted, withinClock, toLocal, toGlobal, isHeld, globalToLocal, localToGlobal, freshClock};
+ghost use Rattle.tags.specs.Tags.{maxOffset, maxMicrostep, within, sameTag, earlier, delayed, shifted};
+ghost use Rattle.tags.specs.Tags.{withinClock, toLocal, toGlobal, isHeld, globalToLocal, localToGlobal, freshClock};
 ghost use Rattle.tags.specs.Views.{ofGlobal, ofLocal, ofQueue, ofFields, ofClock, answered, delayedGlobal, delayedLocal};
 ghost use Rattle.tags.specs.Views.{mappedGlobal, mappedLocal, placeOf, settledAt, heldBackAt, heldAt, placedAt};
 use refusals::Refusal;

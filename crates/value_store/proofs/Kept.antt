@@ -1,7 +1,7 @@
 -- Every accepted call keeps the state rules, on the store and on the arrays that are handed back. Assumes nothing.
-use mathlib.Core.Bool.{Bool, true, false, cond, _&&_}
-use mathlib.Core.Path.{_≡_, refl, ap, _∙_, sym}
-use Prim.Native.Nat.{ℕ, _≤_}
+use mathlib.Core.Bool.{Bool, true, false, cond}
+use mathlib.Core.Path.{_≡_, refl}
+use Prim.Native.Nat.{ℕ}
 use native.Mathlib.Nat.{le-trans}
 use native.Mathlib.Omega.{arith}
 use mathlib.Core.List.{List}
@@ -14,14 +14,15 @@ use Rattle.lists.specs.Walk.{Result, done, refused, bind-done}
 use Rattle.refusals.specs.declared.Refusal.{Refusal}
 use Rattle.refusals.specs.declared.Refusal.the-variants as R
 use Rattle.table.specs.Check.{isTable}
-use Rattle.rows.specs.Kinds as K
-use Rattle.rows.specs.Limits.{limits}
+use Rattle.table_rows.specs.Kinds as K
+use Rattle.table_rows.specs.Limits.{limits}
 use Rattle.tags.specs.Tags.{within}
-use Rattle.entries.specs.Entries.{roomForEntries, held-fits, blankValue, blankBucket}
+use Rattle.store_words.specs.Entries.{roomForEntries, held-fits, blankValue, blankBucket}
 use Rattle.store.specs.Store.{Store, storeRules, pushed, moved}
 use Rattle.store_rules.specs.Rules.{countedRules}
 use Rattle.store_rules.proofs.Kept.{Kept, pushed-kept, taken-kept, clearedBefore-kept, cleared-kept, moved-kept, rules-kept, kept-rules}
-use Rattle.value_store.specs.Calls.{Call, push, next, take-out, clear-before, clear, move, Outcome, outcome, ok, Arrays, heldIn, laid, actionOf, argumentsIn, isSound, perform, called, step}
+use Rattle.value_store.specs.Calls.{Call, push, next, take-out, clear-before, clear, move, Outcome, outcome}
+use Rattle.value_store.specs.Calls.{ok, Arrays, heldIn, laid, actionOf, argumentsIn, isSound, perform, called, step}
 
 done-is : {a b : Outcome} → _≡_ {A = Result Refusal Outcome} (done a) (done b) → a ≡ b
 done-is e = cc

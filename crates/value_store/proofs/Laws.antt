@@ -13,15 +13,15 @@ use Rattle.lists.specs.Walk.{Result, done, refused, _>>=_}
 use Rattle.refusals.specs.declared.Refusal.{Refusal}
 use Rattle.refusals.specs.declared.Refusal.the-variants as R
 use Rattle.table.specs.Check.{isTable}
-use Rattle.rows.specs.Kinds as K
-use Rattle.rows.specs.Limits.{limits}
+use Rattle.table_rows.specs.Kinds as K
+use Rattle.table_rows.specs.Limits.{limits}
 use Rattle.tags.specs.Tags.{Tag, at, within}
 use Rattle.tags.specs.Views.{ofGlobal}
 use Rattle.tags.specs.declared.GlobalTag.{GlobalTag}
-use Rattle.entries.specs.declared.Value as codeValue
-use Rattle.entries.specs.declared.Bucket as codeBucket
-use Rattle.entries.specs.Entries.{roomForEntries, held-fits, ofValue, ofBucket, blankValue, blankBucket}
-use Rattle.entries.specs.Words.{valuesOf, bucketsOf, HeldValues, HeldBuckets, decodeValue, encodeValue, valueWords, long-value, decodeBucket, encodeBucket, bucketWords, long-bucket}
+use Rattle.store_words.specs.declared.Value as codeValue
+use Rattle.store_words.specs.declared.Bucket as codeBucket
+use Rattle.store_words.specs.Entries.{roomForEntries, held-fits, ofValue, ofBucket, blankValue, blankBucket}
+use Rattle.store_words.specs.Words.{valuesOf, bucketsOf, HeldValues, HeldBuckets, decodeValue, encodeValue, valueWords, long-value, decodeBucket, encodeBucket, bucketWords, long-bucket}
 use Rattle.lists.specs.Loops.{front-long}
 use Rattle.store.specs.Store as S
 use Rattle.store.specs.Store.{pushed, valueIn, nextIn, atLeast, nextMicrostep, taken, clearedBefore, cleared, moved}
@@ -38,7 +38,8 @@ use Rattle.store_calls.specs.Lent.{storeOf, Lent, Laid, Did, foundOf, nextOf}
 use Rattle.store_calls.proofs.Calls.{laid-same}
 use Rattle.store_rules.specs.Rules.{countedRules}
 use Rattle.value_store.specs.Calls as C
-use Rattle.value_store.specs.Calls.{Arrays, Answer, ok, number, nothing-there, no, said, outcome, freshArrays, heldIn, laid, actionOf, argumentsIn, isSound, perform, called, step, answered}
+use Rattle.value_store.specs.Calls.{Arrays, Answer, ok, number, nothing-there, no, said, outcome, freshArrays}
+use Rattle.value_store.specs.Calls.{heldIn, laid, actionOf, argumentsIn, isSound, perform, called, step, answered}
 use Rattle.value_store.specs.Views.{arraysOf, arraysIn, answerOf, callOf, answerFor, DidCall}
 use Rattle.value_store.specs.declared.Store.{Store}
 use Rattle.value_store.specs.declared.Answer as code

@@ -2,17 +2,17 @@
 use Prim.Native.Nat.{ℕ}
 use mathlib.Core.Bool.{Bool, true, cond, _&&_}
 use mathlib.Core.List.{List}
-use lib.Dec.{ltb, leb}
+use lib.Dec.{ltb}
 use lib.ListN.{length, take, replicate}
 use Rattle.lists.specs.Lay.{lay}
 use Rattle.lists.specs.Walk.{Result, done, refused, _>>=_}
 use Rattle.refusals.specs.declared.Refusal.{Refusal}
 use Rattle.refusals.specs.declared.Refusal.the-variants as R
 use Rattle.table.specs.Check.{isTable}
-use Rattle.rows.specs.Kinds as K
-use Rattle.rows.specs.Limits.{limits}
+use Rattle.table_rows.specs.Kinds as K
+use Rattle.table_rows.specs.Limits.{limits}
 use Rattle.tags.specs.Tags.{Tag, at, within}
-use Rattle.entries.specs.Entries.{Value, Bucket, roomForEntries, blankValue, blankBucket}
+use Rattle.store_words.specs.Entries.{Value, Bucket, roomForEntries, blankValue, blankBucket}
 use Rattle.store.specs.Store.{Store, Found, nothing, found, pushed, nextMicrostep, valueIn, taken, clearedBefore, cleared, moved}
 use Rattle.store_rules.specs.Rules.{countedRules}
 

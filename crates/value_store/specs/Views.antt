@@ -5,8 +5,8 @@ use mathlib.Core.List.{List, map}
 use Rattle.lists.specs.Walk.{Result}
 use Rattle.refusals.specs.declared.Refusal.{Refusal}
 use Rattle.tags.specs.Views.{ofGlobal}
-use Rattle.entries.specs.Entries.{ofValue, ofBucket}
-use Rattle.entries.specs.Words.{valuesOf, bucketsOf}
+use Rattle.store_words.specs.Entries.{ofValue, ofBucket}
+use Rattle.store_words.specs.Words.{valuesOf, bucketsOf}
 use Rattle.store_calls.specs.declared.Counts.{Counts}
 use Rattle.refusals.specs.declared.Outcome.{Outcome}
 use Rattle.refusals.specs.declared.Outcome.the-variants as O

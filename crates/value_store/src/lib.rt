@@ -7,25 +7,26 @@ ghost use mathlib.Core.List.{map};
 ghost use Rattle.lists.specs.Lent.{was, is};
 ghost use Rattle.tags.specs.Tags.{at, within};
 ghost use Rattle.tags.specs.Views.{ofGlobal};
-ghost use Rattle.rows.specs.Limits.{limits};
-ghost use Rattle.entries.specs.Entries.{ofValue, ofBucket};
-ghost use Rattle.entries.specs.Words.{valuesOf, bucketsOf, HeldValues, HeldBuckets};
-ghost use Rattle.value_store.specs.Calls.{push, next, take-out, clear-before, clear, move, said, perform as performed, actionOf, argumentsIn, called, freshArrays, isSound, step, answered};
+ghost use Rattle.table_rows.specs.Limits.{limits};
+ghost use Rattle.store_words.specs.Entries.{ofValue, ofBucket};
+ghost use Rattle.store_words.specs.Words.{valuesOf, bucketsOf, HeldValues, HeldBuckets};
+ghost use Rattle.value_store.specs.Calls.{push, next, take-out, clear-before, clear, move, said};
+ghost use Rattle.value_store.specs.Calls.{perform as performed, actionOf, argumentsIn, called, freshArrays, isSound, step, answered};
 ghost use Rattle.store_calls.specs.Lent.{storeOf, Lent, foundOf, nextOf};
 ghost use Rattle.value_store.specs.Views.{arraysOf, answerOf, callOf, DidCall, answeredOf, answerFor, arraysIn};
-use entries::BUCKET_WORDS;
-use entries::Bucket;
-use entries::BucketRows;
-use entries::ROOM_FOR_ENTRIES;
-use entries::VALUE_WORDS;
-use entries::Value;
-use entries::ValueRows;
 use refusals::Outcome;
 use refusals::Refusal;
 use store_calls::Changed;
 use store_calls::Counts;
 use store_calls::Found;
 use store_calls::Next;
+use store_words::BUCKET_WORDS;
+use store_words::Bucket;
+use store_words::BucketRows;
+use store_words::ROOM_FOR_ENTRIES;
+use store_words::VALUE_WORDS;
+use store_words::Value;
+use store_words::ValueRows;
 use tags::GlobalTag;
 
 // Values and buckets, and how many of each are held; what stands in the rest is no part of the store.
@@ -59,7 +60,7 @@ fn value_rows(values: [Value; ROOM_FOR_ENTRIES]) -> ValueRows
     let mut i: usize = 0;
     while i < ROOM_FOR_ENTRIES {
         let v = values[i];
-        entries::put_value(&mut rows, i, v);
+        store_words::put_value(&mut rows, i, v);
         i += 1;
     }
     rows
@@ -72,7 +73,7 @@ fn bucket_rows(buckets: [Bucket; ROOM_FOR_ENTRIES]) -> BucketRows
     let mut i: usize = 0;
     while i < ROOM_FOR_ENTRIES {
         let b = buckets[i];
-        entries::put_bucket(&mut rows, i, b);
+        store_words::put_bucket(&mut rows, i, b);
         i += 1;
     }
     rows
@@ -85,7 +86,7 @@ fn values_of(rows: &ValueRows) -> [Value; ROOM_FOR_ENTRIES]
     let mut values = [blank; ROOM_FOR_ENTRIES];
     let mut i: usize = 0;
     while i < ROOM_FOR_ENTRIES {
-        let v = entries::value_at(rows, i);
+        let v = store_words::value_at(rows, i);
         values[i] = v;
         i += 1;
     }
@@ -99,7 +100,7 @@ fn buckets_of(rows: &BucketRows) -> [Bucket; ROOM_FOR_ENTRIES]
     let mut buckets = [blank; ROOM_FOR_ENTRIES];
     let mut i: usize = 0;
     while i < ROOM_FOR_ENTRIES {
-        let b = entries::bucket_at(rows, i);
+        let b = store_words::bucket_at(rows, i);
         buckets[i] = b;
         i += 1;
     }
@@ -275,7 +276,7 @@ pub fn call_rows(
     requires { ⌜ Lent (limits (now image) .held) (now values) (now buckets) held ⌝ }
     ensures { λ r. ⌜ DidCall (was values) (was buckets) held (called (was image) (storeOf (was values) (was buckets) held) (callOf call)) (is values) (is buckets) r ⌝ }
 {
-    let actions = rows::count(image, rows::ACTION);
+    let actions = table_rows::count(image, table_rows::ACTION);
     let action = call.action();
     if actions <= action {
         return Called {
@@ -284,7 +285,7 @@ pub fn call_rows(
         };
     }
     if call.within() {
-        let limit = rows::most_held(image);
+        let limit = table_rows::most_held(image);
         return perform(values, buckets, held, limit, call);
     }
     Called {
@@ -300,8 +301,8 @@ fn is_sound(image: &[u8], values: &ValueRows, buckets: &BucketRows, held: Counts
     ensures { λ r. ⌜ r ≡ isSound (now (image .entry)) (arraysIn (now (values .entry)) (now (buckets .entry)) held) ⌝ }
 {
     if table::accepted(image) {
-        let limit = rows::most_held(image);
-        let actions = rows::count(image, rows::ACTION);
+        let limit = table_rows::most_held(image);
+        let actions = table_rows::count(image, table_rows::ACTION);
         return store_rules::keeps_rules(values, buckets, held, limit, actions);
     }
     false

@@ -25,7 +25,7 @@ fn filled(sets: &[u8], at: usize, n: usize) -> KeySet
     let mut i = 0;
     while i < n {
         let place = at + 2 * i;
-        let k = rows::two_bytes(sets, place) as usize;
+        let k = table_rows::two_bytes(sets, place) as usize;
         set = set.insert(k);
         i += 1;
     }
@@ -77,7 +77,7 @@ fn lap(start: u64, sets: &[u8], levels: &[u8]) -> u64
     let mut sum = start;
     let mut at = 0;
     while at < sets.len() {
-        let n = rows::two_bytes(sets, at) as usize;
+        let n = table_rows::two_bytes(sets, at) as usize;
         let keys = at + 2;
         let set = filled(sets, keys, n);
         sum = walked(sum, set, levels);
@@ -90,14 +90,14 @@ fn lap(start: u64, sets: &[u8], levels: &[u8]) -> u64
 fn laps(input: &[u8]) -> u64
     requires { ⌜ length (now input) ≤ 65536 ⌝ }
 {
-    let reactions = rows::two_bytes(input, 4) as usize;
+    let reactions = table_rows::two_bytes(input, 4) as usize;
     let from = LEVELS + reactions;
     if input.len() < from {
         return 0;
     }
     let levels = &input[LEVELS..from];
     let sets = &input[from..];
-    let mut left = rows::four_bytes(input, 0);
+    let mut left = table_rows::four_bytes(input, 0);
     let mut sum = 0;
     while 0 < left {
         sum = lap(sum, sets, levels);
@@ -111,6 +111,6 @@ fn main() {
     let end = io::read_full(STDIN_FILENO, &mut input);
     let sum = laps(&input[..end]);
     let mut out = [0u8; 8];
-    puts::put_number(&mut out, 0, 8, sum);
+    byte_writer::put_number(&mut out, 0, 8, sum);
     io::write_all(STDOUT_FILENO, &out);
 }

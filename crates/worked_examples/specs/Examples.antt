@@ -6,7 +6,7 @@ use mathlib.Core.List.{List, [], _∷_, map, List·Memᴰ, List·Memᴰ·head, L
 use Rattle.lists.specs.Lists.{any, lose, upsert}
 use Rattle.lists.specs.Walk.{done, refused}
 use Rattle.refusals.specs.declared.Refusal.the-variants.{MappedTag}
-use Rattle.rows.specs.Limits.{version1}
+use Rattle.table_rows.specs.Limits.{version1}
 use Rattle.tags.specs.Tags as tag
 use Rattle.tags.specs.Tags.{Tag, Clock, at, zeroTag, within, withinClock, sameTag, earlier, delayed, shifted, checked, globalToLocal, localToGlobal}
 use Rattle.store.specs.Store.{Store, emptyStore, isValue, isBucket, isBefore, isThere, isSpent, following, larger, lacks, pushed, nextIn, nextMicrostep, valueIn, taken, clearedBefore, moved}

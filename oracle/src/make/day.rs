@@ -114,6 +114,11 @@ impl<'t> Day<'t> {
         store.values.len() >= MOST || store.buckets.len() >= MOST
     }
 
+    /// Whether a record would be accepted.
+    pub fn accepts(&self, op: &Op) -> bool {
+        !matches!(self.plain.clone().step(op), Outcome::Refused(_))
+    }
+
     /// How many events more wait after a transition, or fewer; none where it is refused whatever room there is.
     pub fn more_by(&self, transition: &Op) -> Option<i64> {
         let mut trial = self.plain.clone();

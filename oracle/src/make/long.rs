@@ -1,6 +1,6 @@
 //! Long days, for speed.
 
-use crate::image::{RawTag, Table, MOST};
+use crate::image::{RawTag, Startup, Table, ACTION, KINDS, MOST, STARTUP};
 use crate::records::Op;
 use crate::rng::Rng;
 
@@ -31,6 +31,27 @@ fn busy(day: &mut Day<'_>, target: u64) {
             Op::Pop
         } else {
             push(day, target)
+        };
+        day.put(op);
+    }
+}
+
+/// The same with many values: a third of the records are transitions, half of them resets; timers lie far ahead, so that they still wait, and their
+/// values move, when a mode is entered again; and every startup row leaves a value for good. No record is refused.
+pub fn values(rng: &mut Rng, target: u64) -> Recipe {
+    let table = table_of_values(rng, target);
+    Recipe::new(table, UNIT, move |day| changing(day, target))
+}
+
+fn changing(day: &mut Day<'_>, target: u64) {
+    for _ in 0..RECORDS {
+        let waiting = day.waiting();
+        let pop = if (waiting as u64) < target { 20 } else { 80 };
+        let transition = day.rng.chance(33).then(|| day.switch(day.last, 50));
+        let op = match transition.filter(|op| day.accepts(op)) {
+            Some(op) => op,
+            None if waiting == MOST || day.is_ready() && day.rng.chance(pop) => Op::Pop,
+            None => push(day, target),
         };
         day.put(op);
     }
@@ -67,6 +88,46 @@ fn table(rng: &mut Rng, target: u64) -> Table {
     for _ in 0..rng.range(1, most) {
         let tag = RawTag::new(UNIT * rng.below(6), rng.below(2) as u32);
         table.add_timer(rng.index(scopes), tag);
+    }
+    table
+}
+
+/// Every scope with a logical action, and a third of all that wait are timers' events, each of a logical action in some mode. What is left of the
+/// actions is physical and starts up, as no reset clears those values.
+fn table_of_values(rng: &mut Rng, target: u64) -> Table {
+    let mut table = nested_scopes(rng, 2);
+    table.set_initials(rng, 0);
+    for scope in 0..table.scopes.len() {
+        table.add_action(scope, true);
+    }
+    let fill = Fill {
+        reactions: (10, 28),
+        actions: (0, 0),
+        triggers: (20, 60),
+        startups: (0, 0),
+        resets: (2, 8),
+        timers: (0, 0),
+        logical: 100,
+        unit: UNIT,
+    };
+    fill.fill(&mut table, rng);
+    let in_modes = |rng: &mut Rng, table: &Table| rng.pick(&table.modes).scope;
+    for _ in 0..target / 3 {
+        let scope = in_modes(rng, &table);
+        let action = rng.pick(&table.actions_in(scope));
+        table.add_timer(action, RawTag::new(UNIT * rng.range(1, target), 0));
+    }
+    let physical = table.actions.len();
+    while table.actions.len() < KINDS[ACTION].0 {
+        table.add_action(rng.index(table.scopes.len()), false);
+    }
+    for _ in 0..KINDS[STARTUP].0 {
+        let startup = Startup {
+            scope: in_modes(rng, &table),
+            action: physical + rng.index(table.actions.len() - physical),
+            reaction: rng.index(table.levels.len()),
+        };
+        table.startups.push(startup);
     }
     table
 }

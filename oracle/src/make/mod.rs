@@ -29,8 +29,16 @@ pub use tables::{largest, too_many_modes};
 /// The kinds for sweeps over many seeds: short days.
 pub const KINDS: &[&str] = &["valid", "nested", "edge", "badrec", "badimg"];
 
-/// Days of 30,000 records for speed: about 3, 20 or 170 events wait on average; `long` takes one of the three.
-pub const LONG_KINDS: &[&str] = &["long", "long-3", "long-20", "long-170"];
+/// Days of 30,000 records for speed: about 3, 20 or 170 events wait on average; `long` takes one of the three. The last two have many values,
+/// transitions and resets.
+pub const LONG_KINDS: &[&str] = &[
+    "long",
+    "long-3",
+    "long-20",
+    "long-170",
+    "long-values-20",
+    "long-values-170",
+];
 
 /// The bytes of the gate day with this number; none for a kind that is not known.
 pub fn make(seed: u64, kind: &str) -> Option<Vec<u8>> {
@@ -60,6 +68,8 @@ fn recipe(rng: &mut Rng, kind: &str) -> Option<Recipe> {
         "long-3" => long::long(rng, 3),
         "long-20" => long::long(rng, 20),
         "long-170" => long::long(rng, 170),
+        "long-values-20" => long::values(rng, 20),
+        "long-values-170" => long::values(rng, 170),
         _ => return None,
     })
 }

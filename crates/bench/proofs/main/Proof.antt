@@ -3,50 +3,12 @@ use lib.Seq.{length-take-le}
 use borrow.Author.Needs.{needs}
 use Rattle.bench.proofs.main.Statement.{statement}
 use Rattle.bench.proofs.main.Tie as tie
-use Rattle.bench.proofs.main.Reads as reads
-use Rattle.bench.proofs.main.Lts as lts
-use Rattle.bench.proofs.answer.Reads as answer-reads
-use Rattle.bench.proofs.read_image.Reads as read-image-reads
-use Rattle.bench.proofs.say_table.Reads as say-table-reads
-use Rattle.io.proofs.buffer.Reads as buffer-reads
-
-buffer-requires : tie.Need-buffer-requires
-buffer-requires c κs = search needs
-
-slice-aggregate-read-image : tie.Need-slice-aggregate-read-image
-slice-aggregate-read-image c = search needs
-
-read-image-requires : tie.Need-read-image-requires
-read-image-requires c κs = search needs
-
-say-table-requires : tie.Need-say-table-requires
-say-table-requires c κs = search needs
-
-returns : tie.Need-returns
-returns c = search needs
-
-array-share-prefix-space : tie.Need-array-share-prefix-space
-array-share-prefix-space c = search needs
 
 slice-aggregate-answer : tie.Need-slice-aggregate-answer
 slice-aggregate-answer c = sym (length-take-le _ _ (c .before .before .before .read-image .ensures))
 
-answer-requires : tie.Need-answer-requires
-answer-requires c κs = search needs
-
-returns-2 : tie.Need-returns-2
-returns-2 c = search needs
-
 pub main-spec : {M : Type 1} → statement M
 main-spec =
     tie.close
-    (tie.spec
-    buffer-requires
-    slice-aggregate-read-image
-    read-image-requires
-    say-table-requires
-    returns
-    array-share-prefix-space
-    slice-aggregate-answer
-    answer-requires
-    returns-2)
+    (tie.spec (λ c κs. search needs) (λ c. search needs) (λ c κs. search needs) (λ c κs. search needs) (λ c. search needs) (λ c. search needs)
+    slice-aggregate-answer (λ c κs. search needs) (λ c. search needs))

@@ -1,24 +1,15 @@
 -- `bench::run` is safe: what was read and what is written lie within the buffers, and each turn leaves a day that keeps the rules. Assumes nothing.
-use Prim.Native.Nat.{_-_, _≤_, _<_}
-use mathlib.Core.Path.{_≡_, refl, sym, _∙_}
+use Prim.Native.Nat.{_-_, _≤_}
+use mathlib.Core.Path.{_≡_, sym, _∙_}
 use native.Mathlib.Omega.{arith}
 use lib.ListN.{length}
 use lib.Seq.{length-take-le}
-use Rattle.puts.proofs.WrittenLaws.{written-room, written-long}
-use Rattle.lens.specs.Holds.{rowsOf}
-use Rattle.gate_day.specs.Views.{Kept}
+use Rattle.byte_writer.proofs.WrittenLaws.{written-room, written-long}
+use Rattle.state_room.specs.Holds.{rowsOf}
+use Rattle.day_run.specs.Views.{Kept}
 use borrow.Author.Needs.{needs}
 use Rattle.bench.proofs.run.Statement.{statement}
 use Rattle.bench.proofs.run.Tie as tie
-use Rattle.bench.proofs.run.Reads as reads
-use Rattle.bench.proofs.run.Lts as lts
-use Rattle.bench.proofs.fill.Reads as fill-reads
-use Rattle.bench.proofs.say_cut.Reads as say-cut-reads
-use Rattle.puts.proofs.shift.Reads as shift-reads
-use Rattle.gate_day.proofs.run_records.Reads as run-records-reads
-use Rattle.gate_day.proofs.start.Reads as start-reads
-use Rattle.io.proofs.large_buffer.Reads as large-buffer-reads
-use Rattle.io.proofs.write_all.Reads as write-all-reads
 
 abbrev Inv-loop : tie.InvT-loop
 Inv-loop image day₀ input₀ output₀ filled₀ turns₀ day input output filled turns = Kept image (rowsOf day) × (65536 ≡ length input) × (65536 ≡ length output) × (filled ≤ 65536)
@@ -26,20 +17,8 @@ Inv-loop image day₀ input₀ output₀ filled₀ turns₀ day input output fil
 abbrev μ-loop : tie.MeasureT-loop
 μ-loop image day₀ input₀ output₀ filled₀ turns₀ day input output filled turns = turns
 
-start-requires : tie.Need-start-requires Inv-loop μ-loop
-start-requires c κs = search needs
-
-large-buffer-requires : tie.Need-large-buffer-requires Inv-loop μ-loop
-large-buffer-requires c κs = search needs
-
-large-buffer-requires-2 : tie.Need-large-buffer-requires-2 Inv-loop μ-loop
-large-buffer-requires-2 c κs = search needs
-
 loop-holds : tie.Need-loop-holds Inv-loop μ-loop
 loop-holds c = (c .before .before .start .ensures .0, c .before .large-buffer .ensures, c .large-buffer2 .ensures, search needs)
-
-sub-turns : tie.Need-sub-turns Inv-loop μ-loop
-sub-turns c = search needs
 
 slice-aggregate-fill : tie.Need-slice-aggregate-fill Inv-loop μ-loop
 slice-aggregate-fill c = c .before .before .loop .inv .1
@@ -65,15 +44,6 @@ array-share-prefix-output c = written-room (c .before .before .run-records .ensu
 slice-aggregate-write-all : tie.Need-slice-aggregate-write-all Inv-loop μ-loop
 slice-aggregate-write-all c = sym (length-take-le _ _ (written-room (c .before .before .before .run-records .ensures .1 .lines)))
 
-write-all-requires : tie.Need-write-all-requires Inv-loop μ-loop
-write-all-requires c κs = search needs
-
-returns : tie.Need-returns Inv-loop μ-loop
-returns c = search needs
-
-returns-2 : tie.Need-returns-2 Inv-loop μ-loop
-returns-2 c = search needs
-
 slice-aggregate-shift : tie.Need-slice-aggregate-shift Inv-loop μ-loop
 slice-aggregate-shift c =
     let c₁ = c .before .before .before .before .before .before .before .before .before .before .before in
@@ -85,15 +55,6 @@ shift-requires c κs =
     let c₁ = c .before .before .before .before .before .before .before in
     let c₂ = c₁ .before .before .before .before in
     (rw (length-take-le _ _ (c₂ .fill .ensures .0)) at (c₁ .run-records .ensures .1 .inside), c₂ .fill .ensures .0)
-
-say-cut-requires : tie.Need-say-cut-requires Inv-loop μ-loop
-say-cut-requires c κs = search needs
-
-returns-3 : tie.Need-returns-3 Inv-loop μ-loop
-returns-3 c = search needs
-
-returns-4 : tie.Need-returns-4 Inv-loop μ-loop
-returns-4 c = search needs
 
 loop-less : tie.Need-loop-less Inv-loop μ-loop
 loop-less c = let t = c .before .before .before .before .before .before .before .before .before .before .before .before .before .before .before .before .before .loop-test .taken in omega (arith, t)
@@ -125,38 +86,10 @@ loop-again-2 c =
       omega (arith, written-room (c₁ .shift .ensures), written-long (c₁ .shift .ensures), c₃ .fill .ensures .0, c₄ .loop .inv .1, c₃ .fill .ensures .1),
     )
 
-returns-5 : tie.Need-returns-5 Inv-loop μ-loop
-returns-5 c = search needs
-
 pub run-spec : {M : Type 1} → statement M
 run-spec =
     tie.close
-    (tie.spec
-    Inv-loop
-    μ-loop
-    start-requires
-    large-buffer-requires
-    large-buffer-requires-2
-    loop-holds
-    sub-turns
-    slice-aggregate-fill
-    fill-requires
-    array-share-prefix-input
-    slice-aggregate-run-records
-    slice-aggregate-run-records-2
-    run-records-requires
-    array-share-prefix-output
-    slice-aggregate-write-all
-    write-all-requires
-    returns
-    returns-2
-    slice-aggregate-shift
-    shift-requires
-    say-cut-requires
-    returns-3
-    returns-4
-    loop-less
-    loop-again
-    loop-less-2
-    loop-again-2
-    returns-5)
+    (tie.spec Inv-loop μ-loop (λ c κs. search needs) (λ c κs. search needs) (λ c κs. search needs) loop-holds (λ c. search needs) slice-aggregate-fill
+    fill-requires array-share-prefix-input slice-aggregate-run-records slice-aggregate-run-records-2 run-records-requires array-share-prefix-output
+    slice-aggregate-write-all (λ c κs. search needs) (λ c. search needs) (λ c. search needs) slice-aggregate-shift shift-requires (λ c κs. search needs)
+    (λ c. search needs) (λ c. search needs) loop-less loop-again loop-less-2 loop-again-2 (λ c. search needs))

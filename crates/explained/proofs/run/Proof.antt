@@ -1,8 +1,8 @@
 -- `explained::run` is safe: what is read lies within the buffer, and each record leaves a day that keeps the rules. Assumes nothing.
 use borrow.Author.Needs.{needs}
 use Rattle.explained.proofs.Laws.{part-long}
-use Rattle.lens.specs.Holds.{rowsOf}
-use Rattle.gate_day.specs.Views.{Kept}
+use Rattle.state_room.specs.Holds.{rowsOf}
+use Rattle.day_run.specs.Views.{Kept}
 use native.Mathlib.Omega.{arith}
 use lib.ListN.{length}
 use mathlib.Core.Path.{_≡_, sym, _∙_}
@@ -16,29 +16,17 @@ Inv-loop desk₀ image day₀ input₀ turns₀ desk day input turns = Kept imag
 abbrev μ-loop : tie.MeasureT-loop
 μ-loop desk₀ image day₀ input₀ turns₀ desk day input turns = turns
 
-start-requires : tie.Need-start-requires Inv-loop μ-loop
-start-requires c κs = search needs
-
 say-start-requires : tie.Need-say-start-requires Inv-loop μ-loop
 say-start-requires c κs = c .before .start .ensures .0
 
-buffer-requires : tie.Need-buffer-requires Inv-loop μ-loop
-buffer-requires c κs = search needs
-
 loop-holds : tie.Need-loop-holds Inv-loop μ-loop
 loop-holds c = (c .before .before .before .start .ensures .0, c .buffer .ensures)
-
-sub-turns : tie.Need-sub-turns Inv-loop μ-loop
-sub-turns c = search needs
 
 slice-aggregate-read-record : tie.Need-slice-aggregate-read-record Inv-loop μ-loop
 slice-aggregate-read-record c = c .before .before .before .loop .inv .1
 
 read-record-requires : tie.Need-read-record-requires Inv-loop μ-loop
 read-record-requires c κs = omega (arith, c .before .before .before .loop .inv .1)
-
-returns : tie.Need-returns Inv-loop μ-loop
-returns c = search needs
 
 array-share-prefix-input : tie.Need-array-share-prefix-input Inv-loop μ-loop
 array-share-prefix-input c = c .before .before .before .read-record .ensures .0
@@ -58,26 +46,8 @@ loop-less c = let t = c .before .before .before .before .before .before .before 
 loop-again : tie.Need-loop-again Inv-loop μ-loop
 loop-again c = (c .tell .ensures, c .before .before .before .before .before .before .before .before .before .loop .inv .1 ∙ sym (c .before .before .before .before .before .read-record .ensures .1))
 
-returns-2 : tie.Need-returns-2 Inv-loop μ-loop
-returns-2 c = search needs
-
 pub run-spec : {M : Type 1} → statement M
 run-spec =
     tie.close
-    (tie.spec
-    Inv-loop
-    μ-loop
-    start-requires
-    say-start-requires
-    buffer-requires
-    loop-holds
-    sub-turns
-    slice-aggregate-read-record
-    read-record-requires
-    returns
-    array-share-prefix-input
-    slice-aggregate-tell
-    tell-requires
-    loop-less
-    loop-again
-    returns-2)
+    (tie.spec Inv-loop μ-loop (λ c κs. search needs) say-start-requires (λ c κs. search needs) loop-holds (λ c. search needs) slice-aggregate-read-record
+    read-record-requires (λ c. search needs) array-share-prefix-input slice-aggregate-tell tell-requires loop-less loop-again (λ c. search needs))

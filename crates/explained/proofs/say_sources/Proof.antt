@@ -7,11 +7,5 @@ use Rattle.explained.proofs.say_sources.Tie as tie
 take-root-requires : tie.Need-take-root-requires
 take-root-requires c κs = let k = c .before .before .before .before .before .before .before .before .pre in (whole-events k, few-wait k)
 
-take-scopes-requires : tie.Need-take-scopes-requires
-take-scopes-requires c κs = search needs
-
-returns : tie.Need-returns
-returns c = search needs
-
 pub say-sources-spec : {M : Type 1} → statement M
-say-sources-spec = tie.close (tie.spec take-root-requires take-scopes-requires returns)
+say-sources-spec = tie.close (tie.spec take-root-requires (λ c κs. search needs) (λ c. search needs))

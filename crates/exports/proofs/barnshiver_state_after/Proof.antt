@@ -1,30 +1,17 @@
-use Rattle.gate_day.proofs.WholeLaws.{open-fits, open-table, rest-is}
-use Rattle.lens.specs.Holds.{rowsOf}
+use Rattle.day_run.proofs.WholeLaws.{open-fits, open-table, rest-is}
+use Rattle.state_room.specs.Holds.{rowsOf}
 use Rattle.exports.proofs.AnswerLaws.{short-state, image-refused, all-told}
 use lib.Seq.{length-take-le}
 use mathlib.Core.Path.{sym, _∙_}
 use borrow.Author.Needs.{needs}
 use Rattle.exports.proofs.barnshiver_state_after.Statement.{statement}
 use Rattle.exports.proofs.barnshiver_state_after.Tie as tie
-use Rattle.exports.proofs.barnshiver_state_after.Reads as reads
-use Rattle.exports.proofs.barnshiver_state_after.Lts as lts
-use Rattle.exports.proofs.put_state.Reads as put-state-reads
-use Rattle.exports.proofs.run_all.Reads as run-all-reads
-use Rattle.gate_day.proofs.image_end.Reads as image-end-reads
-use Rattle.gate_day.proofs.open.Reads as open-reads
-use Rattle.table.proofs.number_of.Reads as number-of-reads
 
 returns : tie.Need-returns
 returns c = short-state (c .before .before .before .args .day .now) (c .before .before .before .args .state .now) (c .if1 .taken)
 
-open-requires : tie.Need-open-requires
-open-requires c κs = search needs
-
 enum-told : tie.Need-enum-told
 enum-told c = search needs
-
-image-end-requires : tie.Need-image-end-requires
-image-end-requires c κs = search needs
 
 slice-aggregate-run-all : tie.Need-slice-aggregate-run-all
 slice-aggregate-run-all c =
@@ -44,9 +31,6 @@ part-run-all-start c =
     let c₂ = c₁ .before .before .before .before in
     rw (c .before .image-end .ensures) (open-fits (c₂ .args .day .now) (sym (c₁ .«open» .ensures) ∙ c .before .before .enum-told .given .1))
 
-part-run-all-end : tie.Need-part-run-all-end
-part-run-all-end c = search needs
-
 run-all-requires : tie.Need-run-all-requires
 run-all-requires c κs =
     let c₁ = c .before .before .before in
@@ -59,18 +43,6 @@ slice-aggregate-put-state c =
     let c₂ = c₁ .before .before .before in
     let c₃ = c₂ .before .before .before .before in
     sym (length-take-le _ _ (rw (c₁ .image-end .ensures) (open-fits (c₃ .args .day .now) (sym (c₂ .«open» .ensures) ∙ c₁ .before .enum-told .given .1))))
-
-put-state-requires : tie.Need-put-state-requires
-put-state-requires c κs = search needs
-
-enum-known-checked : tie.Need-enum-known-checked
-enum-known-checked c = search needs
-
-number-of-requires : tie.Need-number-of-requires
-number-of-requires c κs = search needs
-
-same-length : tie.Need-same-length
-same-length c = search needs
 
 returns-2 : tie.Need-returns-2
 returns-2 c =
@@ -90,20 +62,5 @@ returns-3 c =
 pub barnshiver-state-after-spec : {M : Type 1} → statement M
 barnshiver-state-after-spec =
     tie.close
-    (tie.spec
-    returns
-    open-requires
-    enum-told
-    image-end-requires
-    slice-aggregate-run-all
-    sub-run-all
-    part-run-all-start
-    part-run-all-end
-    run-all-requires
-    slice-aggregate-put-state
-    put-state-requires
-    enum-known-checked
-    number-of-requires
-    same-length
-    returns-2
-    returns-3)
+    (tie.spec returns (λ c κs. search needs) enum-told (λ c κs. search needs) slice-aggregate-run-all sub-run-all part-run-all-start (λ c. search needs)
+    run-all-requires slice-aggregate-put-state (λ c κs. search needs) (λ c. search needs) (λ c κs. search needs) (λ c. search needs) returns-2 returns-3)

@@ -6,19 +6,10 @@ use Rattle.exports.proofs.first_words.Tie as tie
 heads-requires : tie.Need-heads-requires
 heads-requires c κs = few-wait (c .before .before .before .before .before .before .before .pre)
 
-peek-tag-requires : tie.Need-peek-tag-requires
-peek-tag-requires c κs = search needs
-
-peek-words-requires : tie.Need-peek-words-requires
-peek-words-requires c κs = search needs
-
 peek-is-control-only-requires : tie.Need-peek-is-control-only-requires
 peek-is-control-only-requires c κs =
     let h = c .before .before .before .before .before .before .before in
     (few-wait (h .before .before .before .before .before .before .before .before .pre), h .heads .ensures)
-
-flag-word-requires : tie.Need-flag-word-requires
-flag-word-requires c κs = search needs
 
 returns : tie.Need-returns
 returns c =
@@ -32,10 +23,4 @@ returns c =
 pub first-words-spec : {M : Type 1} → statement M
 first-words-spec =
     tie.close
-    (tie.spec
-    heads-requires
-    peek-tag-requires
-    peek-words-requires
-    peek-is-control-only-requires
-    flag-word-requires
-    returns)
+    (tie.spec heads-requires (λ c κs. search needs) (λ c κs. search needs) peek-is-control-only-requires (λ c κs. search needs) returns)

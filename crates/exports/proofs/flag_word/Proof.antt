@@ -4,18 +4,13 @@ use mir.Val.{boolByte}
 use borrow.Author.Needs.{needs}
 use Rattle.exports.proofs.flag_word.Statement.{statement}
 use Rattle.exports.proofs.flag_word.Tie as tie
-use Rattle.exports.proofs.flag_word.Reads as reads
-use Rattle.exports.proofs.flag_word.Lts as lts
 
 as-number : (t : Bool) → boolByte t ≡ cond t 1 0
 as-number true = refl
 as-number false = refl
 
-cast-result : tie.Need-cast-result
-cast-result c = search needs
-
 returns : tie.Need-returns
 returns c = as-number (c .args .b)
 
 pub flag-word-spec : {M : Type 1} → statement M
-flag-word-spec = tie.close (tie.spec cast-result returns)
+flag-word-spec = tie.close (tie.spec (λ c. search needs) returns)

@@ -2,12 +2,6 @@ use Rattle.exports.proofs.MapLaws.{clock-long, not-long}
 use borrow.Author.Needs.{needs}
 use Rattle.exports.proofs.is_clock.Statement.{statement}
 use Rattle.exports.proofs.is_clock.Tie as tie
-use Rattle.exports.proofs.is_clock.Reads as reads
-use Rattle.exports.proofs.is_clock.Lts as lts
-use Rattle.records.proofs.is_bit.Reads as is-bit-reads
-
-is-bit-requires : tie.Need-is-bit-requires
-is-bit-requires c κs = search needs
 
 returns : tie.Need-returns
 returns c = clock-long (c .before .before .before .args .clock .now) (c .before .if1 .taken) (c .is-bit .ensures)
@@ -16,4 +10,4 @@ returns-2 : tie.Need-returns-2
 returns-2 c = not-long (c .before .before .args .clock .now) (c .if1 .left)
 
 pub is-clock-spec : {M : Type 1} → statement M
-is-clock-spec = tie.close (tie.spec is-bit-requires returns returns-2)
+is-clock-spec = tie.close (tie.spec (λ c κs. search needs) returns returns-2)

@@ -3,20 +3,6 @@ use Rattle.tags.specs.Tags.{at, localToGlobal}
 use borrow.Author.Needs.{needs}
 use Rattle.exports.proofs.mapped_global.Statement.{statement}
 use Rattle.exports.proofs.mapped_global.Tie as tie
-use Rattle.exports.proofs.mapped_global.Reads as reads
-use Rattle.exports.proofs.mapped_global.Lts as lts
-use Rattle.exports.proofs.clock_in.Reads as clock-in-reads
-use Rattle.exports.proofs.is_clock.Reads as is-clock-reads
-use Rattle.tags.proofs.ScopeClock.local_to_global.Reads as local-to-global-reads
-
-is-clock-requires : tie.Need-is-clock-requires
-is-clock-requires c κs = search needs
-
-clock-in-requires : tie.Need-clock-in-requires
-clock-in-requires c κs = search needs
-
-local-to-global-requires : tie.Need-local-to-global-requires
-local-to-global-requires c κs = search needs
 
 returns : tie.Need-returns
 returns c =
@@ -33,4 +19,4 @@ returns-2 c =
 pub mapped-global-spec : {M : Type 1} → statement M
 mapped-global-spec =
     tie.close
-    (tie.spec is-clock-requires clock-in-requires local-to-global-requires returns returns-2)
+    (tie.spec (λ c κs. search needs) (λ c κs. search needs) (λ c κs. search needs) returns returns-2)

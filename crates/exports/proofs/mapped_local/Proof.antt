@@ -3,20 +3,6 @@ use Rattle.tags.specs.Tags.{at, globalToLocal}
 use borrow.Author.Needs.{needs}
 use Rattle.exports.proofs.mapped_local.Statement.{statement}
 use Rattle.exports.proofs.mapped_local.Tie as tie
-use Rattle.exports.proofs.mapped_local.Reads as reads
-use Rattle.exports.proofs.mapped_local.Lts as lts
-use Rattle.exports.proofs.clock_in.Reads as clock-in-reads
-use Rattle.exports.proofs.is_clock.Reads as is-clock-reads
-use Rattle.tags.proofs.ScopeClock.global_to_local.Reads as global-to-local-reads
-
-is-clock-requires : tie.Need-is-clock-requires
-is-clock-requires c κs = search needs
-
-clock-in-requires : tie.Need-clock-in-requires
-clock-in-requires c κs = search needs
-
-global-to-local-requires : tie.Need-global-to-local-requires
-global-to-local-requires c κs = search needs
 
 returns : tie.Need-returns
 returns c =
@@ -33,4 +19,4 @@ returns-2 c =
 pub mapped-local-spec : {M : Type 1} → statement M
 mapped-local-spec =
     tie.close
-    (tie.spec is-clock-requires clock-in-requires global-to-local-requires returns returns-2)
+    (tie.spec (λ c κs. search needs) (λ c κs. search needs) (λ c κs. search needs) returns returns-2)

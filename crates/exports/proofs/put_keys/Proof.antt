@@ -1,16 +1,12 @@
 use Prim.Native.Nat.{_-_, _≤_}
 use lib.ListN.{length, take}
 use borrow.Author.Needs.{needs}
-use Rattle.puts.specs.Written.{Written}
-use Rattle.puts.proofs.WrittenLaws.{written-room, written-long}
+use Rattle.byte_writer.specs.Written.{Written}
+use Rattle.byte_writer.proofs.WrittenLaws.{written-room, written-long}
 use Rattle.exports.specs.Told.{wordBytes}
 use Rattle.exports.proofs.ToldLaws.{words-none, words-on, words-all}
 use Rattle.exports.proofs.put_keys.Statement.{statement}
 use Rattle.exports.proofs.put_keys.Tie as tie
-use Rattle.exports.proofs.put_keys.Reads as reads
-use Rattle.exports.proofs.put_keys.Lts as lts
-use Rattle.puts.proofs.put_number.Reads as put-number-reads
-use Rattle.exports.proofs.wide.Reads as wide-reads
 
 abbrev Inv-loop : tie.InvT-loop
 Inv-loop bytes₀ at keys end₀ i₀ bytes end i = (i ≤ length keys) × Written bytes₀ end₀ (wordBytes (take i keys)) bytes end
@@ -21,23 +17,8 @@ abbrev μ-loop : tie.MeasureT-loop
 loop-holds : tie.Need-loop-holds Inv-loop μ-loop
 loop-holds c = (search needs, words-none _ _ (c .before .before .args .keys .now) (c .before .before .pre))
 
-mul-wide : tie.Need-mul-wide Inv-loop μ-loop
-mul-wide c = search needs
-
-shared-slice-read-wide : tie.Need-shared-slice-read-wide Inv-loop μ-loop
-shared-slice-read-wide c = search needs
-
-wide-requires : tie.Need-wide-requires Inv-loop μ-loop
-wide-requires c κs = search needs
-
 put-number-requires : tie.Need-put-number-requires Inv-loop μ-loop
 put-number-requires c κs = written-room (c .before .before .before .before .loop .inv .1)
-
-add-i : tie.Need-add-i Inv-loop μ-loop
-add-i c = search needs
-
-loop-less : tie.Need-loop-less Inv-loop μ-loop
-loop-less c = search needs
 
 loop-again : tie.Need-loop-again Inv-loop μ-loop
 loop-again c =
@@ -55,16 +36,5 @@ returns c = words-all (c .before .before .before .before .args .keys .now) (c .b
 pub put-keys-spec : {M : Type 1} → statement M
 put-keys-spec =
     tie.close
-    (tie.spec
-    Inv-loop
-    μ-loop
-    loop-holds
-    mul-wide
-    shared-slice-read-wide
-    wide-requires
-    put-number-requires
-    add-i
-    loop-less
-    loop-again
-    same-length
-    returns)
+    (tie.spec Inv-loop μ-loop loop-holds (λ c. search needs) (λ c. search needs) (λ c κs. search needs) put-number-requires (λ c. search needs)
+    (λ c. search needs) loop-again same-length returns)

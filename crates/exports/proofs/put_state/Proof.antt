@@ -1,32 +1,12 @@
 use mathlib.Core.Path.{sym}
-use Rattle.puts.proofs.WrittenLaws.{written-room}
+use Rattle.byte_writer.proofs.WrittenLaws.{written-room}
 use Rattle.exports.proofs.WordLaws.{events-long, values-long, buckets-long, state-are}
 use borrow.Author.Needs.{needs}
 use Rattle.exports.proofs.put_state.Statement.{statement}
 use Rattle.exports.proofs.put_state.Tie as tie
-use Rattle.exports.proofs.put_state.Reads as reads
-use Rattle.exports.proofs.put_state.Lts as lts
-use Rattle.exports.proofs.first_words.Reads as first-words-reads
-use Rattle.exports.proofs.put_keys.Reads as put-keys-reads
-use Rattle.exports.proofs.put_words.Reads as put-words-reads
-
-first-words-requires : tie.Need-first-words-requires
-first-words-requires c κs = search needs
-
-slice-aggregate-put-words : tie.Need-slice-aggregate-put-words
-slice-aggregate-put-words c = search needs
-
-put-words-requires : tie.Need-put-words-requires
-put-words-requires c κs = search needs
-
-slice-aggregate-put-keys : tie.Need-slice-aggregate-put-keys
-slice-aggregate-put-keys c = search needs
 
 put-keys-requires : tie.Need-put-keys-requires
 put-keys-requires c κs = written-room (c .before .before .before .before .put-words .ensures)
-
-slice-aggregate-put-words-2 : tie.Need-slice-aggregate-put-words-2
-slice-aggregate-put-words-2 c = search needs
 
 put-words-requires-2 : tie.Need-put-words-requires-2
 put-words-requires-2 c κs = written-room (c .before .before .before .before .put-keys .ensures)
@@ -58,9 +38,6 @@ slice-aggregate-put-words-5 c =
 put-words-requires-5 : tie.Need-put-words-requires-5
 put-words-requires-5 c κs = written-room (c .before .before .before .before .put-words4 .ensures)
 
-same-length : tie.Need-same-length
-same-length c = search needs
-
 returns : tie.Need-returns
 returns c =
     let c₁ = c .before .before .before .before .before .before .before in
@@ -76,19 +53,6 @@ returns c =
 pub put-state-spec : {M : Type 1} → statement M
 put-state-spec =
     tie.close
-    (tie.spec
-    first-words-requires
-    slice-aggregate-put-words
-    put-words-requires
-    slice-aggregate-put-keys
-    put-keys-requires
-    slice-aggregate-put-words-2
-    put-words-requires-2
-    slice-aggregate-put-words-3
-    put-words-requires-3
-    slice-aggregate-put-words-4
-    put-words-requires-4
-    slice-aggregate-put-words-5
-    put-words-requires-5
-    same-length
-    returns)
+    (tie.spec (λ c κs. search needs) (λ c. search needs) (λ c κs. search needs) (λ c. search needs) put-keys-requires (λ c. search needs) put-words-requires-2
+    slice-aggregate-put-words-3 put-words-requires-3 slice-aggregate-put-words-4 put-words-requires-4 slice-aggregate-put-words-5 put-words-requires-5
+    (λ c. search needs) returns)

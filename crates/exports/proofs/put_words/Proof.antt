@@ -1,16 +1,13 @@
 use Prim.Native.Nat.{_-_, _≤_}
 use lib.ListN.{length, take}
 use borrow.Author.Needs.{needs}
-use Rattle.puts.specs.Written.{Written}
-use Rattle.puts.proofs.WrittenLaws.{written-room, written-long}
+use Rattle.byte_writer.specs.Written.{Written}
+use Rattle.byte_writer.proofs.WrittenLaws.{written-room, written-long}
 use Rattle.exports.specs.Told.{wordBytes}
 use Rattle.exports.proofs.ToldLaws.{words-none, words-on, words-all}
 use mathlib.Core.Path.{refl}
 use Rattle.exports.proofs.put_words.Statement.{statement}
 use Rattle.exports.proofs.put_words.Tie as tie
-use Rattle.exports.proofs.put_words.Reads as reads
-use Rattle.exports.proofs.put_words.Lts as lts
-use Rattle.puts.proofs.put_number.Reads as put-number-reads
 
 abbrev Inv-loop : tie.InvT-loop
 Inv-loop bytes₀ at words end₀ i₀ bytes end i = (i ≤ length words) × Written bytes₀ end₀ (wordBytes (take i words)) bytes end
@@ -21,20 +18,8 @@ abbrev μ-loop : tie.MeasureT-loop
 loop-holds : tie.Need-loop-holds Inv-loop μ-loop
 loop-holds c = (search needs, words-none _ _ (c .before .before .args .words .now) (c .before .before .pre))
 
-mul-word : tie.Need-mul-word Inv-loop μ-loop
-mul-word c = search needs
-
-shared-slice-read-word : tie.Need-shared-slice-read-word Inv-loop μ-loop
-shared-slice-read-word c = search needs
-
 put-number-requires : tie.Need-put-number-requires Inv-loop μ-loop
 put-number-requires c κs = written-room (c .before .before .before .loop .inv .1)
-
-add-i : tie.Need-add-i Inv-loop μ-loop
-add-i c = search needs
-
-loop-less : tie.Need-loop-less Inv-loop μ-loop
-loop-less c = search needs
 
 loop-again : tie.Need-loop-again Inv-loop μ-loop
 loop-again c =
@@ -52,15 +37,5 @@ returns c = words-all (c .before .before .before .before .args .words .now) (c .
 pub put-words-spec : {M : Type 1} → statement M
 put-words-spec =
     tie.close
-    (tie.spec
-    Inv-loop
-    μ-loop
-    loop-holds
-    mul-word
-    shared-slice-read-word
-    put-number-requires
-    add-i
-    loop-less
-    loop-again
-    same-length
-    returns)
+    (tie.spec Inv-loop μ-loop loop-holds (λ c. search needs) (λ c. search needs) put-number-requires (λ c. search needs) (λ c. search needs) loop-again
+    same-length returns)

@@ -1,22 +1,17 @@
-use Rattle.puts.proofs.WrittenLaws.{written-long}
+use Rattle.byte_writer.proofs.WrittenLaws.{written-long}
 use Rattle.exports.proofs.AfterLaws.{all-ends, all-rests, all-on, all-inside, all-over}
 use Rattle.exports.proofs.AfterLaws.{after-begins}
 use Rattle.exports.proofs.AfterLaws.{scratch, afterIn}
 use Rattle.exports.specs.State.{afterAll}
-use Rattle.lens.specs.Holds.{rowsOf, stateIn}
-use Rattle.gate_day.specs.Views.{Kept}
+use Rattle.state_room.specs.Holds.{rowsOf, stateIn}
+use Rattle.day_run.specs.Views.{Kept}
 use borrow.Author.Needs.{needs}
 use lib.ListN.{length, drop}
 use native.Mathlib.Omega.{arith}
-use mathlib.Core.Path.{_≡_, refl, sym, _∙_}
+use mathlib.Core.Path.{_≡_, sym, _∙_}
 use Prim.Native.Nat.{_≤_}
 use Rattle.exports.proofs.run_all.Statement.{statement}
 use Rattle.exports.proofs.run_all.Tie as tie
-use Rattle.exports.proofs.run_all.Reads as reads
-use Rattle.exports.proofs.run_all.Lts as lts
-use Rattle.exports.proofs.behind.Reads as behind-reads
-use Rattle.gate_day.proofs.run_records.Reads as run-records-reads
-use Rattle.gate_day.proofs.start.Reads as start-reads
 
 abbrev Inv-loop : tie.InvT-loop
 Inv-loop image records day₀ lines₀ at₀ turns₀ day lines at turns =
@@ -26,25 +21,10 @@ Inv-loop image records day₀ lines₀ at₀ turns₀ day lines at turns =
 abbrev μ-loop : tie.MeasureT-loop
 μ-loop image records day₀ lines₀ at₀ turns₀ day lines at turns = turns
 
-start-requires : tie.Need-start-requires Inv-loop μ-loop
-start-requires c κs = search needs
-
 loop-holds : tie.Need-loop-holds Inv-loop μ-loop
 loop-holds c =
     let c₁ = c .before .before .before in
     (c .start .ensures .0, search needs, search needs, after-begins (c₁ .args .image .now) (c₁ .args .records .now) (rowsOf (c .start .result)) (c .start .ensures .1))
-
-sub-turns : tie.Need-sub-turns Inv-loop μ-loop
-sub-turns c = search needs
-
-sub-run-records : tie.Need-sub-run-records Inv-loop μ-loop
-sub-run-records c = search needs
-
-part-run-records-start : tie.Need-part-run-records-start Inv-loop μ-loop
-part-run-records-start c = search needs
-
-part-run-records-end : tie.Need-part-run-records-end Inv-loop μ-loop
-part-run-records-end c = search needs
 
 slice-aggregate-run-records : tie.Need-slice-aggregate-run-records Inv-loop μ-loop
 slice-aggregate-run-records c = c .before .before .before .loop .inv .2
@@ -112,20 +92,5 @@ returns-3 c =
 pub run-all-spec : {M : Type 1} → statement M
 run-all-spec =
     tie.close
-    (tie.spec
-    Inv-loop
-    μ-loop
-    start-requires
-    loop-holds
-    sub-turns
-    sub-run-records
-    part-run-records-start
-    part-run-records-end
-    slice-aggregate-run-records
-    run-records-requires
-    returns
-    returns-2
-    behind-requires
-    loop-less
-    loop-again
-    returns-3)
+    (tie.spec Inv-loop μ-loop (λ c κs. search needs) loop-holds (λ c. search needs) (λ c. search needs) (λ c. search needs) (λ c. search needs)
+    slice-aggregate-run-records run-records-requires returns returns-2 behind-requires loop-less loop-again returns-3)

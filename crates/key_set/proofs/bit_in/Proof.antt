@@ -7,9 +7,6 @@ use Rattle.key_set.proofs.Laws.{one-shl}
 use Rattle.key_set.proofs.bit_in.Statement.{statement}
 use Rattle.key_set.proofs.bit_in.Tie as tie
 
-shl-result : tie.Need-shl-result
-shl-result c = search needs
-
 returns : tie.Need-returns
 returns c = rw (eq-eqb _ _ (c .if1 .taken)) (one-shl (c .before .args .k % 64) (omega arith))
 
@@ -17,4 +14,4 @@ returns-2 : tie.Need-returns-2
 returns-2 c = rw (ne-eqb _ _ (c .if1 .left))
 
 pub bit-in-spec : {M : Type 1} → statement M
-bit-in-spec = tie.close (tie.spec shl-result returns returns-2)
+bit-in-spec = tie.close (tie.spec (λ c. search needs) returns returns-2)

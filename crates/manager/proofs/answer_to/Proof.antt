@@ -5,9 +5,6 @@ use borrow.Author.Needs.{needs}
 use Rattle.manager.proofs.answer_to.Statement.{statement}
 use Rattle.manager.proofs.answer_to.Tie as tie
 
-step-on-requires : tie.Need-step-on-requires
-step-on-requires c κs = search needs
-
 returns : tie.Need-returns
 returns c =
     let s = c .before .before .step-on in
@@ -15,4 +12,4 @@ returns c =
     answer-is (a .args .call) (s .result .performed) (s .result .actions) (arraysOf (s .result .manager)) (a .pre) (s .ensures .1 .1) (s .ensures .0)
 
 pub answer-to-spec : {M : Type 1} → statement M
-answer-to-spec = tie.close (tie.spec step-on-requires returns)
+answer-to-spec = tie.close (tie.spec (λ c κs. search needs) returns)

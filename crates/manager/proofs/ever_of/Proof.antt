@@ -4,7 +4,7 @@ use Prim.Native.Nat.{_-_, _≤_}
 use native.Mathlib.Omega.{arith}
 use mathlib.Core.List.{map}
 use lib.ListN.{take, length}
-use Rattle.scopes.specs.Scopes.{mostScopes, scopesOf}
+use Rattle.state_scopes.specs.Scopes.{mostScopes, scopesOf}
 use Rattle.manager.proofs.Front.{ever-next, ever-all}
 use borrow.Author.Needs.{needs}
 use Rattle.manager.proofs.ever_of.Statement.{statement}
@@ -19,18 +19,6 @@ abbrev μ-loop : tie.MeasureT-loop
 loop-holds : tie.Need-loop-holds Inv-loop μ-loop
 loop-holds c = (omega arith, search needs, refl)
 
-scope-at-requires : tie.Need-scope-at-requires Inv-loop μ-loop
-scope-at-requires c κs = search needs
-
-array-write-out : tie.Need-array-write-out Inv-loop μ-loop
-array-write-out c = search needs
-
-add-i : tie.Need-add-i Inv-loop μ-loop
-add-i c = search needs
-
-loop-less : tie.Need-loop-less Inv-loop μ-loop
-loop-less c = search needs
-
 loop-again : tie.Need-loop-again Inv-loop μ-loop
 loop-again c = (omega arith, search needs, search ever-next)
 
@@ -40,13 +28,4 @@ returns c = search ever-all
 pub ever-of-spec : {M : Type 1} → statement M
 ever-of-spec =
     tie.close
-    (tie.spec
-    Inv-loop
-    μ-loop
-    loop-holds
-    scope-at-requires
-    array-write-out
-    add-i
-    loop-less
-    loop-again
-    returns)
+    (tie.spec Inv-loop μ-loop loop-holds (λ c κs. search needs) (λ c. search needs) (λ c. search needs) (λ c. search needs) loop-again returns)

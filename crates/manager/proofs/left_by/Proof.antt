@@ -5,9 +5,6 @@ use borrow.Author.Needs.{needs}
 use Rattle.manager.proofs.left_by.Statement.{statement}
 use Rattle.manager.proofs.left_by.Tie as tie
 
-only-asks-requires : tie.Need-only-asks-requires
-only-asks-requires c κs = search needs
-
 returns : tie.Need-returns
 returns c =
     let o = c .before in
@@ -15,9 +12,6 @@ returns c =
     λ ks keys.
     left-asked (a .call) (a .p) (arraysOf (a .m)) (arraysIn (a .u)) ks keys (o .only-asks .ensures ks)
     (c .if1 .taken)
-
-pack-requires : tie.Need-pack-requires
-pack-requires c κs = search needs
 
 returns-2 : tie.Need-returns-2
 returns-2 c =
@@ -27,9 +21,6 @@ returns-2 c =
     left-found (a .call) (a .p) (arraysOf (a .m)) (arraysIn (a .u)) ks keys (o .only-asks .ensures ks)
     (c .before .before .if1 .left) (c .before .if2 .taken) (c .pack .ensures)
 
-is-refused-requires : tie.Need-is-refused-requires
-is-refused-requires c κs = search needs
-
 returns-3 : tie.Need-returns-3
 returns-3 c =
     let o = c .before .before .before .before in
@@ -37,9 +28,6 @@ returns-3 c =
     λ ks keys.
     left-refused (a .call) (a .p) (arraysOf (a .m)) (arraysIn (a .u)) ks keys (o .only-asks .ensures ks)
     (c .before .before .before .if1 .left) (c .before .before .if2 .left) (c .before .is-refused .ensures) (c .if3 .taken)
-
-pack-requires-2 : tie.Need-pack-requires-2
-pack-requires-2 c κs = search needs
 
 returns-4 : tie.Need-returns-4
 returns-4 c =
@@ -52,12 +40,4 @@ returns-4 c =
 pub left-by-spec : {M : Type 1} → statement M
 left-by-spec =
     tie.close
-    (tie.spec
-    only-asks-requires
-    returns
-    pack-requires
-    returns-2
-    is-refused-requires
-    returns-3
-    pack-requires-2
-    returns-4)
+    (tie.spec (λ c κs. search needs) returns (λ c κs. search needs) returns-2 (λ c κs. search needs) returns-3 (λ c κs. search needs) returns-4)

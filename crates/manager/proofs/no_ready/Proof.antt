@@ -4,11 +4,8 @@ use borrow.Author.Needs.{needs}
 use Rattle.manager.proofs.no_ready.Statement.{statement}
 use Rattle.manager.proofs.no_ready.Tie as tie
 
-empty-requires : tie.Need-empty-requires
-empty-requires c κs = search needs
-
 returns : tie.Need-returns
 returns c = search no-ready-is
 
 pub no-ready-spec : {M : Type 1} → statement M
-no-ready-spec = tie.close (tie.spec empty-requires returns)
+no-ready-spec = tie.close (tie.spec (λ c κs. search needs) returns)

@@ -8,21 +8,6 @@ use Rattle.manager.proofs.only_asks.Tie as tie
 enum-told : tie.Need-enum-told
 enum-told c = search needs
 
-enum-told-2 : tie.Need-enum-told-2
-enum-told-2 c = search needs
-
-enum-told-3 : tie.Need-enum-told-3
-enum-told-3 c = search needs
-
-enum-told-4 : tie.Need-enum-told-4
-enum-told-4 c = search needs
-
-enum-known-call : tie.Need-enum-known-call
-enum-known-call c = search needs
-
-only-reads-requires : tie.Need-only-reads-requires
-only-reads-requires c κs = search needs
-
 returns : tie.Need-returns
 returns c = λ ks. rw (c .enum-told .given .1) (push-asks (c .enum-told .given .0 .0) ks)
 
@@ -41,15 +26,5 @@ returns-5 c = λ ks. rw (c .before .before .call .given .1) (c .only-reads .ensu
 pub only-asks-spec : {M : Type 1} → statement M
 only-asks-spec =
     tie.close
-    (tie.spec
-    enum-told
-    enum-told-2
-    enum-told-3
-    enum-told-4
-    enum-known-call
-    only-reads-requires
-    returns
-    returns-2
-    returns-3
-    returns-4
-    returns-5)
+    (tie.spec enum-told (λ c. search needs) (λ c. search needs) (λ c. search needs) (λ c. search needs) (λ c κs. search needs) returns returns-2 returns-3
+    returns-4 returns-5)

@@ -4,21 +4,6 @@ use borrow.Author.Needs.{needs}
 use Rattle.manager.proofs.pack.Statement.{statement}
 use Rattle.manager.proofs.pack.Tie as tie
 
-clocks-of-requires : tie.Need-clocks-of-requires
-clocks-of-requires c κs = search needs
-
-active-of-requires : tie.Need-active-of-requires
-active-of-requires c κs = search needs
-
-ever-of-requires : tie.Need-ever-of-requires
-ever-of-requires c κs = search needs
-
-slots-of-requires : tie.Need-slots-of-requires
-slots-of-requires c κs = search needs
-
-store-of-requires : tie.Need-store-of-requires
-store-of-requires c κs = search needs
-
 returns : tie.Need-returns
 returns c =
     let s = c .before .before .before in
@@ -30,10 +15,4 @@ returns c =
 pub pack-spec : {M : Type 1} → statement M
 pack-spec =
     tie.close
-    (tie.spec
-    clocks-of-requires
-    active-of-requires
-    ever-of-requires
-    slots-of-requires
-    store-of-requires
-    returns)
+    (tie.spec (λ c κs. search needs) (λ c κs. search needs) (λ c κs. search needs) (λ c κs. search needs) (λ c κs. search needs) returns)

@@ -5,19 +5,10 @@ use borrow.Author.Needs.{needs}
 use Rattle.manager.proofs.popped_of.Statement.{statement}
 use Rattle.manager.proofs.popped_of.Tie as tie
 
-ready-of-requires : tie.Need-ready-of-requires
-ready-of-requires c κs = search needs
-
 returns : tie.Need-returns
 returns c =
     let a = c .before .before .before .before .before in
     pop-found (a .args .c .performed) (a .args .c .actions) (arraysOf (a .args .c .manager)) _ (c .before .if1 .taken) (c .ready-of .ensures .0) (c .ready-of .ensures .1)
-
-no-ready-requires : tie.Need-no-ready-requires
-no-ready-requires c κs = search needs
-
-is-refused-requires : tie.Need-is-refused-requires
-is-refused-requires c κs = search needs
 
 returns-2 : tie.Need-returns-2
 returns-2 c =
@@ -34,4 +25,4 @@ returns-3 c =
 pub popped-of-spec : {M : Type 1} → statement M
 popped-of-spec =
     tie.close
-    (tie.spec ready-of-requires returns no-ready-requires is-refused-requires returns-2 returns-3)
+    (tie.spec (λ c κs. search needs) returns (λ c κs. search needs) (λ c κs. search needs) returns-2 returns-3)

@@ -4,11 +4,8 @@ use borrow.Author.Needs.{needs}
 use Rattle.manager.proofs.ready_of.Statement.{statement}
 use Rattle.manager.proofs.ready_of.Tie as tie
 
-own-keys-requires : tie.Need-own-keys-requires
-own-keys-requires c κs = search needs
-
 returns : tie.Need-returns
 returns c = let a = c .before .before .before .before .args in shown-is (a .p) _ (search needs) (c .before .before .own-keys .ensures .1) (c .before .before .own-keys .ensures .0)
 
 pub ready-of-spec : {M : Type 1} → statement M
-ready-of-spec = tie.close (tie.spec own-keys-requires returns)
+ready-of-spec = tie.close (tie.spec (λ c κs. search needs) returns)

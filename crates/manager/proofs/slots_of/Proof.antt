@@ -4,8 +4,8 @@ use Prim.Native.Nat.{_-_, _≤_}
 use native.Mathlib.Omega.{arith}
 use mathlib.Core.List.{map}
 use lib.ListN.{take, length}
-use Rattle.slots.specs.Slots.{roomForEvents}
-use Rattle.slots.specs.Slots.{eventOf, eventsOf}
+use Rattle.state_events.specs.Slots.{roomForEvents}
+use Rattle.state_events.specs.Slots.{eventOf, eventsOf}
 use Rattle.lists.specs.Loops.{things-more, things-all}
 use borrow.Author.Needs.{needs}
 use Rattle.manager.proofs.slots_of.Statement.{statement}
@@ -17,26 +17,8 @@ Inv-loop rows out₀ i₀ out i = (i ≤ roomForEvents) × (length out ≡ roomF
 abbrev μ-loop : tie.MeasureT-loop
 μ-loop rows out₀ i₀ out i = roomForEvents - i
 
-blank-requires : tie.Need-blank-requires Inv-loop μ-loop
-blank-requires c κs = search needs
-
 loop-holds : tie.Need-loop-holds Inv-loop μ-loop
 loop-holds c = (omega arith, search needs, refl)
-
-slot-at-requires : tie.Need-slot-at-requires Inv-loop μ-loop
-slot-at-requires c κs = search needs
-
-mul-out : tie.Need-mul-out Inv-loop μ-loop
-mul-out c = search needs
-
-array-set-from-out : tie.Need-array-set-from-out Inv-loop μ-loop
-array-set-from-out c = search needs
-
-add-i : tie.Need-add-i Inv-loop μ-loop
-add-i c = search needs
-
-loop-less : tie.Need-loop-less Inv-loop μ-loop
-loop-less c = search needs
 
 loop-again : tie.Need-loop-again Inv-loop μ-loop
 loop-again c = (omega arith, search needs, search things-more)
@@ -47,15 +29,5 @@ returns c = search things-all
 pub slots-of-spec : {M : Type 1} → statement M
 slots-of-spec =
     tie.close
-    (tie.spec
-    Inv-loop
-    μ-loop
-    blank-requires
-    loop-holds
-    slot-at-requires
-    mul-out
-    array-set-from-out
-    add-i
-    loop-less
-    loop-again
-    returns)
+    (tie.spec Inv-loop μ-loop (λ c κs. search needs) loop-holds (λ c κs. search needs) (λ c. search needs) (λ c. search needs) (λ c. search needs)
+    (λ c. search needs) loop-again returns)

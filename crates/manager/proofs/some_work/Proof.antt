@@ -3,30 +3,6 @@ use borrow.Author.Needs.{needs}
 use Rattle.manager.proofs.some_work.Statement.{statement}
 use Rattle.manager.proofs.some_work.Tie as tie
 
-enum-told : tie.Need-enum-told
-enum-told c = search needs
-
-enum-told-2 : tie.Need-enum-told-2
-enum-told-2 c = search needs
-
-enum-known-answer : tie.Need-enum-known-answer
-enum-known-answer c = search needs
-
-enum-known-answer-2 : tie.Need-enum-known-answer-2
-enum-known-answer-2 c = search needs
-
-enum-known-answer-3 : tie.Need-enum-known-answer-3
-enum-known-answer-3 c = search needs
-
-enum-known-answer-4 : tie.Need-enum-known-answer-4
-enum-known-answer-4 c = search needs
-
-returns : tie.Need-returns
-returns c = search needs
-
-returns-2 : tie.Need-returns-2
-returns-2 c = search needs
-
 returns-3 : tie.Need-returns-3
 returns-3 c = rw (c .before .answer .given .1)
 
@@ -42,16 +18,5 @@ returns-6 c = rw (c .before .answer4 .given .1)
 pub some-work-spec : {M : Type 1} → statement M
 some-work-spec =
     tie.close
-    (tie.spec
-    enum-told
-    enum-told-2
-    enum-known-answer
-    enum-known-answer-2
-    enum-known-answer-3
-    enum-known-answer-4
-    returns
-    returns-2
-    returns-3
-    returns-4
-    returns-5
-    returns-6)
+    (tie.spec (λ c. search needs) (λ c. search needs) (λ c. search needs) (λ c. search needs) (λ c. search needs) (λ c. search needs) (λ c. search needs)
+    (λ c. search needs) returns-3 returns-4 returns-5 returns-6)

@@ -4,33 +4,6 @@ use borrow.Author.Needs.{needs}
 use Rattle.manager.proofs.unpack.Statement.{statement}
 use Rattle.manager.proofs.unpack.Tie as tie
 
-count-requires : tie.Need-count-requires
-count-requires c κs = search needs
-
-count-requires-2 : tie.Need-count-requires-2
-count-requires-2 c κs = search needs
-
-cast-mode-rows : tie.Need-cast-mode-rows
-cast-mode-rows c = search needs
-
-mode-rows-requires : tie.Need-mode-rows-requires
-mode-rows-requires c κs = search needs
-
-cast-scope-rows : tie.Need-cast-scope-rows
-cast-scope-rows c = search needs
-
-scope-rows-requires : tie.Need-scope-rows-requires
-scope-rows-requires c κs = search needs
-
-slot-rows-requires : tie.Need-slot-rows-requires
-slot-rows-requires c κs = search needs
-
-value-rows-requires : tie.Need-value-rows-requires
-value-rows-requires c κs = search needs
-
-bucket-rows-requires : tie.Need-bucket-rows-requires
-bucket-rows-requires c κs = search needs
-
 returns : tie.Need-returns
 returns c =
     let b = c .bucket-rows .ensures in
@@ -45,14 +18,5 @@ returns c =
 pub unpack-spec : {M : Type 1} → statement M
 unpack-spec =
     tie.close
-    (tie.spec
-    count-requires
-    count-requires-2
-    cast-mode-rows
-    mode-rows-requires
-    cast-scope-rows
-    scope-rows-requires
-    slot-rows-requires
-    value-rows-requires
-    bucket-rows-requires
-    returns)
+    (tie.spec (λ c κs. search needs) (λ c κs. search needs) (λ c. search needs) (λ c κs. search needs) (λ c. search needs) (λ c κs. search needs)
+    (λ c κs. search needs) (λ c κs. search needs) (λ c κs. search needs) returns)

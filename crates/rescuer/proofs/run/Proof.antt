@@ -5,8 +5,8 @@ use mathlib.Core.List.{List}
 use native.Mathlib.Omega.{arith}
 use lib.ListN.{length, take, length-take}
 use lib.Seq.{length-take-le}
-use Rattle.puts.proofs.WrittenLaws.{written-room, written-long}
-use Rattle.rescue.proofs.BoundLaws.{piece-bounds}
+use Rattle.byte_writer.proofs.WrittenLaws.{written-room, written-long}
+use Rattle.day_rescue.proofs.BoundLaws.{piece-bounds}
 use borrow.Author.Needs.{needs}
 use Rattle.rescuer.proofs.run.Statement.{statement}
 use Rattle.rescuer.proofs.run.Tie as tie
@@ -23,44 +23,14 @@ abbrev μ-loop : tie.MeasureT-loop
 μ-loop input₀ start output₀ list₀ there₀ from₀ pending₀ sums₀ turns₀ t17 input output list there from pending sums turns =
     turns
 
-large-buffer-requires : tie.Need-large-buffer-requires Inv-loop μ-loop
-large-buffer-requires c κs = search needs
-
 loop-holds : tie.Need-loop-holds Inv-loop μ-loop
 loop-holds c = (sym (c .before .before .pre .0), c .large-buffer .ensures, search needs, c .before .before .pre .1, c .before .before .pre .2)
-
-sub-turns : tie.Need-sub-turns Inv-loop μ-loop
-sub-turns c = search needs
-
-slice-aggregate-say : tie.Need-slice-aggregate-say Inv-loop μ-loop
-slice-aggregate-say c = search needs
-
-say-requires : tie.Need-say-requires Inv-loop μ-loop
-say-requires c κs = search needs
-
-same-length : tie.Need-same-length Inv-loop μ-loop
-same-length c = search needs
-
-returns : tie.Need-returns Inv-loop μ-loop
-returns c = search needs
-
-sub-rescue-piece : tie.Need-sub-rescue-piece Inv-loop μ-loop
-sub-rescue-piece c = search needs
-
-part-rescue-piece-start : tie.Need-part-rescue-piece-start Inv-loop μ-loop
-part-rescue-piece-start c = search needs
-
-part-rescue-piece-end : tie.Need-part-rescue-piece-end Inv-loop μ-loop
-part-rescue-piece-end c = search needs
 
 slice-aggregate-rescue-piece : tie.Need-slice-aggregate-rescue-piece Inv-loop μ-loop
 slice-aggregate-rescue-piece c = c .before .before .before .before .before .loop .inv .1
 
 slice-aggregate-rescue-piece-2 : tie.Need-slice-aggregate-rescue-piece-2 Inv-loop μ-loop
 slice-aggregate-rescue-piece-2 c = c .before .before .before .before .before .before .loop .inv .2
-
-rescue-piece-requires : tie.Need-rescue-piece-requires Inv-loop μ-loop
-rescue-piece-requires c κs = search needs
 
 array-share-prefix-output : tie.Need-array-share-prefix-output Inv-loop μ-loop
 array-share-prefix-output c = (piece-bounds _ _ _ _ _ (c .before .before .before .rescue-piece .ensures)) .written
@@ -74,31 +44,13 @@ array-share-prefix-list c = (piece-bounds _ _ _ _ _ (c .before .before .before .
 slice-aggregate-put-out-2 : tie.Need-slice-aggregate-put-out-2 Inv-loop μ-loop
 slice-aggregate-put-out-2 c = sym (length-take-le _ _ ((piece-bounds _ _ _ _ _ (c .before .before .before .before .before .rescue-piece .ensures)) .listed))
 
-put-out-requires : tie.Need-put-out-requires Inv-loop μ-loop
-put-out-requires c κs = search needs
-
-same-length-2 : tie.Need-same-length-2 Inv-loop μ-loop
-same-length-2 c = search needs
-
-returns-2 : tie.Need-returns-2 Inv-loop μ-loop
-returns-2 c = search needs
-
 sub-summed : tie.Need-sub-summed Inv-loop μ-loop
 sub-summed c = (piece-bounds _ _ _ _ _ (c .before .before .before .before .before .before .before .before .rescue-piece .ensures)) .few
-
-summed-requires : tie.Need-summed-requires Inv-loop μ-loop
-summed-requires c κs = search needs
-
-say-sums-requires : tie.Need-say-sums-requires Inv-loop μ-loop
-say-sums-requires c κs = search needs
 
 same-length-3 : tie.Need-same-length-3 Inv-loop μ-loop
 same-length-3 c =
     let l = c .before .before .before .before .before .before .before .before .before .before .before .before .before .before .before .before .before .before in
     sym (l .loop .inv .0) ∙ sym (l .before .before .before .pre .0)
-
-returns-3 : tie.Need-returns-3 Inv-loop μ-loop
-returns-3 c = search needs
 
 add-shift : tie.Need-add-shift Inv-loop μ-loop
 add-shift c =
@@ -132,47 +84,11 @@ loop-again c =
     let f = c .before .before .fill .ensures in
     (h .0 ∙ (sym (written-long w) ∙ sym (f .1)), h .1 ∙ sym (b .output-long), h .2 ∙ sym (b .list-long), omega arith, omega (arith, f .0, f .1, written-long w, h .0))
 
-same-length-4 : tie.Need-same-length-4 Inv-loop μ-loop
-same-length-4 c = search needs
-
-returns-4 : tie.Need-returns-4 Inv-loop μ-loop
-returns-4 c = search needs
-
 pub run-spec : {M : Type 1} → statement M
 run-spec =
     tie.close
-    (tie.spec
-    Inv-loop
-    μ-loop
-    large-buffer-requires
-    loop-holds
-    sub-turns
-    slice-aggregate-say
-    say-requires
-    same-length
-    returns
-    sub-rescue-piece
-    part-rescue-piece-start
-    part-rescue-piece-end
-    slice-aggregate-rescue-piece
-    slice-aggregate-rescue-piece-2
-    rescue-piece-requires
-    array-share-prefix-output
-    slice-aggregate-put-out
-    array-share-prefix-list
-    slice-aggregate-put-out-2
-    put-out-requires
-    same-length-2
-    returns-2
-    sub-summed
-    summed-requires
-    say-sums-requires
-    same-length-3
-    returns-3
-    add-shift
-    shift-requires
-    fill-requires
-    loop-less
-    loop-again
-    same-length-4
-    returns-4)
+    (tie.spec Inv-loop μ-loop (λ c κs. search needs) loop-holds (λ c. search needs) (λ c. search needs) (λ c κs. search needs) (λ c. search needs)
+    (λ c. search needs) (λ c. search needs) (λ c. search needs) (λ c. search needs) slice-aggregate-rescue-piece slice-aggregate-rescue-piece-2
+    (λ c κs. search needs) array-share-prefix-output slice-aggregate-put-out array-share-prefix-list slice-aggregate-put-out-2 (λ c κs. search needs)
+    (λ c. search needs) (λ c. search needs) sub-summed (λ c κs. search needs) (λ c κs. search needs) same-length-3 (λ c. search needs) add-shift shift-requires
+    fill-requires loop-less loop-again (λ c. search needs) (λ c. search needs))

@@ -1,7 +1,7 @@
 -- `state_rules::clocks_within` meets its contract: invariant: all are within if those from i on are. Assumes nothing.
 use borrow.Author.Needs.{needs}
 use Rattle.state_rules.proofs.Parts.{clocksWithin, clock-on, clock-fails, clock-all}
-use Rattle.scopes.specs.Scopes.{scopesOf}
+use Rattle.state_scopes.specs.Scopes.{scopesOf}
 use lib.ListN.{take, drop}
 use Prim.Native.Nat.{_-_, _≤_}
 use mathlib.Core.Path.{_≡_, refl}
@@ -17,18 +17,6 @@ abbrev μ-loop : tie.MeasureT-loop
 loop-holds : tie.Need-loop-holds Inv-loop μ-loop
 loop-holds c = (search needs, refl)
 
-scope-at-requires : tie.Need-scope-at-requires Inv-loop μ-loop
-scope-at-requires c κs = search needs
-
-add-i : tie.Need-add-i Inv-loop μ-loop
-add-i c = search needs
-
-within-requires : tie.Need-within-requires Inv-loop μ-loop
-within-requires c κs = search needs
-
-loop-less : tie.Need-loop-less Inv-loop μ-loop
-loop-less c = search needs
-
 loop-again : tie.Need-loop-again Inv-loop μ-loop
 loop-again c = (search needs, search clock-on)
 
@@ -41,14 +29,4 @@ returns-2 c = search clock-all
 pub clocks-within-spec : {M : Type 1} → statement M
 clocks-within-spec =
     tie.close
-    (tie.spec
-    Inv-loop
-    μ-loop
-    loop-holds
-    scope-at-requires
-    add-i
-    within-requires
-    loop-less
-    loop-again
-    returns
-    returns-2)
+    (tie.spec Inv-loop μ-loop loop-holds (λ c κs. search needs) (λ c. search needs) (λ c κs. search needs) (λ c. search needs) loop-again returns returns-2)

@@ -10,11 +10,8 @@ returns c = search proper-cases
 returns-2 : tie.Need-returns-2
 returns-2 c = search proper-cases
 
-parent-requires : tie.Need-parent-requires
-parent-requires c κs = search needs
-
 returns-3 : tie.Need-returns-3
 returns-3 c = search proper-cases
 
 pub has-queue-spec : {M : Type 1} → statement M
-has-queue-spec = tie.close (tie.spec returns returns-2 parent-requires returns-3)
+has-queue-spec = tie.close (tie.spec returns returns-2 (λ c κs. search needs) returns-3)

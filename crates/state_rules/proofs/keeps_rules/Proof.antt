@@ -4,17 +4,8 @@ use borrow.Author.Needs.{needs}
 use Rattle.state_rules.proofs.keeps_rules.Statement.{statement}
 use Rattle.state_rules.proofs.keeps_rules.Tie as tie
 
-queue-rules-requires : tie.Need-queue-rules-requires
-queue-rules-requires c κs = search needs
-
 returns : tie.Need-returns
 returns c = search sound-cases
-
-most-held-requires : tie.Need-most-held-requires
-most-held-requires c κs = search needs
-
-count-requires : tie.Need-count-requires
-count-requires c κs = search needs
 
 keeps-rules-requires : tie.Need-keeps-rules-requires
 keeps-rules-requires c κs = search few-held
@@ -24,4 +15,4 @@ returns-2 c = search sound-cases
 
 pub keeps-rules-spec : {M : Type 1} → statement M
 keeps-rules-spec =
-    tie.close (tie.spec queue-rules-requires returns most-held-requires count-requires keeps-rules-requires returns-2)
+    tie.close (tie.spec (λ c κs. search needs) returns (λ c κs. search needs) (λ c κs. search needs) keeps-rules-requires returns-2)

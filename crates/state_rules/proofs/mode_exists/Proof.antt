@@ -9,12 +9,9 @@ returns : tie.Need-returns
 unfolding modeRules
 returns c = search chains
 
-count-requires : tie.Need-count-requires
-count-requires c κs = search needs
-
 returns-2 : tie.Need-returns-2
 unfolding modeRules
 returns-2 c = search chains
 
 pub mode-exists-spec : {M : Type 1} → statement M
-mode-exists-spec = tie.close (tie.spec returns count-requires returns-2)
+mode-exists-spec = tie.close (tie.spec returns (λ c κs. search needs) returns-2)

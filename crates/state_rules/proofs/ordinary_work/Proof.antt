@@ -1,7 +1,7 @@
 -- `state_rules::ordinary_work` meets its contract: invariant: those from i on are counted. Assumes nothing.
 use borrow.Author.Needs.{needs}
 use Rattle.state_rules.proofs.Parts.{work-none, work-more, work-same, work-all}
-use Rattle.slots.specs.Slots.{eventsOf}
+use Rattle.state_events.specs.Slots.{eventsOf}
 use Rattle.machine.specs.State.{ordinary}
 use Rattle.lists.specs.Lists.{count}
 use lib.ListN.{take, drop}
@@ -19,26 +19,8 @@ abbrev μ-loop : tie.MeasureT-loop
 loop-holds : tie.Need-loop-holds Inv-loop μ-loop
 loop-holds c = (search needs, search needs, search work-none)
 
-sub-i : tie.Need-sub-i Inv-loop μ-loop
-sub-i c = search needs
-
-slot-at-requires : tie.Need-slot-at-requires Inv-loop μ-loop
-slot-at-requires c κs = search needs
-
-is-ordinary-requires : tie.Need-is-ordinary-requires Inv-loop μ-loop
-is-ordinary-requires c κs = search needs
-
-add-work : tie.Need-add-work Inv-loop μ-loop
-add-work c = search needs
-
-loop-less : tie.Need-loop-less Inv-loop μ-loop
-loop-less c = search needs
-
 loop-again : tie.Need-loop-again Inv-loop μ-loop
 loop-again c = (search needs, search needs, search work-more)
-
-loop-less-2 : tie.Need-loop-less-2 Inv-loop μ-loop
-loop-less-2 c = search needs
 
 loop-again-2 : tie.Need-loop-again-2 Inv-loop μ-loop
 loop-again-2 c = (search needs, search needs, search work-same)
@@ -49,16 +31,5 @@ returns c = search work-all
 pub ordinary-work-spec : {M : Type 1} → statement M
 ordinary-work-spec =
     tie.close
-    (tie.spec
-    Inv-loop
-    μ-loop
-    loop-holds
-    sub-i
-    slot-at-requires
-    is-ordinary-requires
-    add-work
-    loop-less
-    loop-again
-    loop-less-2
-    loop-again-2
-    returns)
+    (tie.spec Inv-loop μ-loop loop-holds (λ c. search needs) (λ c κs. search needs) (λ c κs. search needs) (λ c. search needs) (λ c. search needs) loop-again
+    (λ c. search needs) loop-again-2 returns)

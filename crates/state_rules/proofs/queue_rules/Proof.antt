@@ -4,26 +4,11 @@ use borrow.Author.Needs.{needs}
 use Rattle.state_rules.proofs.queue_rules.Statement.{statement}
 use Rattle.state_rules.proofs.queue_rules.Tie as tie
 
-most-waiting-requires : tie.Need-most-waiting-requires
-most-waiting-requires c κs = search needs
-
 returns : tie.Need-returns
 returns c = search queue-cases
 
-accepted-requires : tie.Need-accepted-requires
-accepted-requires c κs = search needs
-
 returns-2 : tie.Need-returns-2
 returns-2 c = search queue-cases
-
-count-requires : tie.Need-count-requires
-count-requires c κs = search needs
-
-count-requires-2 : tie.Need-count-requires-2
-count-requires-2 c κs = search needs
-
-cast-reactors : tie.Need-cast-reactors
-cast-reactors c = search needs
 
 array-share-prefix-all : tie.Need-array-share-prefix-all
 array-share-prefix-all c = search few-reactors
@@ -46,17 +31,5 @@ returns-4 c = search (queue-cases, own-is)
 pub queue-rules-spec : {M : Type 1} → statement M
 queue-rules-spec =
     tie.close
-    (tie.spec
-    most-waiting-requires
-    returns
-    accepted-requires
-    returns-2
-    count-requires
-    count-requires-2
-    cast-reactors
-    array-share-prefix-all
-    slice-aggregate-scopes-sound
-    scopes-sound-requires
-    returns-3
-    queue-sound-requires
-    returns-4)
+    (tie.spec (λ c κs. search needs) returns (λ c κs. search needs) returns-2 (λ c κs. search needs) (λ c κs. search needs) (λ c. search needs)
+    array-share-prefix-all slice-aggregate-scopes-sound scopes-sound-requires returns-3 queue-sound-requires returns-4)

@@ -4,12 +4,6 @@ use borrow.Author.Needs.{needs}
 use Rattle.state_rules.proofs.scope_keeps.Statement.{statement}
 use Rattle.state_rules.proofs.scope_keeps.Tie as tie
 
-scope-at-requires : tie.Need-scope-at-requires
-scope-at-requires c κs = search needs
-
-is-active-requires : tie.Need-is-active-requires
-is-active-requires c κs = search needs
-
 returns : tie.Need-returns
 returns c =
     scope-stays _ _ _ _ _ (c .before .before .before .scope-at .ensures) _ (c .before .before .is-active .ensures) (c .before .if1 .taken) (c .if2 .taken)
@@ -22,4 +16,4 @@ returns-3 c = search scope-cases
 
 pub scope-keeps-spec : {M : Type 1} → statement M
 scope-keeps-spec =
-    tie.close (tie.spec scope-at-requires is-active-requires returns returns-2 returns-3)
+    tie.close (tie.spec (λ c κs. search needs) (λ c κs. search needs) returns returns-2 returns-3)

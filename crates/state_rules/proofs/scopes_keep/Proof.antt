@@ -2,7 +2,7 @@
 use borrow.Author.Needs.{needs}
 use Rattle.state_rules.proofs.Parts.{index-none, index-on, index-fails, index-all}
 use Rattle.machine.specs.Machine.{scopeRules}
-use Rattle.scopes.specs.Scopes.{scopesOf}
+use Rattle.state_scopes.specs.Scopes.{scopesOf}
 use Rattle.lists.specs.Lists.{every, from}
 use Prim.Native.Nat.{_-_, _≤_}
 use mathlib.Core.Path.{_≡_}
@@ -18,15 +18,6 @@ abbrev μ-loop : tie.MeasureT-loop
 loop-holds : tie.Need-loop-holds Inv-loop μ-loop
 loop-holds c = (search needs, search index-none)
 
-scope-keeps-requires : tie.Need-scope-keeps-requires Inv-loop μ-loop
-scope-keeps-requires c κs = search needs
-
-add-i : tie.Need-add-i Inv-loop μ-loop
-add-i c = search needs
-
-loop-less : tie.Need-loop-less Inv-loop μ-loop
-loop-less c = search needs
-
 loop-again : tie.Need-loop-again Inv-loop μ-loop
 loop-again c = (search needs, search index-on)
 
@@ -39,13 +30,4 @@ returns-2 c = search index-all
 pub scopes-keep-spec : {M : Type 1} → statement M
 scopes-keep-spec =
     tie.close
-    (tie.spec
-    Inv-loop
-    μ-loop
-    loop-holds
-    scope-keeps-requires
-    add-i
-    loop-less
-    loop-again
-    returns
-    returns-2)
+    (tie.spec Inv-loop μ-loop loop-holds (λ c κs. search needs) (λ c. search needs) (λ c. search needs) loop-again returns returns-2)

@@ -1,10 +1,10 @@
 -- `store::blank_buckets` meets its contract: invariant: blanks up to i. Assumes nothing.
-use Prim.Native.Nat.{_+_, _-_, _≤_}
+use Prim.Native.Nat.{_-_, _≤_}
 use lib.ListN.{take}
 use Rattle.lists.specs.Lay.{lay}
 use Rattle.lists.specs.Loops.{blank-none, blank-one, blank-all}
-use Rattle.entries.specs.Words.{bucketsOf, HeldBuckets}
-use Rattle.entries.specs.Entries.{blankBucket}
+use Rattle.store_words.specs.Words.{bucketsOf, HeldBuckets}
+use Rattle.store_words.specs.Entries.{blankBucket}
 use borrow.Author.Needs.{needs}
 use native.Mathlib.Omega.{arith}
 use Rattle.store.proofs.blank_buckets.Statement.{statement}
@@ -16,20 +16,8 @@ Inv-loop rows₀ w n b i₀ rows i = (w ≤ i) × (i ≤ n) × HeldBuckets rows 
 abbrev μ-loop : tie.MeasureT-loop
 μ-loop rows₀ w n b i₀ rows i = n - i
 
-blank-requires : tie.Need-blank-requires Inv-loop μ-loop
-blank-requires c κs = search needs
-
 loop-holds : tie.Need-loop-holds Inv-loop μ-loop
 loop-holds c = (omega arith, omega arith, search blank-none)
-
-put-bucket-requires : tie.Need-put-bucket-requires Inv-loop μ-loop
-put-bucket-requires c κs = search needs
-
-add-i : tie.Need-add-i Inv-loop μ-loop
-add-i c = search needs
-
-loop-less : tie.Need-loop-less Inv-loop μ-loop
-loop-less c = search needs
 
 loop-again : tie.Need-loop-again Inv-loop μ-loop
 loop-again c = (omega arith, omega arith, search blank-one)
@@ -40,13 +28,4 @@ returns c = search blank-all
 pub blank-buckets-spec : {M : Type 1} → statement M
 blank-buckets-spec =
     tie.close
-    (tie.spec
-    Inv-loop
-    μ-loop
-    blank-requires
-    loop-holds
-    put-bucket-requires
-    add-i
-    loop-less
-    loop-again
-    returns)
+    (tie.spec Inv-loop μ-loop (λ c κs. search needs) loop-holds (λ c κs. search needs) (λ c. search needs) (λ c. search needs) loop-again returns)

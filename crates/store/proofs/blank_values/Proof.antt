@@ -1,10 +1,10 @@
 -- `store::blank_values` meets its contract: invariant: blanks up to i. Assumes nothing.
-use Prim.Native.Nat.{_+_, _-_, _≤_}
+use Prim.Native.Nat.{_-_, _≤_}
 use lib.ListN.{take}
 use Rattle.lists.specs.Lay.{lay}
 use Rattle.lists.specs.Loops.{blank-none, blank-one, blank-all}
-use Rattle.entries.specs.Words.{valuesOf, HeldValues}
-use Rattle.entries.specs.Entries.{blankValue}
+use Rattle.store_words.specs.Words.{valuesOf, HeldValues}
+use Rattle.store_words.specs.Entries.{blankValue}
 use borrow.Author.Needs.{needs}
 use native.Mathlib.Omega.{arith}
 use Rattle.store.proofs.blank_values.Statement.{statement}
@@ -16,20 +16,8 @@ Inv-loop rows₀ w n v i₀ rows i = (w ≤ i) × (i ≤ n) × HeldValues rows (
 abbrev μ-loop : tie.MeasureT-loop
 μ-loop rows₀ w n v i₀ rows i = n - i
 
-blank-requires : tie.Need-blank-requires Inv-loop μ-loop
-blank-requires c κs = search needs
-
 loop-holds : tie.Need-loop-holds Inv-loop μ-loop
 loop-holds c = (omega arith, omega arith, search blank-none)
-
-put-value-requires : tie.Need-put-value-requires Inv-loop μ-loop
-put-value-requires c κs = search needs
-
-add-i : tie.Need-add-i Inv-loop μ-loop
-add-i c = search needs
-
-loop-less : tie.Need-loop-less Inv-loop μ-loop
-loop-less c = search needs
 
 loop-again : tie.Need-loop-again Inv-loop μ-loop
 loop-again c = (omega arith, omega arith, search blank-one)
@@ -40,13 +28,4 @@ returns c = search blank-all
 pub blank-values-spec : {M : Type 1} → statement M
 blank-values-spec =
     tie.close
-    (tie.spec
-    Inv-loop
-    μ-loop
-    blank-requires
-    loop-holds
-    put-value-requires
-    add-i
-    loop-less
-    loop-again
-    returns)
+    (tie.spec Inv-loop μ-loop (λ c κs. search needs) loop-holds (λ c κs. search needs) (λ c. search needs) (λ c. search needs) loop-again returns)

@@ -5,9 +5,6 @@ use borrow.Author.Needs.{needs}
 use Rattle.store.proofs.is_at.Statement.{statement}
 use Rattle.store.proofs.is_at.Tie as tie
 
-same-requires : tie.Need-same-requires
-same-requires c κs = search needs
-
 returns : tie.Need-returns
 unfolding isValue
 returns c = search tests
@@ -17,4 +14,4 @@ unfolding isValue
 returns-2 c = search tests
 
 pub is-at-spec : {M : Type 1} → statement M
-is-at-spec = tie.close (tie.spec same-requires returns returns-2)
+is-at-spec = tie.close (tie.spec (λ c κs. search needs) returns returns-2)

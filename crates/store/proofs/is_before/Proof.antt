@@ -5,9 +5,6 @@ use borrow.Author.Needs.{needs}
 use Rattle.store.proofs.is_before.Statement.{statement}
 use Rattle.store.proofs.is_before.Tie as tie
 
-earlier-requires : tie.Need-earlier-requires
-earlier-requires c κs = search needs
-
 returns : tie.Need-returns
 unfolding isBefore
 returns c = search tests
@@ -17,4 +14,4 @@ unfolding isBefore
 returns-2 c = search tests
 
 pub is-before-spec : {M : Type 1} → statement M
-is-before-spec = tie.close (tie.spec earlier-requires returns returns-2)
+is-before-spec = tie.close (tie.spec (λ c κs. search needs) returns returns-2)

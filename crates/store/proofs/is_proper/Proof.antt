@@ -5,9 +5,6 @@ use borrow.Author.Needs.{needs}
 use Rattle.store.proofs.is_proper.Statement.{statement}
 use Rattle.store.proofs.is_proper.Tie as tie
 
-within-requires : tie.Need-within-requires
-within-requires c κs = search needs
-
 returns : tie.Need-returns
 unfolding valueRules
 returns c = search tests
@@ -17,4 +14,4 @@ unfolding valueRules
 returns-2 c = search tests
 
 pub is-proper-spec : {M : Type 1} → statement M
-is-proper-spec = tie.close (tie.spec within-requires returns returns-2)
+is-proper-spec = tie.close (tie.spec (λ c κs. search needs) returns returns-2)

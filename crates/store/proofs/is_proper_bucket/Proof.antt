@@ -5,9 +5,6 @@ use borrow.Author.Needs.{needs}
 use Rattle.store.proofs.is_proper_bucket.Statement.{statement}
 use Rattle.store.proofs.is_proper_bucket.Tie as tie
 
-within-requires : tie.Need-within-requires
-within-requires c κs = search needs
-
 returns : tie.Need-returns
 unfolding bucketRules
 returns c = search tests
@@ -17,4 +14,4 @@ unfolding bucketRules
 returns-2 c = search tests
 
 pub is-proper-bucket-spec : {M : Type 1} → statement M
-is-proper-bucket-spec = tie.close (tie.spec within-requires returns returns-2)
+is-proper-bucket-spec = tie.close (tie.spec (λ c κs. search needs) returns returns-2)

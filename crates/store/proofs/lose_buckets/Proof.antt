@@ -4,9 +4,6 @@ use borrow.Author.Needs.{needs}
 use Rattle.store.proofs.lose_buckets.Statement.{statement}
 use Rattle.store.proofs.lose_buckets.Tie as tie
 
-compact-buckets-requires : tie.Need-compact-buckets-requires
-compact-buckets-requires c κs = search needs
-
 blank-buckets-requires : tie.Need-blank-buckets-requires
 blank-buckets-requires c κs = search (needs, lose-room)
 
@@ -14,4 +11,4 @@ returns : tie.Need-returns
 returns c = (search needs, search lose-done)
 
 pub lose-buckets-spec : {M : Type 1} → statement M
-lose-buckets-spec = tie.close (tie.spec compact-buckets-requires blank-buckets-requires returns)
+lose-buckets-spec = tie.close (tie.spec (λ c κs. search needs) blank-buckets-requires returns)

@@ -4,9 +4,6 @@ use borrow.Author.Needs.{needs}
 use Rattle.store.proofs.lose_values.Statement.{statement}
 use Rattle.store.proofs.lose_values.Tie as tie
 
-compact-values-requires : tie.Need-compact-values-requires
-compact-values-requires c κs = search needs
-
 blank-values-requires : tie.Need-blank-values-requires
 blank-values-requires c κs = search (needs, lose-room)
 
@@ -14,4 +11,4 @@ returns : tie.Need-returns
 returns c = (search needs, search lose-done)
 
 pub lose-values-spec : {M : Type 1} → statement M
-lose-values-spec = tie.close (tie.spec compact-values-requires blank-values-requires returns)
+lose-values-spec = tie.close (tie.spec (λ c κs. search needs) blank-values-requires returns)

@@ -5,9 +5,6 @@ use borrow.Author.Needs.{needs}
 use Rattle.store.proofs.next_after.Statement.{statement}
 use Rattle.store.proofs.next_after.Tie as tie
 
-add-result : tie.Need-add-result
-add-result c = search needs
-
 returns : tie.Need-returns
 unfolding following
 returns c = search tests
@@ -17,4 +14,4 @@ unfolding following
 returns-2 c = search tests
 
 pub next-after-spec : {M : Type 1} → statement M
-next-after-spec = tie.close (tie.spec add-result returns returns-2)
+next-after-spec = tie.close (tie.spec (λ c. search needs) returns returns-2)

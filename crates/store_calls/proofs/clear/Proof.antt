@@ -4,15 +4,9 @@ use borrow.Author.Needs.{needs}
 use Rattle.store_calls.proofs.clear.Statement.{statement}
 use Rattle.store_calls.proofs.clear.Tie as tie
 
-lose-values-requires : tie.Need-lose-values-requires
-lose-values-requires c κs = search needs
-
-lose-buckets-requires : tie.Need-lose-buckets-requires
-lose-buckets-requires c κs = search needs
-
 returns : tie.Need-returns
 unfolding cleared
 returns c = search needs
 
 pub clear-spec : {M : Type 1} → statement M
-clear-spec = tie.close (tie.spec lose-values-requires lose-buckets-requires returns)
+clear-spec = tie.close (tie.spec (λ c κs. search needs) (λ c κs. search needs) returns)

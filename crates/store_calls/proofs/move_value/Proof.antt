@@ -4,32 +4,14 @@ use borrow.Author.Needs.{needs}
 use Rattle.store_calls.proofs.move_value.Statement.{statement}
 use Rattle.store_calls.proofs.move_value.Tie as tie
 
-same-requires : tie.Need-same-requires
-same-requires c κs = search needs
-
 returns : tie.Need-returns
 returns c = search move-same
-
-find-value-requires : tie.Need-find-value-requires
-find-value-requires c κs = search needs
-
-find-bucket-requires : tie.Need-find-bucket-requires
-find-bucket-requires c κs = search needs
 
 returns-2 : tie.Need-returns-2
 returns-2 c = search move-none
 
-full-requires : tie.Need-full-requires
-full-requires c κs = search needs
-
 returns-3 : tie.Need-returns-3
 returns-3 c = search move-full
-
-value-at-requires : tie.Need-value-at-requires
-value-at-requires c κs = search needs
-
-lose-values-requires : tie.Need-lose-values-requires
-lose-values-requires c κs = search needs
 
 push-requires : tie.Need-push-requires
 push-requires c κs = record { values = search needs; buckets = search needs; few-values = search left-limit; few-buckets = search needs; room = search needs }
@@ -40,15 +22,5 @@ returns-4 c = search move-done
 pub move-value-spec : {M : Type 1} → statement M
 move-value-spec =
     tie.close
-    (tie.spec
-    same-requires
-    returns
-    find-value-requires
-    find-bucket-requires
-    returns-2
-    full-requires
-    returns-3
-    value-at-requires
-    lose-values-requires
-    push-requires
-    returns-4)
+    (tie.spec (λ c κs. search needs) returns (λ c κs. search needs) (λ c κs. search needs) returns-2 (λ c κs. search needs) returns-3 (λ c κs. search needs)
+    (λ c κs. search needs) push-requires returns-4)

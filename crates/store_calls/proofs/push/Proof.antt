@@ -5,26 +5,11 @@ use borrow.Author.Needs.{needs}
 use Rattle.store_calls.proofs.push.Statement.{statement}
 use Rattle.store_calls.proofs.push.Tie as tie
 
-find-value-requires : tie.Need-find-value-requires
-find-value-requires c κs = search needs
-
-find-bucket-requires : tie.Need-find-bucket-requires
-find-bucket-requires c κs = search needs
-
-full-requires : tie.Need-full-requires
-full-requires c κs = search needs
-
 returns : tie.Need-returns
 returns c = search push-no-value
 
-full-requires-2 : tie.Need-full-requires-2
-full-requires-2 c κs = search needs
-
 returns-2 : tie.Need-returns-2
 returns-2 c = search push-no-bucket
-
-next-after-requires : tie.Need-next-after-requires
-next-after-requires c κs = search needs
 
 set-value-requires : tie.Need-set-value-requires
 set-value-requires c κs =
@@ -42,14 +27,5 @@ returns-3 c = search push-done
 pub push-spec : {M : Type 1} → statement M
 push-spec =
     tie.close
-    (tie.spec
-    find-value-requires
-    find-bucket-requires
-    full-requires
-    returns
-    full-requires-2
-    returns-2
-    next-after-requires
-    set-value-requires
-    raise-bucket-requires
-    returns-3)
+    (tie.spec (λ c κs. search needs) (λ c κs. search needs) (λ c κs. search needs) returns (λ c κs. search needs) returns-2 (λ c κs. search needs)
+    set-value-requires raise-bucket-requires returns-3)

@@ -3,7 +3,7 @@ use mathlib.Core.Path.{_≡_, refl}
 use Prim.Native.Nat.{_-_, _≤_}
 use lib.ListN.{take, drop}
 use Rattle.lists.specs.Lists.{every}
-use Rattle.entries.specs.Words.{valuesOf, bucketsOf}
+use Rattle.store_words.specs.Words.{valuesOf, bucketsOf}
 use Rattle.store.specs.Store.{hasBucket}
 use Rattle.store_rules.proofs.Laws.{every-on, every-fails, every-all}
 use borrow.Author.Needs.{needs}
@@ -17,23 +17,8 @@ Inv-loop values n buckets m places i₀ i =
 abbrev μ-loop : tie.MeasureT-loop
 μ-loop values n buckets m places i₀ i = n - i
 
-note-buckets-requires : tie.Need-note-buckets-requires Inv-loop μ-loop
-note-buckets-requires c κs = search needs
-
 loop-holds : tie.Need-loop-holds Inv-loop μ-loop
 loop-holds c = (search needs, refl)
-
-value-at-requires : tie.Need-value-at-requires Inv-loop μ-loop
-value-at-requires c κs = search needs
-
-add-i : tie.Need-add-i Inv-loop μ-loop
-add-i c = search needs
-
-has-bucket-requires : tie.Need-has-bucket-requires Inv-loop μ-loop
-has-bucket-requires c κs = search needs
-
-loop-less : tie.Need-loop-less Inv-loop μ-loop
-loop-less c = search needs
 
 loop-again : tie.Need-loop-again Inv-loop μ-loop
 loop-again c = (search needs, search every-on)
@@ -47,15 +32,5 @@ returns-2 c = search every-all
 pub all-covered-spec : {M : Type 1} → statement M
 all-covered-spec =
     tie.close
-    (tie.spec
-    Inv-loop
-    μ-loop
-    note-buckets-requires
-    loop-holds
-    value-at-requires
-    add-i
-    has-bucket-requires
-    loop-less
-    loop-again
-    returns
-    returns-2)
+    (tie.spec Inv-loop μ-loop (λ c κs. search needs) loop-holds (λ c κs. search needs) (λ c. search needs) (λ c κs. search needs) (λ c. search needs)
+    loop-again returns returns-2)

@@ -4,7 +4,7 @@ use mathlib.Core.Bool.{true}
 use Prim.Native.Nat.{_-_, _≤_}
 use lib.ListN.{length, take, drop}
 use Rattle.lists.specs.Lists.{distinct}
-use Rattle.entries.specs.Words.{bucketsOf}
+use Rattle.store_words.specs.Words.{bucketsOf}
 use Rattle.store.specs.Store.{sameBucket}
 use Rattle.lists.specs.Marks.{marked, marked-none, marked-one, differ-none, differ-one, differ-not, differ-all}
 use Rattle.store_rules.specs.Rules.{slots, bucketSlot}
@@ -21,27 +21,6 @@ abbrev μ-loop : tie.MeasureT-loop
 loop-holds : tie.Need-loop-holds Inv-loop μ-loop
 loop-holds c = (search needs, search needs, search marked-none, search differ-none)
 
-sub-bucket-at : tie.Need-sub-bucket-at Inv-loop μ-loop
-sub-bucket-at c = search needs
-
-bucket-at-requires : tie.Need-bucket-at-requires Inv-loop μ-loop
-bucket-at-requires c κs = search needs
-
-slot-of-requires : tie.Need-slot-of-requires Inv-loop μ-loop
-slot-of-requires c κs = search needs
-
-is-new-bucket-requires : tie.Need-is-new-bucket-requires Inv-loop μ-loop
-is-new-bucket-requires c κs = search needs
-
-array-write-seen : tie.Need-array-write-seen Inv-loop μ-loop
-array-write-seen c = search needs
-
-sub-i : tie.Need-sub-i Inv-loop μ-loop
-sub-i c = search needs
-
-loop-less : tie.Need-loop-less Inv-loop μ-loop
-loop-less c = search needs
-
 loop-again : tie.Need-loop-again Inv-loop μ-loop
 loop-again c = (search needs, search needs, search marked-one, search differ-one)
 
@@ -54,17 +33,5 @@ returns-2 c = search differ-all
 pub buckets-differ-spec : {M : Type 1} → statement M
 buckets-differ-spec =
     tie.close
-    (tie.spec
-    Inv-loop
-    μ-loop
-    loop-holds
-    sub-bucket-at
-    bucket-at-requires
-    slot-of-requires
-    is-new-bucket-requires
-    array-write-seen
-    sub-i
-    loop-less
-    loop-again
-    returns
-    returns-2)
+    (tie.spec Inv-loop μ-loop loop-holds (λ c. search needs) (λ c κs. search needs) (λ c κs. search needs) (λ c κs. search needs) (λ c. search needs)
+    (λ c. search needs) (λ c. search needs) loop-again returns returns-2)

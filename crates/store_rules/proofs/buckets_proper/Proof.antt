@@ -5,11 +5,8 @@ use borrow.Author.Needs.{needs}
 use Rattle.store_rules.proofs.buckets_proper.Statement.{statement}
 use Rattle.store_rules.proofs.buckets_proper.Tie as tie
 
-find-bucket-requires : tie.Need-find-bucket-requires
-find-bucket-requires c κs = search needs
-
 returns : tie.Need-returns
 returns c = search (all-proper, refl)
 
 pub buckets-proper-spec : {M : Type 1} → statement M
-buckets-proper-spec = tie.close (tie.spec find-bucket-requires returns)
+buckets-proper-spec = tie.close (tie.spec (λ c κs. search needs) returns)

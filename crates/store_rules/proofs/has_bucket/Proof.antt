@@ -5,17 +5,11 @@ use borrow.Author.Needs.{needs}
 use Rattle.store_rules.proofs.has_bucket.Statement.{statement}
 use Rattle.store_rules.proofs.has_bucket.Tie as tie
 
-is-noted-requires : tie.Need-is-noted-requires
-is-noted-requires c κs = search needs
-
 returns : tie.Need-returns
 returns c = search if-noted
-
-find-bucket-requires : tie.Need-find-bucket-requires
-find-bucket-requires c κs = search needs
 
 returns-2 : tie.Need-returns-2
 returns-2 c = search (found-there, refl)
 
 pub has-bucket-spec : {M : Type 1} → statement M
-has-bucket-spec = tie.close (tie.spec is-noted-requires returns find-bucket-requires returns-2)
+has-bucket-spec = tie.close (tie.spec (λ c κs. search needs) returns (λ c κs. search needs) returns-2)

@@ -5,12 +5,6 @@ use borrow.Author.Needs.{needs}
 use Rattle.store_rules.proofs.is_new_bucket.Statement.{statement}
 use Rattle.store_rules.proofs.is_new_bucket.Tie as tie
 
-element-copy-out-if1 : tie.Need-element-copy-out-if1
-element-copy-out-if1 c = search needs
-
-bucket-from-requires : tie.Need-bucket-from-requires
-bucket-from-requires c κs = search needs
-
 returns : tie.Need-returns
 returns c = search (bucket-alone, refl)
 
@@ -19,4 +13,4 @@ returns-2 c = search bucket-unmarked
 
 pub is-new-bucket-spec : {M : Type 1} → statement M
 is-new-bucket-spec =
-    tie.close (tie.spec element-copy-out-if1 bucket-from-requires returns returns-2)
+    tie.close (tie.spec (λ c. search needs) (λ c κs. search needs) returns returns-2)

@@ -5,12 +5,6 @@ use borrow.Author.Needs.{needs}
 use Rattle.store_rules.proofs.is_new_value.Statement.{statement}
 use Rattle.store_rules.proofs.is_new_value.Tie as tie
 
-element-copy-out-if1 : tie.Need-element-copy-out-if1
-element-copy-out-if1 c = search needs
-
-value-from-requires : tie.Need-value-from-requires
-value-from-requires c κs = search needs
-
 returns : tie.Need-returns
 returns c = search (value-alone, refl)
 
@@ -18,4 +12,4 @@ returns-2 : tie.Need-returns-2
 returns-2 c = search value-unmarked
 
 pub is-new-value-spec : {M : Type 1} → statement M
-is-new-value-spec = tie.close (tie.spec element-copy-out-if1 value-from-requires returns returns-2)
+is-new-value-spec = tie.close (tie.spec (λ c. search needs) (λ c κs. search needs) returns returns-2)

@@ -10,32 +10,17 @@ returns c = search rules
 returns-2 : tie.Need-returns-2
 returns-2 c = search rules
 
-values-proper-requires : tie.Need-values-proper-requires
-values-proper-requires c κs = search needs
-
 returns-3 : tie.Need-returns-3
 returns-3 c = search rules
-
-buckets-proper-requires : tie.Need-buckets-proper-requires
-buckets-proper-requires c κs = search needs
 
 returns-4 : tie.Need-returns-4
 returns-4 c = search rules
 
-values-differ-requires : tie.Need-values-differ-requires
-values-differ-requires c κs = search needs
-
 returns-5 : tie.Need-returns-5
 returns-5 c = search rules
 
-buckets-differ-requires : tie.Need-buckets-differ-requires
-buckets-differ-requires c κs = search needs
-
 returns-6 : tie.Need-returns-6
 returns-6 c = search rules
-
-all-covered-requires : tie.Need-all-covered-requires
-all-covered-requires c κs = search needs
 
 returns-7 : tie.Need-returns-7
 returns-7 c = search rules
@@ -43,16 +28,5 @@ returns-7 c = search rules
 pub keeps-rules-spec : {M : Type 1} → statement M
 keeps-rules-spec =
     tie.close
-    (tie.spec
-    returns
-    returns-2
-    values-proper-requires
-    returns-3
-    buckets-proper-requires
-    returns-4
-    values-differ-requires
-    returns-5
-    buckets-differ-requires
-    returns-6
-    all-covered-requires
-    returns-7)
+    (tie.spec returns returns-2 (λ c κs. search needs) returns-3 (λ c κs. search needs) returns-4 (λ c κs. search needs) returns-5 (λ c κs. search needs)
+    returns-6 (λ c κs. search needs) returns-7)

@@ -5,11 +5,8 @@ use borrow.Author.Needs.{needs}
 use Rattle.store_rules.proofs.values_proper.Statement.{statement}
 use Rattle.store_rules.proofs.values_proper.Tie as tie
 
-find-value-requires : tie.Need-find-value-requires
-find-value-requires c κs = search needs
-
 returns : tie.Need-returns
 returns c = search (all-proper, refl)
 
 pub values-proper-spec : {M : Type 1} → statement M
-values-proper-spec = tie.close (tie.spec find-value-requires returns)
+values-proper-spec = tie.close (tie.spec (λ c κs. search needs) returns)

@@ -5,12 +5,9 @@ use borrow.Author.Needs.{needs}
 use Rattle.table.proofs.action_rule.Statement.{statement}
 use Rattle.table.proofs.action_rule.Tie as tie
 
-logical-requires : tie.Need-logical-requires
-logical-requires c κs = search needs
-
 returns : tie.Need-returns
 unfolding actionRule
 returns c = search chains
 
 pub action-rule-spec : {M : Type 1} → statement M
-action-rule-spec = tie.close (tie.spec logical-requires returns)
+action-rule-spec = tie.close (tie.spec (λ c κs. search needs) returns)

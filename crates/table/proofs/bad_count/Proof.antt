@@ -4,7 +4,7 @@ use Prim.Native.Nat.{_-_, _≤_}
 use Rattle.lists.specs.Tests.{flag}
 use Rattle.lists.specs.Scan.{scan, scan-pass, scan-fail, scan-none}
 use mathlib.Core.Path.{_≡_, refl, sym, _∙_}
-use Rattle.rows.specs.Kinds.{kindCount}
+use Rattle.table_rows.specs.Kinds.{kindCount}
 use Rattle.table.specs.Check.{countFits, badCount}
 use Rattle.table.proofs.bad_count.Statement.{statement}
 use Rattle.table.proofs.bad_count.Tie as tie
@@ -19,15 +19,6 @@ loop-holds : tie.Need-loop-holds Inv-loop μ-loop
 unfolding badCount
 loop-holds c = (search needs, refl)
 
-count-fits-requires : tie.Need-count-fits-requires Inv-loop μ-loop
-count-fits-requires c κs = search needs
-
-add-k : tie.Need-add-k Inv-loop μ-loop
-add-k c = search needs
-
-loop-less : tie.Need-loop-less Inv-loop μ-loop
-loop-less c = search needs
-
 loop-again : tie.Need-loop-again Inv-loop μ-loop
 loop-again c = (search needs, c .before .before .before .loop .inv .1 ∙ scan-pass _ _ _ (c .before .before .loop-test .taken) (flag (c .before .count-fits .ensures) (c .if1 .taken)))
 
@@ -40,13 +31,4 @@ returns-2 c = sym (c .before .loop .inv .1 ∙ scan-none _ _ _ (c .loop-test .le
 pub bad-count-spec : {M : Type 1} → statement M
 bad-count-spec =
     tie.close
-    (tie.spec
-    Inv-loop
-    μ-loop
-    loop-holds
-    count-fits-requires
-    add-k
-    loop-less
-    loop-again
-    returns
-    returns-2)
+    (tie.spec Inv-loop μ-loop loop-holds (λ c κs. search needs) (λ c. search needs) (λ c. search needs) loop-again returns returns-2)

@@ -16,21 +16,9 @@ Inv-loop image k total i₀ i = (i ≤ total) × (badRow image k ≡ scan (rowRu
 abbrev μ-loop : tie.MeasureT-loop
 μ-loop image k total i₀ i = total - i
 
-count-requires : tie.Need-count-requires Inv-loop μ-loop
-count-requires c κs = search needs
-
 loop-holds : tie.Need-loop-holds Inv-loop μ-loop
 unfolding badRow
 loop-holds c = (search needs, rw (sub-zero, c .count .ensures))
-
-row-rule-requires : tie.Need-row-rule-requires Inv-loop μ-loop
-row-rule-requires c κs = search needs
-
-add-i : tie.Need-add-i Inv-loop μ-loop
-add-i c = search needs
-
-loop-less : tie.Need-loop-less Inv-loop μ-loop
-loop-less c = search needs
 
 loop-again : tie.Need-loop-again Inv-loop μ-loop
 loop-again c = (search needs, c .before .before .before .loop .inv .1 ∙ scan-pass _ _ _ (c .before .before .loop-test .taken) (flag (c .before .row-rule .ensures) (c .if1 .taken)))
@@ -44,14 +32,4 @@ returns-2 c = sym (c .before .loop .inv .1 ∙ scan-none _ _ _ (c .loop-test .le
 pub bad-row-spec : {M : Type 1} → statement M
 bad-row-spec =
     tie.close
-    (tie.spec
-    Inv-loop
-    μ-loop
-    count-requires
-    loop-holds
-    row-rule-requires
-    add-i
-    loop-less
-    loop-again
-    returns
-    returns-2)
+    (tie.spec Inv-loop μ-loop (λ c κs. search needs) loop-holds (λ c κs. search needs) (λ c. search needs) (λ c. search needs) loop-again returns returns-2)

@@ -3,7 +3,7 @@ use borrow.Author.Needs.{needs}
 use Prim.Native.Nat.{_-_, _≤_}
 use Rattle.lists.specs.Scan.{scan, scan-pass, scan-fail, scan-none}
 use mathlib.Core.Path.{_≡_, refl, sym, _∙_}
-use Rattle.rows.specs.Kinds.{kindCount}
+use Rattle.table_rows.specs.Kinds.{kindCount}
 use Rattle.table.specs.Check.{kindFits, badKind}
 use Rattle.table.proofs.Laws.{kind-broken, kind-kept, rows-broken, rows-kept}
 use Rattle.table.proofs.check_rows.Statement.{statement}
@@ -19,27 +19,12 @@ loop-holds : tie.Need-loop-holds Inv-loop μ-loop
 unfolding badKind
 loop-holds c = (search needs, refl)
 
-bad-row-requires : tie.Need-bad-row-requires Inv-loop μ-loop
-bad-row-requires c κs = search needs
-
-count-requires : tie.Need-count-requires Inv-loop μ-loop
-count-requires c κs = search needs
-
-row-place-requires : tie.Need-row-place-requires Inv-loop μ-loop
-row-place-requires c κs = search needs
-
 returns : tie.Need-returns Inv-loop μ-loop
 returns c =
     let row = c .before .before .before .bad-row .ensures in
     let within = c .before .before .before .before .loop-test .taken in
     let broken = kind-broken _ _ row (c .before .before .count .ensures) (c .before .if1 .taken) in
     rows-broken _ _ (sym (c .before .before .before .before .before .loop .inv .1 ∙ scan-fail _ _ _ within broken)) within row (c .row-place .ensures .0)
-
-add-k : tie.Need-add-k Inv-loop μ-loop
-add-k c = search needs
-
-loop-less : tie.Need-loop-less Inv-loop μ-loop
-loop-less c = search needs
 
 loop-again : tie.Need-loop-again Inv-loop μ-loop
 loop-again c =
@@ -52,15 +37,5 @@ returns-2 c = rows-kept _ _ (sym (c .before .loop .inv .1 ∙ scan-none _ _ _ (c
 pub check-rows-spec : {M : Type 1} → statement M
 check-rows-spec =
     tie.close
-    (tie.spec
-    Inv-loop
-    μ-loop
-    loop-holds
-    bad-row-requires
-    count-requires
-    row-place-requires
-    returns
-    add-k
-    loop-less
-    loop-again
-    returns-2)
+    (tie.spec Inv-loop μ-loop loop-holds (λ c κs. search needs) (λ c κs. search needs) (λ c κs. search needs) returns (λ c. search needs) (λ c. search needs)
+    loop-again returns-2)

@@ -4,15 +4,6 @@ use borrow.Author.Needs.{needs}
 use Rattle.table.proofs.count_fits.Statement.{statement}
 use Rattle.table.proofs.count_fits.Tie as tie
 
-kind-at-requires : tie.Need-kind-at-requires
-kind-at-requires c κs = search needs
-
-most-rows-requires : tie.Need-most-rows-requires
-most-rows-requires c κs = search needs
-
-count-requires : tie.Need-count-requires
-count-requires c κs = search needs
-
 returns : tie.Need-returns
 returns c = search counts
 
@@ -20,4 +11,4 @@ returns-2 : tie.Need-returns-2
 returns-2 c = search counts
 
 pub count-fits-spec : {M : Type 1} → statement M
-count-fits-spec = tie.close (tie.spec kind-at-requires most-rows-requires count-requires returns returns-2)
+count-fits-spec = tie.close (tie.spec (λ c κs. search needs) (λ c κs. search needs) (λ c κs. search needs) returns returns-2)

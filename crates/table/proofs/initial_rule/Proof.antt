@@ -9,15 +9,9 @@ returns : tie.Need-returns
 unfolding initialRule
 returns c = search chains
 
-count-requires : tie.Need-count-requires
-count-requires c κs = search needs
-
 returns-2 : tie.Need-returns-2
 unfolding initialRule
 returns-2 c = search chains
-
-mode-reactor-requires : tie.Need-mode-reactor-requires
-mode-reactor-requires c κs = search needs
 
 returns-3 : tie.Need-returns-3
 unfolding initialRule
@@ -25,4 +19,4 @@ returns-3 c = search chains
 
 pub initial-rule-spec : {M : Type 1} → statement M
 initial-rule-spec =
-    tie.close (tie.spec returns count-requires returns-2 mode-reactor-requires returns-3)
+    tie.close (tie.spec returns (λ c κs. search needs) returns-2 (λ c κs. search needs) returns-3)

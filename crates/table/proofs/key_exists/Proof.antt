@@ -9,15 +9,9 @@ returns : tie.Need-returns
 unfolding keyExists
 returns c = search chains
 
-field16-requires : tie.Need-field16-requires
-field16-requires c κs = search needs
-
-count-requires : tie.Need-count-requires
-count-requires c κs = search needs
-
 returns-2 : tie.Need-returns-2
 unfolding keyExists
 returns-2 c = search chains
 
 pub key-exists-spec : {M : Type 1} → statement M
-key-exists-spec = tie.close (tie.spec returns field16-requires count-requires returns-2)
+key-exists-spec = tie.close (tie.spec returns (λ c κs. search needs) (λ c κs. search needs) returns-2)

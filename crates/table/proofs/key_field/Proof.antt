@@ -6,12 +6,6 @@ use borrow.Author.Needs.{needs}
 use Rattle.table.proofs.key_field.Statement.{statement}
 use Rattle.table.proofs.key_field.Tie as tie
 
-mul-result : tie.Need-mul-result
-mul-result c = search needs
-
-array-copy-out-result : tie.Need-array-copy-out-result
-array-copy-out-result c = search needs
-
 returns : tie.Need-returns
 unfolding keyFields
 returns c = refl
@@ -21,4 +15,4 @@ unfolding keyFields
 returns-2 c = sym (List·getD-eq-default keyFields (key 0 0 0) (c .if1 .left))
 
 pub key-field-spec : {M : Type 1} → statement M
-key-field-spec = tie.close (tie.spec mul-result array-copy-out-result returns returns-2)
+key-field-spec = tie.close (tie.spec (λ c. search needs) (λ c. search needs) returns returns-2)

@@ -20,18 +20,6 @@ loop-holds : tie.Need-loop-holds Inv-loop μ-loop
 unfolding keysExist
 loop-holds c = (search needs, refl)
 
-key-field-requires : tie.Need-key-field-requires Inv-loop μ-loop
-key-field-requires c κs = search needs
-
-key-exists-requires : tie.Need-key-exists-requires Inv-loop μ-loop
-key-exists-requires c κs = search needs
-
-add-j : tie.Need-add-j Inv-loop μ-loop
-add-j c = search needs
-
-loop-less : tie.Need-loop-less Inv-loop μ-loop
-loop-less c = search needs
-
 loop-again : tie.Need-loop-again Inv-loop μ-loop
 unfolding keyFields
 loop-again c =
@@ -51,14 +39,4 @@ returns-2 c = sym (c .before .loop .inv .1 ∙ every-end _ keyFields _ (c .loop-
 pub keys-exist-spec : {M : Type 1} → statement M
 keys-exist-spec =
     tie.close
-    (tie.spec
-    Inv-loop
-    μ-loop
-    loop-holds
-    key-field-requires
-    key-exists-requires
-    add-j
-    loop-less
-    loop-again
-    returns
-    returns-2)
+    (tie.spec Inv-loop μ-loop loop-holds (λ c κs. search needs) (λ c κs. search needs) (λ c. search needs) (λ c. search needs) loop-again returns returns-2)

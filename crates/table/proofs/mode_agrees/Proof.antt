@@ -6,9 +6,6 @@ use borrow.Author.Needs.{needs}
 use Rattle.table.proofs.mode_agrees.Statement.{statement}
 use Rattle.table.proofs.mode_agrees.Tie as tie
 
-count-requires : tie.Need-count-requires
-count-requires c κs = search needs
-
 returns : tie.Need-returns
 unfolding agrees
 returns c = search chains
@@ -17,25 +14,13 @@ returns-2 : tie.Need-returns-2
 unfolding agrees
 returns-2 c = search chains
 
-mode-scope-requires : tie.Need-mode-scope-requires
-mode-scope-requires c κs = search needs
-
 returns-3 : tie.Need-returns-3
 unfolding agrees
 returns-3 c = search chains
 
-mode-reactor-requires : tie.Need-mode-reactor-requires
-mode-reactor-requires c κs = search needs
-
 returns-4 : tie.Need-returns-4
 unfolding agrees
 returns-4 c = search chains
-
-root-scope-requires : tie.Need-root-scope-requires
-root-scope-requires c κs = search needs
-
-under-requires : tie.Need-under-requires
-under-requires c κs = search needs
 
 returns-5 : tie.Need-returns-5
 unfolding agrees
@@ -44,14 +29,5 @@ returns-5 c = search (chains, under-root)
 pub mode-agrees-spec : {M : Type 1} → statement M
 mode-agrees-spec =
     tie.close
-    (tie.spec
-    count-requires
-    returns
-    returns-2
-    mode-scope-requires
-    returns-3
-    mode-reactor-requires
-    returns-4
-    root-scope-requires
-    under-requires
-    returns-5)
+    (tie.spec (λ c κs. search needs) returns returns-2 (λ c κs. search needs) returns-3 (λ c κs. search needs) returns-4 (λ c κs. search needs)
+    (λ c κs. search needs) returns-5)

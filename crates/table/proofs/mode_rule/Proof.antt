@@ -4,14 +4,8 @@ use borrow.Author.Needs.{needs}
 use Rattle.table.proofs.mode_rule.Statement.{statement}
 use Rattle.table.proofs.mode_rule.Tie as tie
 
-mode-scope-requires : tie.Need-mode-scope-requires
-mode-scope-requires c κs = search needs
-
-scope-mode-requires : tie.Need-scope-mode-requires
-scope-mode-requires c κs = search needs
-
 returns : tie.Need-returns
 returns c = search rules
 
 pub mode-rule-spec : {M : Type 1} → statement M
-mode-rule-spec = tie.close (tie.spec mode-scope-requires scope-mode-requires returns)
+mode-rule-spec = tie.close (tie.spec (λ c κs. search needs) (λ c κs. search needs) returns)

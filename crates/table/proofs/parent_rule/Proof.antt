@@ -5,9 +5,6 @@ use borrow.Author.Needs.{needs}
 use Rattle.table.proofs.parent_rule.Statement.{statement}
 use Rattle.table.proofs.parent_rule.Tie as tie
 
-parent-requires : tie.Need-parent-requires
-parent-requires c κs = search needs
-
 returns : tie.Need-returns
 unfolding parentRule
 returns c = search chains
@@ -17,4 +14,4 @@ unfolding parentRule
 returns-2 c = search chains
 
 pub parent-rule-spec : {M : Type 1} → statement M
-parent-rule-spec = tie.close (tie.spec parent-requires returns returns-2)
+parent-rule-spec = tie.close (tie.spec (λ c κs. search needs) returns returns-2)

@@ -5,12 +5,9 @@ use borrow.Author.Needs.{needs}
 use Rattle.table.proofs.reaction_rule.Statement.{statement}
 use Rattle.table.proofs.reaction_rule.Tie as tie
 
-level-requires : tie.Need-level-requires
-level-requires c κs = search needs
-
 returns : tie.Need-returns
 unfolding reactionRule
 returns c = search chains
 
 pub reaction-rule-spec : {M : Type 1} → statement M
-reaction-rule-spec = tie.close (tie.spec level-requires returns)
+reaction-rule-spec = tie.close (tie.spec (λ c κs. search needs) returns)

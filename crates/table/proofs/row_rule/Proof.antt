@@ -4,12 +4,6 @@ use borrow.Author.Needs.{needs}
 use Rattle.table.proofs.row_rule.Statement.{statement}
 use Rattle.table.proofs.row_rule.Tie as tie
 
-keys-exist-requires : tie.Need-keys-exist-requires
-keys-exist-requires c κs = search needs
-
-own-rule-requires : tie.Need-own-rule-requires
-own-rule-requires c κs = search needs
-
 returns : tie.Need-returns
 returns c = search rowRules
 
@@ -17,4 +11,4 @@ returns-2 : tie.Need-returns-2
 returns-2 c = search rowRules
 
 pub row-rule-spec : {M : Type 1} → statement M
-row-rule-spec = tie.close (tie.spec keys-exist-requires own-rule-requires returns returns-2)
+row-rule-spec = tie.close (tie.spec (λ c κs. search needs) (λ c κs. search needs) returns returns-2)

@@ -7,18 +7,9 @@ use Rattle.table.proofs.wrong_length.Tie as tie
 returns : tie.Need-returns
 returns c = search lengths
 
-four-bytes-requires : tie.Need-four-bytes-requires
-four-bytes-requires c κs = search needs
-
-cast-result : tie.Need-cast-result
-cast-result c = search needs
-
-add-result : tie.Need-add-result
-add-result c = search needs
-
 returns-2 : tie.Need-returns-2
 returns-2 c = search lengths
 
 pub wrong-length-spec : {M : Type 1} → statement M
 wrong-length-spec =
-    tie.close (tie.spec returns four-bytes-requires cast-result add-result returns-2)
+    tie.close (tie.spec returns (λ c κs. search needs) (λ c. search needs) (λ c. search needs) returns-2)

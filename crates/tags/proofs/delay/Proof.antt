@@ -4,12 +4,6 @@ use borrow.Author.Needs.{needs}
 use Rattle.tags.proofs.delay.Statement.{statement}
 use Rattle.tags.proofs.delay.Tie as tie
 
-is-within-requires : tie.Need-is-within-requires
-is-within-requires c κs = search needs
-
-add-t7 : tie.Need-add-t7
-add-t7 c = search needs
-
 returns : tie.Need-returns
 returns c = search delays
 
@@ -20,4 +14,4 @@ returns-3 : tie.Need-returns-3
 returns-3 c = search delays
 
 pub delay-spec : {M : Type 1} → statement M
-delay-spec = tie.close (tie.spec is-within-requires add-t7 returns returns-2 returns-3)
+delay-spec = tie.close (tie.spec (λ c κs. search needs) (λ c. search needs) returns returns-2 returns-3)

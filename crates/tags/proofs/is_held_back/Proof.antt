@@ -5,9 +5,6 @@ use borrow.Author.Needs.{needs}
 use Rattle.tags.proofs.is_held_back.Statement.{statement}
 use Rattle.tags.proofs.is_held_back.Tie as tie
 
-cast-step : tie.Need-cast-step
-cast-step c = search needs
-
 returns : tie.Need-returns
 unfolding earlier sameTag
 returns c = search tests
@@ -29,4 +26,4 @@ unfolding earlier sameTag
 returns-5 c = search tests
 
 pub is-held-back-spec : {M : Type 1} → statement M
-is-held-back-spec = tie.close (tie.spec cast-step returns returns-2 returns-3 returns-4 returns-5)
+is-held-back-spec = tie.close (tie.spec (λ c. search needs) returns returns-2 returns-3 returns-4 returns-5)

@@ -2,9 +2,9 @@
 use mathlib.Core.Path.{_≡_, refl}
 use mathlib.Core.List.{map}
 use Prim.Native.Nat.{_-_, _≤_}
-use lib.ListN.{take, length}
-use Rattle.entries.specs.Entries.{roomForEntries, ofBucket}
-use Rattle.entries.specs.Words.{bucketsOf, WholeBuckets, zero-buckets}
+use lib.ListN.{take}
+use Rattle.store_words.specs.Entries.{roomForEntries, ofBucket}
+use Rattle.store_words.specs.Words.{bucketsOf, WholeBuckets, zero-buckets}
 use Rattle.lists.specs.Loops.{rows-more, rows-all}
 use Rattle.value_store.proofs.Laws.{length-mapped}
 use borrow.Author.Needs.{needs}
@@ -21,21 +21,6 @@ abbrev μ-loop : tie.MeasureT-loop
 loop-holds : tie.Need-loop-holds Inv-loop μ-loop
 loop-holds c = (omega arith, zero-buckets, refl)
 
-mul-b : tie.Need-mul-b Inv-loop μ-loop
-mul-b c = search needs
-
-array-copy-out-b : tie.Need-array-copy-out-b Inv-loop μ-loop
-array-copy-out-b c = search needs
-
-put-bucket-requires : tie.Need-put-bucket-requires Inv-loop μ-loop
-put-bucket-requires c κs = search needs
-
-add-i : tie.Need-add-i Inv-loop μ-loop
-add-i c = search needs
-
-loop-less : tie.Need-loop-less Inv-loop μ-loop
-loop-less c = search needs
-
 loop-again : tie.Need-loop-again Inv-loop μ-loop
 loop-again c = (omega arith, search needs, search (rows-more, length-mapped))
 
@@ -45,14 +30,5 @@ returns c = search (rows-all, length-mapped)
 pub bucket-rows-spec : {M : Type 1} → statement M
 bucket-rows-spec =
     tie.close
-    (tie.spec
-    Inv-loop
-    μ-loop
-    loop-holds
-    mul-b
-    array-copy-out-b
-    put-bucket-requires
-    add-i
-    loop-less
-    loop-again
+    (tie.spec Inv-loop μ-loop loop-holds (λ c. search needs) (λ c. search needs) (λ c κs. search needs) (λ c. search needs) (λ c. search needs) loop-again
     returns)

@@ -4,20 +4,8 @@ use borrow.Author.Needs.{needs}
 use Rattle.value_store.proofs.call_rows.Statement.{statement}
 use Rattle.value_store.proofs.call_rows.Tie as tie
 
-count-requires : tie.Need-count-requires
-count-requires c κs = search needs
-
-action-requires : tie.Need-action-requires
-action-requires c κs = search needs
-
 returns : tie.Need-returns
 returns c = search call-key
-
-within-requires : tie.Need-within-requires
-within-requires c κs = search needs
-
-most-held-requires : tie.Need-most-held-requires
-most-held-requires c κs = search needs
 
 perform-requires : tie.Need-perform-requires
 perform-requires c κs = rw (c .before .before .most-held .ensures) (c .before .before .before .before .before .before .before .before .before .pre)
@@ -31,12 +19,4 @@ returns-3 c = search call-tag
 pub call-rows-spec : {M : Type 1} → statement M
 call-rows-spec =
     tie.close
-    (tie.spec
-    count-requires
-    action-requires
-    returns
-    within-requires
-    most-held-requires
-    perform-requires
-    returns-2
-    returns-3)
+    (tie.spec (λ c κs. search needs) (λ c κs. search needs) returns (λ c κs. search needs) (λ c κs. search needs) perform-requires returns-2 returns-3)

@@ -4,11 +4,8 @@ use borrow.Author.Needs.{needs}
 use Rattle.value_store.proofs.changed.Statement.{statement}
 use Rattle.value_store.proofs.changed.Tie as tie
 
-answer-of-requires : tie.Need-answer-of-requires
-answer-of-requires c κs = search needs
-
 returns : tie.Need-returns
 returns c = (c .answer-of .ensures, refl)
 
 pub changed-spec : {M : Type 1} → statement M
-changed-spec = tie.close (tie.spec answer-of-requires returns)
+changed-spec = tie.close (tie.spec (λ c κs. search needs) returns)

@@ -1,18 +1,9 @@
 -- `value_store::is_sound` meets its contract: by cases. Assumes nothing.
 use Rattle.value_store.proofs.Laws.{sound-rules, sound-table}
-use Rattle.entries.specs.Entries.{held-fits}
+use Rattle.store_words.specs.Entries.{held-fits}
 use borrow.Author.Needs.{needs}
 use Rattle.value_store.proofs.is_sound.Statement.{statement}
 use Rattle.value_store.proofs.is_sound.Tie as tie
-
-accepted-requires : tie.Need-accepted-requires
-accepted-requires c κs = search needs
-
-most-held-requires : tie.Need-most-held-requires
-most-held-requires c κs = search needs
-
-count-requires : tie.Need-count-requires
-count-requires c κs = search needs
 
 keeps-rules-requires : tie.Need-keeps-rules-requires
 keeps-rules-requires c κs = rw (c .before .most-held .ensures) (held-fits _)
@@ -25,4 +16,4 @@ returns-2 c = search sound-table
 
 pub is-sound-spec : {M : Type 1} → statement M
 is-sound-spec =
-    tie.close (tie.spec accepted-requires most-held-requires count-requires keeps-rules-requires returns returns-2)
+    tie.close (tie.spec (λ c κs. search needs) (λ c κs. search needs) (λ c κs. search needs) keeps-rules-requires returns returns-2)

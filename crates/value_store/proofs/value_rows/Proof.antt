@@ -2,9 +2,9 @@
 use mathlib.Core.Path.{_≡_, refl}
 use mathlib.Core.List.{map}
 use Prim.Native.Nat.{_-_, _≤_}
-use lib.ListN.{take, length}
-use Rattle.entries.specs.Entries.{roomForEntries, ofValue}
-use Rattle.entries.specs.Words.{valuesOf, WholeValues, zero-values}
+use lib.ListN.{take}
+use Rattle.store_words.specs.Entries.{roomForEntries, ofValue}
+use Rattle.store_words.specs.Words.{valuesOf, WholeValues, zero-values}
 use Rattle.lists.specs.Loops.{rows-more, rows-all}
 use Rattle.value_store.proofs.Laws.{length-mapped}
 use borrow.Author.Needs.{needs}
@@ -21,21 +21,6 @@ abbrev μ-loop : tie.MeasureT-loop
 loop-holds : tie.Need-loop-holds Inv-loop μ-loop
 loop-holds c = (omega arith, zero-values, refl)
 
-mul-v : tie.Need-mul-v Inv-loop μ-loop
-mul-v c = search needs
-
-array-copy-out-v : tie.Need-array-copy-out-v Inv-loop μ-loop
-array-copy-out-v c = search needs
-
-put-value-requires : tie.Need-put-value-requires Inv-loop μ-loop
-put-value-requires c κs = search needs
-
-add-i : tie.Need-add-i Inv-loop μ-loop
-add-i c = search needs
-
-loop-less : tie.Need-loop-less Inv-loop μ-loop
-loop-less c = search needs
-
 loop-again : tie.Need-loop-again Inv-loop μ-loop
 loop-again c = (omega arith, search needs, search (rows-more, length-mapped))
 
@@ -45,14 +30,5 @@ returns c = search (rows-all, length-mapped)
 pub value-rows-spec : {M : Type 1} → statement M
 value-rows-spec =
     tie.close
-    (tie.spec
-    Inv-loop
-    μ-loop
-    loop-holds
-    mul-v
-    array-copy-out-v
-    put-value-requires
-    add-i
-    loop-less
-    loop-again
+    (tie.spec Inv-loop μ-loop loop-holds (λ c. search needs) (λ c. search needs) (λ c κs. search needs) (λ c. search needs) (λ c. search needs) loop-again
     returns)

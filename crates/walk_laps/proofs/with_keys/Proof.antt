@@ -13,24 +13,6 @@ Inv-loop start keys sum₀ k₀ sum k = Unit {0}
 abbrev μ-loop : tie.MeasureT-loop
 μ-loop start keys sum₀ k₀ sum k = wordCount * 64 - k
 
-loop-holds : tie.Need-loop-holds Inv-loop μ-loop
-loop-holds c = search needs
-
-lowest-from-requires : tie.Need-lowest-from-requires Inv-loop μ-loop
-lowest-from-requires c κs = search needs
-
-enum-known-f : tie.Need-enum-known-f Inv-loop μ-loop
-enum-known-f c = search needs
-
-enum-told : tie.Need-enum-told Inv-loop μ-loop
-enum-told c = search needs
-
-returns : tie.Need-returns Inv-loop μ-loop
-returns c = search needs
-
-mixed-requires : tie.Need-mixed-requires Inv-loop μ-loop
-mixed-requires c κs = search needs
-
 add-k : tie.Need-add-k Inv-loop μ-loop
 add-k c =
     let r = lowest-range _ _ wordCount (search needs) (told-key (c .before .before .f .given .1) (c .before .before .before .before .lowest-from .ensures)) in
@@ -41,21 +23,8 @@ loop-less c =
     let r = lowest-range _ _ wordCount (search needs) (told-key (c .before .before .f .given .1) (c .before .before .before .before .lowest-from .ensures)) in
     omega (arith, r .0, r .1)
 
-loop-again : tie.Need-loop-again Inv-loop μ-loop
-loop-again c = search needs
-
 pub with-keys-spec : {M : Type 1} → statement M
 with-keys-spec =
     tie.close
-    (tie.spec
-    Inv-loop
-    μ-loop
-    loop-holds
-    lowest-from-requires
-    enum-known-f
-    enum-told
-    returns
-    mixed-requires
-    add-k
-    loop-less
-    loop-again)
+    (tie.spec Inv-loop μ-loop (λ c. search needs) (λ c κs. search needs) (λ c. search needs) (λ c. search needs) (λ c. search needs) (λ c κs. search needs)
+    add-k loop-less (λ c. search needs))

@@ -8,15 +8,6 @@ use Rattle.key_set.proofs.Laws.{has-past}
 use Rattle.key_set.proofs.KeySet.contains.Statement.{statement}
 use Rattle.key_set.proofs.KeySet.contains.Tie as tie
 
-mul-w : tie.Need-mul-w
-mul-w c = search needs
-
-element-copy-out-w : tie.Need-element-copy-out-w
-element-copy-out-w c = search needs
-
-shr-result : tie.Need-shr-result
-shr-result c = search needs
-
 returns : tie.Need-returns
 unfolding has bit
 returns c = refl
@@ -27,4 +18,4 @@ returns-2 c =
     sym (has-past (c .before .args .t1 .words) (c .before .args .k) (omega arith))
 
 pub contains-spec : {M : Type 1} → statement M
-contains-spec = tie.close (tie.spec mul-w element-copy-out-w shr-result returns returns-2)
+contains-spec = tie.close (tie.spec (λ c. search needs) (λ c. search needs) (λ c. search needs) returns returns-2)

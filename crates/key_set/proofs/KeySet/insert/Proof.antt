@@ -18,27 +18,6 @@ abbrev μ-loop : tie.MeasureT-loop
 loop-holds : tie.Need-loop-holds Inv-loop μ-loop
 loop-holds c = laid-none _ _
 
-mul-w : tie.Need-mul-w Inv-loop μ-loop
-mul-w c = search needs
-
-element-copy-out-w : tie.Need-element-copy-out-w Inv-loop μ-loop
-element-copy-out-w c = search needs
-
-bit-in-requires : tie.Need-bit-in-requires Inv-loop μ-loop
-bit-in-requires c κs = search needs
-
-mul-next : tie.Need-mul-next Inv-loop μ-loop
-mul-next c = search needs
-
-element-write-next : tie.Need-element-write-next Inv-loop μ-loop
-element-write-next c = search needs
-
-add-i : tie.Need-add-i Inv-loop μ-loop
-add-i c = search needs
-
-loop-less : tie.Need-loop-less Inv-loop μ-loop
-loop-less c = search needs
-
 loop-again : tie.Need-loop-again Inv-loop μ-loop
 loop-again c =
     let l : length (c .before .before .before .before .args .self .words) ≡ wordCount = search needs in
@@ -52,4 +31,5 @@ returns c =
 pub insert-spec : {M : Type 1} → statement M
 insert-spec =
     tie.close
-    (tie.spec Inv-loop μ-loop loop-holds mul-w element-copy-out-w bit-in-requires mul-next element-write-next add-i loop-less loop-again returns)
+    (tie.spec Inv-loop μ-loop loop-holds (λ c. search needs) (λ c. search needs) (λ c κs. search needs) (λ c. search needs) (λ c. search needs)
+    (λ c. search needs) (λ c. search needs) loop-again returns)

@@ -23,21 +23,6 @@ abbrev μ-loop : tie.MeasureT-loop
 loop-holds : tie.Need-loop-holds Inv-loop μ-loop
 loop-holds c = (omega arith, refl)
 
-mul-w : tie.Need-mul-w Inv-loop μ-loop
-mul-w c = search needs
-
-element-copy-out-w : tie.Need-element-copy-out-w Inv-loop μ-loop
-element-copy-out-w c = search needs
-
-add-i : tie.Need-add-i Inv-loop μ-loop
-add-i c = search needs
-
-mul-end : tie.Need-mul-end Inv-loop μ-loop
-mul-end c = search needs
-
-shr-rest : tie.Need-shr-rest Inv-loop μ-loop
-shr-rest c = search needs
-
 cast-zeros : tie.Need-cast-zeros Inv-loop μ-loop
 cast-zeros c =
     let c₁ = c .before .before .before .before in
@@ -55,17 +40,11 @@ returns c =
     let f : Fits w64 (getD (c .before .before .before .before .before .args .t1 .words) (c .before .before .before .before .loop .i) 0) = search needs in
     found-word _ _ _ _ (v .1) (v .0) (c .before .if1 .taken) (omega arith) (f .fits) (c .if2 .taken)
 
-loop-less : tie.Need-loop-less Inv-loop μ-loop
-loop-less c = search needs
-
 loop-again : tie.Need-loop-again Inv-loop μ-loop
 loop-again c =
     let v = c .before .before .before .before .loop .inv in
     let l : length (c .before .before .before .before .before .args .t1 .words) ≡ wordCount = search needs in
     (omega arith, passed-word _ _ _ _ (v .1) (v .0) (c .before .if1 .taken) (omega arith) (c .if2 .left))
-
-loop-less-2 : tie.Need-loop-less-2 Inv-loop μ-loop
-loop-less-2 c = search needs
 
 loop-again-2 : tie.Need-loop-again-2 Inv-loop μ-loop
 loop-again-2 c = (c .if1 .left, c .before .before .before .loop .inv .1)
@@ -78,20 +57,5 @@ returns-2 c =
 pub lowest-from-spec : {M : Type 1} → statement M
 lowest-from-spec =
     tie.close
-    (tie.spec
-    Inv-loop
-    μ-loop
-    loop-holds
-    mul-w
-    element-copy-out-w
-    add-i
-    mul-end
-    shr-rest
-    cast-zeros
-    add-key
-    returns
-    loop-less
-    loop-again
-    loop-less-2
-    loop-again-2
-    returns-2)
+    (tie.spec Inv-loop μ-loop loop-holds (λ c. search needs) (λ c. search needs) (λ c. search needs) (λ c. search needs) (λ c. search needs) cast-zeros add-key
+    returns (λ c. search needs) loop-again (λ c. search needs) loop-again-2 returns-2)

@@ -21,12 +21,6 @@ loop-holds : tie.Need-loop-holds Inv-loop μ-loop
 unfolding sizeOf
 loop-holds c = omega arith
 
-mul-w : tie.Need-mul-w Inv-loop μ-loop
-mul-w c = search needs
-
-element-copy-out-w : tie.Need-element-copy-out-w Inv-loop μ-loop
-element-copy-out-w c = search needs
-
 cast-n : tie.Need-cast-n Inv-loop μ-loop
 cast-n c =
     let l : length (c .before .before .before .args .t1 .words) ≡ wordCount = search needs in
@@ -38,12 +32,6 @@ add-n c =
     let l : length (c .before .before .before .args .t1 .words) ≡ wordCount = search needs in
     let f : Fits w64 (getD (c .before .before .before .args .t1 .words) (c .before .before .loop .i) 0) = search needs in
     omega (arith, counted-fit _ _ _ (c .before .before .loop .inv) (omega arith) (f .fits))
-
-add-i : tie.Need-add-i Inv-loop μ-loop
-add-i c = search needs
-
-loop-less : tie.Need-loop-less Inv-loop μ-loop
-loop-less c = search needs
 
 loop-again : tie.Need-loop-again Inv-loop μ-loop
 loop-again c =
@@ -57,4 +45,4 @@ returns c =
     counted-all _ _ _ (c .before .loop .inv) (omega arith)
 
 pub size-spec : {M : Type 1} → statement M
-size-spec = tie.close (tie.spec Inv-loop μ-loop loop-holds mul-w element-copy-out-w cast-n add-n add-i loop-less loop-again returns)
+size-spec = tie.close (tie.spec Inv-loop μ-loop loop-holds (λ c. search needs) (λ c. search needs) cast-n add-n (λ c. search needs) (λ c. search needs) loop-again returns)

@@ -6,16 +6,10 @@ use borrow.Author.Needs.{needs}
 use Rattle.manager.proofs.Manager.has_nonterminal_work.Statement.{statement}
 use Rattle.manager.proofs.Manager.has_nonterminal_work.Tie as tie
 
-ask-of-requires : tie.Need-ask-of-requires
-ask-of-requires c κs = search needs
-
-some-work-requires : tie.Need-some-work-requires
-some-work-requires c κs = search needs
-
 returns : tie.Need-returns
 returns c =
     let r = c .before .before .ask-of in
     ap (λ x. answered x (arraysOf (r .result .manager))) (c .before .some-work .ensures) ∙ ap someWork (r .ensures)
 
 pub has-nonterminal-work-spec : {M : Type 1} → statement M
-has-nonterminal-work-spec = tie.close (tie.spec ask-of-requires some-work-requires returns)
+has-nonterminal-work-spec = tie.close (tie.spec (λ c κs. search needs) (λ c κs. search needs) returns)

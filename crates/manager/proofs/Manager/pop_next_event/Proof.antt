@@ -5,18 +5,9 @@ use borrow.Author.Needs.{needs}
 use Rattle.manager.proofs.Manager.pop_next_event.Statement.{statement}
 use Rattle.manager.proofs.Manager.pop_next_event.Tie as tie
 
-slice-aggregate-step-on : tie.Need-slice-aggregate-step-on
-slice-aggregate-step-on c = search needs
-
-step-on-requires : tie.Need-step-on-requires
-step-on-requires c κs = search needs
-
-popped-of-requires : tie.Need-popped-of-requires
-popped-of-requires c κs = search needs
-
 returns : tie.Need-returns
 returns c = c .popped-of .ensures ∙ ap popped (c .before .step-on .ensures .0)
 
 pub pop-next-event-spec : {M : Type 1} → statement M
 pop-next-event-spec =
-    tie.close (tie.spec slice-aggregate-step-on step-on-requires popped-of-requires returns)
+    tie.close (tie.spec (λ c. search needs) (λ c κs. search needs) (λ c κs. search needs) returns)

@@ -4,15 +4,6 @@ use borrow.Author.Needs.{needs}
 use Rattle.tags.proofs.LocalTag.delay.Statement.{statement}
 use Rattle.tags.proofs.LocalTag.delay.Tie as tie
 
-delay-requires : tie.Need-delay-requires
-delay-requires c κs = search needs
-
-enum-known-t : tie.Need-enum-known-t
-enum-known-t c = search needs
-
-enum-known-n : tie.Need-enum-known-n
-enum-known-n c = search needs
-
 returns : tie.Need-returns
 returns c = search answers
 
@@ -20,4 +11,4 @@ returns-2 : tie.Need-returns-2
 returns-2 c = search answers
 
 pub delay-spec : {M : Type 1} → statement M
-delay-spec = tie.close (tie.spec delay-requires enum-known-t enum-known-n returns returns-2)
+delay-spec = tie.close (tie.spec (λ c κs. search needs) (λ c. search needs) (λ c. search needs) returns returns-2)

@@ -6,17 +6,8 @@ use borrow.Author.Needs.{needs}
 use Rattle.tags.proofs.ScopeClock.holds_back.Statement.{statement}
 use Rattle.tags.proofs.ScopeClock.holds_back.Tie as tie
 
-is-identity-requires : tie.Need-is-identity-requires
-is-identity-requires c κs = search needs
-
 returns : tie.Need-returns
 returns c = search helds
-
-shift-requires : tie.Need-shift-requires
-shift-requires c κs = search needs
-
-is-held-at-requires : tie.Need-is-held-at-requires
-is-held-at-requires c κs = search needs
 
 returns-2 : tie.Need-returns-2
 returns-2 c =
@@ -25,4 +16,4 @@ returns-2 c =
 
 pub holds-back-spec : {M : Type 1} → statement M
 holds-back-spec =
-    tie.close (tie.spec is-identity-requires returns shift-requires is-held-at-requires returns-2)
+    tie.close (tie.spec (λ c κs. search needs) returns (λ c κs. search needs) (λ c κs. search needs) returns-2)

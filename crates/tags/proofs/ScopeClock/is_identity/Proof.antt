@@ -4,9 +4,6 @@ use borrow.Author.Needs.{needs}
 use Rattle.tags.proofs.ScopeClock.is_identity.Statement.{statement}
 use Rattle.tags.proofs.ScopeClock.is_identity.Tie as tie
 
-is-level-requires : tie.Need-is-level-requires
-is-level-requires c κs = search needs
-
 returns : tie.Need-returns
 returns c = search levels
 
@@ -14,4 +11,4 @@ returns-2 : tie.Need-returns-2
 returns-2 c = search levels
 
 pub is-identity-spec : {M : Type 1} → statement M
-is-identity-spec = tie.close (tie.spec is-level-requires returns returns-2)
+is-identity-spec = tie.close (tie.spec (λ c κs. search needs) returns returns-2)

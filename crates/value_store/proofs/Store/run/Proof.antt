@@ -4,23 +4,11 @@ use borrow.Author.Needs.{needs}
 use Rattle.value_store.proofs.Store.run.Statement.{statement}
 use Rattle.value_store.proofs.Store.run.Tie as tie
 
-value-rows-requires : tie.Need-value-rows-requires
-value-rows-requires c κs = search needs
-
-bucket-rows-requires : tie.Need-bucket-rows-requires
-bucket-rows-requires c κs = search needs
-
-is-sound-requires : tie.Need-is-sound-requires
-is-sound-requires c κs = search needs
-
 returns : tie.Need-returns
 returns c = search run-eleven
 
 call-rows-requires : tie.Need-call-rows-requires
 call-rows-requires c κs = search run-lent
-
-store-of-requires : tie.Need-store-of-requires
-store-of-requires c κs = search needs
 
 returns-2 : tie.Need-returns-2
 returns-2 c = search run-called
@@ -28,11 +16,4 @@ returns-2 c = search run-called
 pub run-spec : {M : Type 1} → statement M
 run-spec =
     tie.close
-    (tie.spec
-    value-rows-requires
-    bucket-rows-requires
-    is-sound-requires
-    returns
-    call-rows-requires
-    store-of-requires
-    returns-2)
+    (tie.spec (λ c κs. search needs) (λ c κs. search needs) (λ c κs. search needs) returns call-rows-requires (λ c κs. search needs) returns-2)

@@ -1,0 +1,446 @@
+-- A law for each case of a peek and a pop, and the loop over the scopes' turns. Assumes nothing.
+use mathlib.Core.Bool.{Bool, true, false, cond, not, _&&_}
+use mathlib.Core.Path.{_≡_, refl, sym, ap, _∙_}
+use mathlib.Core.Logic.{⊎-elim}
+use mathlib.Core.List.{List, [], _∷_, _++_, map, append-nil, append-assoc}
+use Prim.Native.Nat.{ℕ, zero, suc, _+_, _-_, _<_, _≤_}
+use native.Mathlib.Omega.{arith}
+use lib.ListN.{length, take, drop, getD, set, length-take}
+use lib.Seq.{getD-take}
+use Rattle.lists.specs.Tests.{flag, lt-eqb, and-yes, and-no, below?, yes-no}
+use Rattle.lists.specs.Lists.{keep, lose, count, every, foldl, from}
+use Rattle.lists.specs.Lay.{lay}
+use Rattle.lists.specs.Held.{thing-past}
+use Rattle.lists.specs.Rows.{tab-at}
+use Rattle.lists.specs.Every.{count-split}
+use Rattle.lists.specs.Steps.{every-pass, every-fail, every-end}
+use Rattle.table_rows.specs.Bytes.{Image}
+use Rattle.tags.specs.Tags.{Tag, zeroTag, sameTag, earlier}
+use Rattle.tags.specs.Views.{ofGlobal, ofQueue}
+use Rattle.tags.specs.declared.GlobalTag.{GlobalTag}
+use Rattle.machine.specs.Table.{scopes}
+use Rattle.machine.specs.State.{Event, State, root, ordinary, atHead, withQueue}
+use Rattle.machine.specs.Heads.{Head, Least, noTag, least, empty, head, leastOf, rootOf, scopeHeadOf, rootHead, headAt, sooner, scopeHead, peek, isAt, controlled, controlAt, controlOnly}
+use Rattle.machine.specs.Heads.{Taking, untaken, taken, takeAt, takeScopes, taking, readyOf}
+use Rattle.machine.specs.Machine as M
+use Rattle.machine.specs.Machine.{Reply, nothing, ready, tag, answer, popAt, peekAt, perform}
+use Rattle.state_events.specs.Slots as slot
+use Rattle.state_events.specs.Slots.{eventsOf, roomForEvents}
+use Rattle.state_scopes.specs.Scopes as scope
+use Rattle.state_scopes.specs.Scopes.{Scope, mostScopes, scopesOf}
+use Rattle.state_queues.specs.Queue as queue
+use Rattle.state_queues.specs.Queue.{queues, queueOf, entryOf, ofEarliest, leastsOf, headsOf}
+use Rattle.state_queues.specs.declared.Earliest.{Earliest}
+use Rattle.state_queues.proofs.LowLaws.{least-lose, other-queue, heads-taken}
+use Rattle.state_heads.specs.Found.{headOf, headIn, leastHead}
+use Rattle.state_heads.specs.declared.HeadAt.{HeadAt}
+use Rattle.state_heads.specs.declared.Head as code
+use Rattle.state_heads.specs.declared.Head.the-variants as C
+use Rattle.call_pop_ready.specs.Gathering.{nothingYet, noneYet, addedTo, readyAt, gatheringOf, Grown}
+use Rattle.call_pop_ready.specs.declared.Gathered.{Gathered}
+use Rattle.call_pop_ready.proofs.GatherLaws.{foldl-append, gathered, ready-nothing, grown-none, grown-then}
+use Rattle.state_room.specs.declared.Counts.{Counts}
+use Rattle.state_room.specs.PartRows.{Queued, Waits, Shows, queued-is, queued-waits, queued-laid, waits-queued}
+use Rattle.call_pop.specs.Pops.{replyOf, lent, Takes, Pops}
+use Rattle.call_pop.specs.declared.Taking as T
+use Rattle.call_pop.specs.declared.Peeked.{Peeked}
+use Rattle.call_pop.specs.declared.Peeked.the-variants as P
+
+-- ---- the peek
+
+module _ (h : code.Head) (t : Tag) {r : Bool} where
+  pub is-at : {x : HeadAt} → h ≡ C.At x → r ≡ sameTag (ofGlobal (x .tag)) t → r ≡ isAt t (headOf h)
+  is-at e p = p ∙ rw e
+
+module _ (a b : code.Head) where
+  pub peek-none : a ≡ C.Empty → b ≡ C.Empty → replyOf P.Nothing ≡ peekAt (sooner (headOf a) (headOf b))
+  peek-none p q = rw (p, q)
+
+  pub peek-second : {y : HeadAt} → a ≡ C.Empty → b ≡ C.At y → replyOf (P.At (y .tag)) ≡ peekAt (sooner (headOf a) (headOf b))
+  peek-second p q = rw (p, q)
+
+  pub peek-first : {x : HeadAt} → a ≡ C.At x → b ≡ C.Empty → replyOf (P.At (x .tag)) ≡ peekAt (sooner (headOf a) (headOf b))
+  peek-first p q = rw (p, q)
+
+  pub peek-earlier :
+      {x y : HeadAt} → a ≡ C.At x → b ≡ C.At y → earlier (ofGlobal (y .tag)) (ofGlobal (x .tag)) ≡ true → replyOf (P.At (y .tag)) ≡ peekAt (sooner (headOf a) (headOf b))
+  peek-earlier p q t = rw (p, q) (simp t)
+
+  pub peek-later :
+      {x y : HeadAt} → a ≡ C.At x → b ≡ C.At y → earlier (ofGlobal (y .tag)) (ofGlobal (x .tag)) ≡ false → replyOf (P.At (x .tag)) ≡ peekAt (sooner (headOf a) (headOf b))
+  peek-later p q t = rw (p, q) (simp t)
+
+pub ruleset peeks = (peek-none, peek-second, peek-first, peek-earlier, peek-later, flag, refl)
+
+-- ---- the heads of some events
+
+heads-root : (es : List Event) → getD (headsOf es) mostScopes noTag ≡ leastOf root es
+heads-root es = tab-at (λ k. leastOf (queueOf k) es) queues mostScopes noTag (omega arith)
+
+pub root-head : (es : List Event) {h : Head} {hs : List ℕ} → queue.Held hs (headsOf es) → h ≡ rootOf (getD (leastsOf hs) mostScopes noTag) → h ≡ rootHead es
+unfolding rootHead
+root-head es w p = p ∙ rw (w .things) (ap rootOf (heads-root es))
+
+heads-scope : (es : List Event) (i : ℕ) → i < mostScopes → getD (headsOf es) i noTag ≡ leastOf i es
+heads-scope es i h = tab-at (λ k. leastOf (queueOf k) es) queues i noTag (omega arith) ∙ simp (lt-eqb i mostScopes h)
+
+module _ (img : Image) (ws : List ℕ) where
+  -- the least head of the scopes in rows, by their least tags
+  abbrev leastBy : (ℕ → Least) → Head
+  leastBy f = foldl sooner empty (map (λ i. scopeHeadOf (getD (scopesOf ws) i scope.blank) i (f i)) (from 0 (scopes img)))
+
+  -- past the end of the rows no scope is active
+  least-same : (f g : ℕ → Least) → ((i : ℕ) → i < mostScopes → f i ≡ g i) → leastBy f ≡ leastBy g
+  unfolding scopeHeadOf
+  least-same f g h = λ k. foldl sooner empty (map (λ i. one i k) (from 0 (scopes img)))
+    where
+      one : (i : ℕ) → scopeHeadOf (getD (scopesOf ws) i scope.blank) i (f i) ≡ scopeHeadOf (getD (scopesOf ws) i scope.blank) i (g i)
+      one i =
+          ⊎-elim (λ (b : i < mostScopes). rw (h i b))
+          (λ (b : mostScopes ≤ i). rw (thing-past scope.decode scope.encode scope.scopeWords mostScopes scope.encode-long ws i scope.blank b)) (below? i mostScopes)
+
+  -- what the code finds is the machine's
+  pub scope-head : (es : List Event) {h : Head} {hs : List ℕ} {n : ℕ} → n ≡ scopes img → queue.Held hs (headsOf es) → h ≡ leastHead (scopesOf ws) (leastsOf hs) n → h ≡ scopeHead img (scopesOf ws) es
+  unfolding leastHead headIn scopeHead headAt
+  scope-head es e w q = q ∙ rw (w .things, e) (least-same (λ i. getD (headsOf es) i noTag) (λ i. leastOf i es) (heads-scope es))
+
+  -- taking the root's leaves the scopes' heads
+  root-goes : (x : Tag) (es : List Event) → scopeHead img (scopesOf ws) (lose (atHead root x) es) ≡ scopeHead img (scopesOf ws) es
+  unfolding scopeHead headAt
+  root-goes x es =
+      least-same (λ i. leastOf i (lose (atHead root x) es)) (λ i. leastOf i es)
+      (λ i h. least-lose i (atHead root x) (other-queue root i x (λ (m : root ≡ i). omega arith)) es)
+
+  root-leaves : (t : Tag) (es : List Event) (work : ℕ) → scopeHead img (scopesOf ws) (takeAt t (untaken es work) (rootHead es) .waiting) ≡ scopeHead img (scopesOf ws) es
+  unfolding rootHead taken
+  root-leaves t es work = go (leastOf root es)
+    where
+      by : (b : Bool) (x : Tag) → scopeHead img (scopesOf ws) (cond b (taken root x (untaken es work)) (untaken es work) .waiting) ≡ scopeHead img (scopesOf ws) es
+      by true x = root-goes x es
+      by false x = refl
+
+      go : (l : Least) → scopeHead img (scopesOf ws) (takeAt t (untaken es work) (rootOf l) .waiting) ≡ scopeHead img (scopesOf ws) es
+      go noTag = refl
+      go (least x) = by (sameTag x t) x
+
+-- ---- a state in the rows
+
+pub queue-is : (s : State) (ev : List ℕ) (c : Counts) → c .waiting ≤ roomForEvents → Queued (s .waiting) (s .work) ev c → take (c .waiting) (eventsOf ev) ≡ s .waiting
+queue-is s ev c f q = queued-is (s .waiting) (s .work) ev c q (rw (← q .waiting) f)
+
+-- the heads that the code finds are the machine's
+pub record Seen (img : Image) (s : State) (a b : code.Head) : Type 0 where
+  pub root : headOf a ≡ rootHead (s .waiting)
+  pub local : headOf b ≡ scopeHead img (s .scopes) (s .waiting)
+
+pub seen-peek : {img : Image} {s : State} {a b : code.Head} {r : Reply} → Seen img s a b → r ≡ peekAt (sooner (headOf a) (headOf b)) → r ≡ peekAt (peek img (s .scopes) (s .waiting))
+unfolding peek
+seen-peek w e = e ∙ rw (w .root, w .local)
+
+module _ (img : Image) (s : State) (ws : List ℕ) (h : Shows s ws) where
+  local-is : (es : List Event) → scopeHead img (scopesOf ws) es ≡ scopeHead img (s .scopes) es
+  unfolding scopeHead headAt
+  local-is es = λ k. foldl sooner empty (map (λ i. scopeHeadOf (h i k) i (leastOf i es)) (from 0 (scopes img)))
+
+  pub seen :
+      (a b : code.Head) {hs : List ℕ} {n : ℕ} → n ≡ scopes img → queue.Held hs (headsOf (s .waiting)) →
+      headOf a ≡ rootOf (getD (leastsOf hs) mostScopes noTag) → headOf b ≡ leastHead (scopesOf ws) (leastsOf hs) n → Seen img s a b
+  seen a b e w p r = record { root = root-head (s .waiting) w p; local = scope-head img ws (s .waiting) e w r ∙ local-is (s .waiting) }
+
+  scopes-are : (m : ℕ) (t : Tag) (k : Taking) → takeScopes m img (scopesOf ws) t k ≡ takeScopes m img (s .scopes) t k
+  unfolding takeScopes
+  scopes-are zero t k = refl
+  scopes-are (suc m) t k = rw (local-is (k .waiting), scopes-are m t (takeAt t k (scopeHead img (s .scopes) (k .waiting))))
+
+module _ (img : Image) (s : State) (ev ws : List ℕ) (c : Counts) (few : c .waiting ≤ roomForEvents) (q : Queued (s .waiting) (s .work) ev c) (h : Shows s ws) where
+  pub seen-in :
+      (a b : code.Head) {hs : List ℕ} {n : ℕ} → n ≡ scopes img → queue.Held hs (headsOf (take (c .waiting) (eventsOf ev))) →
+      headOf a ≡ rootOf (getD (leastsOf hs) mostScopes noTag) → headOf b ≡ leastHead (scopesOf ws) (leastsOf hs) n → Seen img s a b
+  seen-in a b e k p r = seen img s ws h a b e (rw (queue-is s ev c few q) at k) p r
+
+  taking-is : (t : Tag) → takeScopes (c .waiting) img (scopesOf ws) t (takeAt t (lent ev c) (rootHead (s .waiting))) ≡ taking img (s .scopes) t (untaken (s .waiting) (s .work))
+  unfolding taking
+  taking-is t = rw (queue-is s ev c few q, q .work, q .waiting, scopes-are img s ws h)
+
+-- ---- a head by what its peek answers
+
+no-tag : {P : Type 0} {t : Tag} → _≡_ {A = Reply} nothing (tag t) → P
+no-tag e = let z : _≡_ {A = ℕ} 0 1 = cc in absurd (omega arith)
+
+module _ (img : Image) (s : State) where
+  pop-nothing : (h : Head) → nothing ≡ peekAt h → popAt img s h ≡ answer nothing s
+  pop-nothing empty e = refl
+  pop-nothing (head q x t) e = no-tag e
+
+  pop-found : (h : Head) (t : Tag) → tag t ≡ peekAt h → popAt img s h ≡ popAt img s (head root t t)
+  pop-found empty t e = no-tag (sym e)
+  pop-found (head q x u) t e = let d : t ≡ u = cc in rw d
+
+  -- a pop changes the queue and nothing else
+  pub pop-frame : let t = perform img s M.pop .state in t ≡ withQueue s (t .waiting) (t .work)
+  unfolding perform
+  pop-frame = go (peek img (s .scopes) (s .waiting))
+    where
+      go : (h : Head) → let t = popAt img s h .state in t ≡ withQueue s (t .waiting) (t .work)
+      go empty = refl
+      go (head q x t) = refl
+
+module _ (img : Image) (ss : List Scope) (es : List Event) where
+  control-none : (h : Head) → nothing ≡ peekAt h → false ≡ controlAt img ss es h
+  control-none empty e = refl
+  control-none (head q x t) e = no-tag e
+
+  control-some : (h : Head) (t : Tag) → tag t ≡ peekAt h → controlAt img ss es h ≡ (isAt t (rootHead es) && (every (controlled t) es && not (isAt t (scopeHead img ss es))))
+  control-some empty t e = no-tag (sym e)
+  control-some (head q x u) t e = let d : t ≡ u = cc in rw d
+
+-- by the tests that the code makes
+module _ {img : Image} {s : State} {a b : code.Head} (w : Seen img s a b) (p : Peeked) (e : replyOf p ≡ peekAt (sooner (headOf a) (headOf b))) where
+  abbrev Only : Bool → Type 0
+  Only r = M.flag r ≡ perform img s M.onlyControl .reply
+
+  pub control-nothing : p ≡ P.Nothing → Only false
+  unfolding perform controlOnly
+  control-nothing d = ap M.flag (control-none img (s .scopes) (s .waiting) (peek img (s .scopes) (s .waiting)) (sym (ap replyOf d) ∙ seen-peek w e))
+
+  module _ {t : GlobalTag} (d : p ≡ P.At t) where
+    only : {r : Bool} → r ≡ (isAt (ofGlobal t) (headOf a) && (every (controlled (ofGlobal t)) (s .waiting) && not (isAt (ofGlobal t) (headOf b)))) → Only r
+    unfolding perform controlOnly
+    only q = ap M.flag (q ∙ rw (w .root, w .local) (sym (control-some img (s .scopes) (s .waiting) (peek img (s .scopes) (s .waiting)) (ofGlobal t) (sym (ap replyOf d) ∙ seen-peek w e))))
+
+    pub control-other : {x : Bool} → x ≡ isAt (ofGlobal t) (headOf a) → x ≡ false → Only false
+    control-other i n = only (rw (sym i ∙ n))
+
+    pub control-both : {y : Bool} → y ≡ isAt (ofGlobal t) (headOf b) → y ≡ true → Only false
+    control-both j n = only (rw (sym j ∙ n, and-no (every (controlled (ofGlobal t)) (s .waiting)), and-no (isAt (ofGlobal t) (headOf a))))
+
+    pub control-asked : {x y r : Bool} → x ≡ isAt (ofGlobal t) (headOf a) → x ≡ true → y ≡ isAt (ofGlobal t) (headOf b) → y ≡ false → r ≡ every (controlled (ofGlobal t)) (s .waiting) → Only r
+    control-asked i m j n o = only (o ∙ rw (sym i ∙ m, sym j ∙ n, and-yes (every (controlled (ofGlobal t)) (s .waiting))))
+
+-- ---- of the root's events at a tag, only control events
+
+module _ (p : Event → Bool) (es : List Event) (n i : ℕ) (e : Event) (h : i < n) (f : n ≤ length es) (r : e ≡ getD es i slot.blank) where
+  read : getD (take n es) i slot.blank ≡ e
+  read = getD-take n es i slot.blank h ∙ sym r
+
+  inside : i < length (take n es)
+  inside = rw length-take (omega arith)
+
+  pub each-pass : p e ≡ true → every p (take n es) ≡ every p (drop i (take n es)) → every p (take n es) ≡ every p (drop (i + 1) (take n es))
+  each-pass y w = w ∙ every-pass p (take n es) i slot.blank inside (rw read y)
+
+  pub each-fail : p e ≡ false → every p (take n es) ≡ every p (drop i (take n es)) → false ≡ every p (take n es)
+  each-fail y w = sym (w ∙ every-fail p (take n es) i slot.blank inside (rw read y))
+
+pub each-end : (p : Event → Bool) (es : List Event) (n i : ℕ) → n ≤ i → every p (take n es) ≡ every p (drop i (take n es)) → true ≡ every p (take n es)
+each-end p es n i h w = sym (w ∙ every-end p (take n es) i (rw length-take (omega arith)))
+
+-- ---- taking at one head
+
+both-lengths : {A : Type 0} (p : A → Bool) (l : List A) → length (keep p l) + length (lose p l) ≡ length l
+unfolding keep lose
+both-lengths p [] = refl
+both-lengths p (a ∷ l) = go (p a) (both-lengths p l)
+  where
+    go : (b : Bool) → length (keep p l) + length (lose p l) ≡ length l → length (cond b (a ∷ keep p l) (keep p l)) + length (cond b (lose p l) (a ∷ lose p l)) ≡ suc (length l)
+    go true h = omega arith
+    go false h = omega arith
+
+module _ (ws : List ℕ) (given : T.Taking) (w : Waits ws (given .counts)) where
+  abbrev old : List Event
+  old = take (given .counts .waiting) (eventsOf ws)
+
+  pub takes-none : (keys : List ℕ) → given .gathered .actions + given .counts .waiting ≤ roomForEvents → Takes (lent ws (given .counts)) given given keys ws keys
+  unfolding foldl
+  takes-none keys r = record { queued = waits-queued ws (given .counts) w; waits = w; gathered = refl; grown = grown-none (given .gathered .actions) keys; room = r }
+
+  module _ (q : ℕ) (x : Tag) (m o : ℕ) (p : m ≡ length (lose (atHead q x) old)) (d : o ≡ count ordinary (keep (atHead q x) old)) where
+    pub went-few : o ≤ given .counts .work
+    went-few = omega (arith, w .counted, count-split ordinary (atHead q x) old)
+
+    pub takes-some :
+        (g : Gathered) (keys next out : List ℕ) → slot.Held out (lay slot.blank (eventsOf ws) (lose (atHead q x) old) (given .counts .waiting)) →
+        gatheringOf g next ≡ foldl addedTo (gatheringOf (given .gathered) keys) (keep (atHead q x) old) →
+        g .actions ≤ given .gathered .actions + length (keep (atHead q x) old) → Grown (given .gathered .actions) (g .actions) keys next →
+        given .gathered .actions + given .counts .waiting ≤ roomForEvents →
+        Takes (taken q x (lent ws (given .counts))) given (record { gathered = g; counts = record { waiting = m; work = given .counts .work - o } }) keys out next
+    unfolding taken
+    takes-some g keys next out k s a b r =
+        let c = given .counts in
+        let was = waits-queued ws c w in
+        let few : length old ≤ roomForEvents = rw (← was .waiting) (w .few) in
+        let z = both-lengths (atHead q x) old in
+        let left : length (lose (atHead q x) old) ≤ roomForEvents = omega arith in
+        let new : Queued (lose (atHead q x) old) (c .work - count ordinary (keep (atHead q x) old)) out (record { waiting = m; work = c .work - o }) =
+        record { held = queued-laid old (c .work) ws c (lose (atHead q x) old) out was few k; waiting = p; work = rw d } in
+        record {
+          queued = new;
+          waits = queued-waits _ _ out _ new left (omega (arith, w .counted, count-split ordinary (atHead q x) old));
+          gathered = s;
+          grown = b;
+          room = omega (arith, was .waiting);
+        }
+
+-- by the head's case
+module _ (t : Tag) (k : Taking) (h : code.Head) where
+  pub at-none : h ≡ C.Empty → takeAt t k (headOf h) ≡ k
+  at-none e = rw e
+
+  module _ (x : HeadAt) (e : h ≡ C.At x) where
+    pub at-other : sameTag (ofGlobal (x .tag)) t ≡ false → takeAt t k (headOf h) ≡ k
+    at-other d = rw e (simp d)
+
+    pub at-there : sameTag (ofGlobal (x .tag)) t ≡ true → takeAt t k (headOf h) ≡ taken (x .queue) (ofQueue (x .stamp)) k
+    at-there d = rw e (simp d)
+
+-- ---- the scopes' turns
+
+-- taken after some others
+abbrev after : List Event → Taking → Taking
+after es k = record { waiting = k .waiting; work = k .work; events = es ++ k .events }
+
+module _ (img : Image) (ss : List Scope) (t : Tag) where
+  at-after : (es : List Event) (k : Taking) (h : Head) → takeAt t (after es k) h ≡ after es (takeAt t k h)
+  unfolding taken
+  at-after es k empty = refl
+  at-after es k (head q x g) = go (sameTag g t)
+    where
+      go : (b : Bool) → cond b (taken q x (after es k)) (after es k) ≡ after es (cond b (taken q x k) k)
+      go true = rw append-assoc
+      go false = refl
+
+  scopes-after : (es : List Event) (m : ℕ) (k : Taking) → takeScopes m img ss t (after es k) ≡ after es (takeScopes m img ss t k)
+  unfolding takeScopes
+  scopes-after es zero k = refl
+  scopes-after es (suc m) k = go (isAt t h) (scopes-after es m (takeAt t k h))
+    where
+      h : Head
+      h = scopeHead img ss (k .waiting)
+
+      go : (b : Bool) → takeScopes m img ss t (after es (takeAt t k h)) ≡ after es (takeScopes m img ss t (takeAt t k h)) →
+          cond b (takeScopes m img ss t (takeAt t (after es k) h)) (after es k) ≡ after es (cond b (takeScopes m img ss t (takeAt t k h)) k)
+      go true r = ap (takeScopes m img ss t) (at-after es k h) ∙ r
+      go false r = refl
+
+  take-more : (m : ℕ) (k : Taking) (h : Head) → h ≡ scopeHead img ss (k .waiting) → isAt t h ≡ true → takeScopes (suc m) img ss t k ≡ takeScopes m img ss t (takeAt t k h)
+  unfolding takeScopes
+  take-more m k h e y = let z : isAt t (scopeHead img ss (k .waiting)) ≡ true = rw e at y in simp z (rw e)
+
+  take-other : (m : ℕ) (k : Taking) (h : Head) → h ≡ scopeHead img ss (k .waiting) → isAt t h ≡ false → takeScopes m img ss t k ≡ k
+  unfolding takeScopes
+  take-other zero k h e y = refl
+  take-other (suc m) k h e y = let z : isAt t (scopeHead img ss (k .waiting)) ≡ false = rw e at y in simp z
+
+module _ {k : Taking} {given g : T.Taking} {was ws keys : List ℕ} (w : Takes k given g was ws keys) where
+  takes-waiting : take (g .counts .waiting) (eventsOf ws) ≡ k .waiting
+  takes-waiting = queued-is (k .waiting) (k .work) ws (g .counts) (w .queued) (rw (← w .queued .waiting) (w .waits .few))
+
+  -- every queue's least tag, where events of one queue went
+  pub heads-left :
+      (q : ℕ) (x : Tag) (es : List Event) (t : Earliest) {hs out : List ℕ} → k .waiting ≡ lose (atHead q x) es → queue.Held hs (headsOf es) →
+      ofEarliest t ≡ leastOf q (lose (atHead q x) es) → queue.Held out (set (leastsOf hs) (entryOf q) (ofEarliest t)) →
+      queue.Held out (headsOf (take (g .counts .waiting) (eventsOf ws)))
+  heads-left q x es t e h l o = rw (takes-waiting, e, ← heads-taken q x es, ← h .things, ← l) o
+
+  -- the scopes' after these
+  pub takes-then :
+      (img : Image) (ss : List Scope) (t : Tag) (m : ℕ) {r : T.Taking} {out next : List ℕ} → Takes (takeScopes m img ss t (lent ws (g .counts))) g r keys out next →
+      Takes (takeScopes m img ss t k) given r was out next
+  takes-then img ss t m v =
+      let j = takeScopes m img ss t (lent ws (g .counts)) in
+      let here : k ≡ after (k .events) (lent ws (g .counts)) = rw (takes-waiting, w .queued .work, append-nil (k .events)) in
+      rw (ap (takeScopes m img ss t) here ∙ scopes-after img ss t (k .events) m (lent ws (g .counts)))
+      (record {
+        queued = v .queued;
+        waits = v .waits;
+        gathered = v .gathered ∙ rw (foldl-append addedTo (gatheringOf (given .gathered) was) (k .events) (j .events), w .gathered);
+        grown = grown-then (w .grown) (v .grown);
+        room = v .room;
+      })
+
+-- the root's are taken: the least scope head is as it was
+pub local-still :
+    (img : Image) (ev ws : List ℕ) (c : Counts) (t : Tag) {a : Head} {given g : T.Taking} {was mid keys : List ℕ} {b : Head} →
+    a ≡ rootHead (take (c .waiting) (eventsOf ev)) → Takes (takeAt t (lent ev c) a) given g was mid keys → b ≡ scopeHead img (scopesOf ws) (take (c .waiting) (eventsOf ev)) →
+    b ≡ scopeHead img (scopesOf ws) (take (g .counts .waiting) (eventsOf mid))
+local-still img ev ws c t r v e = e ∙ (sym (root-leaves img ws t (take (c .waiting) (eventsOf ev)) (c .work)) ∙ rw (takes-waiting v, r))
+
+-- the loop's state: what is left to take from here makes the whole
+module _ (img : Image) (ss : List Scope) (t : Tag) where
+  pub record Going (end : Taking) (given : T.Taking) (was : List ℕ) (turns : ℕ) (ws keys : List ℕ) (g : T.Taking) (h : Head) : Type 0 where
+    pub rest : (r : T.Taking) (out next : List ℕ) → Takes (takeScopes turns img ss t (lent ws (g .counts))) g r keys out next → Takes end given r was out next
+    pub local : h ≡ scopeHead img ss (take (g .counts .waiting) (eventsOf ws))
+    pub waits : Waits ws (g .counts)
+    pub long : length keys ≡ length was
+    pub room : g .gathered .actions + g .counts .waiting ≤ roomForEvents
+
+  pub going-start :
+      (turns : ℕ) (ws keys : List ℕ) (given : T.Taking) (h : Head) → Waits ws (given .counts) → given .gathered .actions + given .counts .waiting ≤ roomForEvents →
+      h ≡ scopeHead img ss (take (given .counts .waiting) (eventsOf ws)) → Going (takeScopes turns img ss t (lent ws (given .counts))) given keys turns ws keys given h
+  going-start turns ws keys given h w r e = record { rest = λ _ out next v. v; local = e; waits = w; long = refl; room = r }
+
+module _ {img : Image} {ss : List Scope} {t : Tag} {end : Taking} {given g : T.Taking} {was ws keys : List ℕ} {turns : ℕ} {h : Head}
+    (w : Going img ss t end given was turns ws keys g h) where
+  pub going-next :
+      {out next : List ℕ} {i : T.Taking} {j : Head} → 0 < turns → isAt t h ≡ true → Takes (takeAt t (lent ws (g .counts)) h) g i keys out next →
+      j ≡ scopeHead img ss (take (i .counts .waiting) (eventsOf out)) → Going img ss t end given was (turns - 1) out next i j
+  going-next z y v e =
+      let s : turns ≡ suc (turns - 1) = omega arith in
+      let q : takeScopes turns img ss t (lent ws (g .counts)) ≡ takeScopes (turns - 1) img ss t (takeAt t (lent ws (g .counts)) h) =
+      ap (λ m. takeScopes m img ss t (lent ws (g .counts))) s ∙ take-more img ss t (turns - 1) (lent ws (g .counts)) h (w .local) y in
+      record {
+        rest = λ r o n x. w .rest r o n (rw q (takes-then v img ss t (turns - 1) x));
+        local = e;
+        waits = v .waits;
+        long = v .grown .long ∙ w .long;
+        room = v .room;
+      }
+
+  -- the end, where no turn is left or the least head is another
+  over : takeScopes turns img ss t (lent ws (g .counts)) ≡ lent ws (g .counts) → Takes end given g was ws keys
+  over q = w .rest g ws keys (rw q (takes-none ws g (w .waits) keys (w .room)))
+
+  pub going-end : turns ≤ 0 → Takes end given g was ws keys
+  unfolding takeScopes
+  going-end z = let e : turns ≡ 0 = omega arith in over (rw e)
+
+  pub going-stop : isAt t h ≡ false → Takes end given g was ws keys
+  going-stop y = over (take-other img ss t turns (lent ws (g .counts)) h (w .local) y)
+
+-- ---- the whole pop
+
+-- what is gathered is the machine's ready event
+ready-is : (t : Tag) (es : List Event) → readyAt t (foldl addedTo nothingYet es) ≡ readyOf t es
+unfolding foldl readyOf
+ready-is t es = ap (readyAt t) (rw (← ready-nothing t) (gathered t [] es))
+
+module _ (ev : List ℕ) (c : Counts) (g : Gathered) (o : g ≡ noneYet) (w : Waits ev c) where
+  pub start-room : g .actions + c .waiting ≤ roomForEvents
+  start-room = rw o (omega (arith, w .few))
+
+  -- by what the peek answers
+  module _ {img : Image} {s : State} {a b : code.Head} (n : Seen img s a b) (p : Peeked) (e : replyOf p ≡ peekAt (sooner (headOf a) (headOf b))) (q : Queued (s .waiting) (s .work) ev c) where
+    pub pops-nothing :
+        p ≡ P.Nothing → (z : GlobalTag) → ofGlobal z ≡ zeroTag → (keys : List ℕ) → Pops (perform img s M.pop) (record { found = false; tag = z; gathered = g; counts = c }) keys ev keys
+    unfolding perform
+    pops-nothing d z f keys =
+        rw (pop-nothing img s (peek img (s .scopes) (s .waiting)) (sym (ap replyOf d) ∙ seen-peek n e))
+        (record { reply = refl; queued = q; waits = w; grown = rw o (grown-none 0 keys); room = start-room; idle = λ _. (f, o) })
+
+    pub pops-found :
+        {t : GlobalTag} → p ≡ P.At t → (ws : List ℕ) → Shows s ws → (all : T.Taking) {keys out next : List ℕ} →
+        Takes (takeScopes (c .waiting) img (scopesOf ws) (ofGlobal t) (takeAt (ofGlobal t) (lent ev c) (headOf a))) (record { gathered = g; counts = c }) all keys out next →
+        Pops (perform img s M.pop) (record { found = true; tag = t; gathered = all .gathered; counts = all .counts }) keys out next
+    unfolding perform
+    pops-found {t} d ws h all v =
+        let k = taking img (s .scopes) (ofGlobal t) (untaken (s .waiting) (s .work)) in
+        let u = rw (n .root, taking-is img s ev ws c (w .few) q h (ofGlobal t), o) at v in
+        rw (pop-found img s (peek img (s .scopes) (s .waiting)) (ofGlobal t) (sym (ap replyOf d) ∙ seen-peek n e))
+        (record {
+          reply = ap ready (ap (readyAt (ofGlobal t)) (u .gathered) ∙ ready-is (ofGlobal t) (k .events));
+          queued = u .queued;
+          waits = u .waits;
+          grown = u .grown;
+          room = u .room;
+          idle = λ z. absurd (yes-no refl z);
+        })

@@ -1,0 +1,2 @@
+pub mod TransitLaws
+pub mod SavingLaws

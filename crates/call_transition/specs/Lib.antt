@@ -1,0 +1,2 @@
+pub mod Transiting
+pub mod Saving

@@ -1,0 +1,4 @@
+pub mod DecimalLaws
+pub mod ListLaws
+pub mod FitLaws
+pub mod CodeLaws

@@ -1,5 +1,0 @@
-pub mod Padded
-pub mod Lens
-pub mod Holds
-pub mod Walks
-pub mod Parts

@@ -1,3 +1,0 @@
-pub mod DecimalLaws
-pub mod ListLaws
-pub mod FitLaws

@@ -1,4 +1,0 @@
-pub mod Text
-pub mod Listed
-pub mod Lines
-pub mod Examples

@@ -1,5 +1,0 @@
-pub mod ListLaws
-pub mod ClockLaws
-pub mod EventLaws
-pub mod RowLaws
-pub mod TurnLaws
