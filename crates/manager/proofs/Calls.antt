@@ -17,9 +17,8 @@ use Rattle.state_events.specs.Slots.{roomForEvents}
 use Rattle.machine.specs.Machine as M
 use Rattle.machine.specs.Machine.{perform}
 use Rattle.state_room.specs.Padded.{padded, padded-none}
-use Rattle.state_room.specs.declared.Room.{Room}
 use Rattle.state_room.specs.Holds as L
-use Rattle.state_room.specs.Holds.{rowsOf, Holds, Kept, Performs}
+use Rattle.state_room.specs.Holds.{Rows, Holds, Kept, Performs}
 use Rattle.call_push.specs.Pushes as pushes
 use Rattle.call_push.specs.declared.Push.{Push}
 use Rattle.call_push.specs.declared.Push.the-variants as P
@@ -142,21 +141,21 @@ module _ (img : Image) (a : Arrays) {b : Bool} (eb : b ≡ isSound img a) where
   unfolding stepOn
   call-eleven c p keys y e = let s : isSound img a ≡ false = sym eb ∙ not-true b y in rw (s, e .0, e .1)
 
-  module _ (y : not b ≡ false) (u : Room) (x : Unpacks img a u) where
+  module _ (y : not b ≡ false) (u : Rows) (x : Unpacks img a u) where
     sound : isSound img a ≡ true
     sound = sym eb ∙ not-false b y
 
-    is-held : Holds img (viewOf img a) (rowsOf u)
+    is-held : Holds img (viewOf img a) u
     is-held = holds img a u x sound
 
     -- what it asks of the rows
-    pub call-kept : Kept img (rowsOf u)
+    pub call-kept : Kept img u
     call-kept = kept img a u x sound
 
     pub call-few : u .ledger .counts .waiting ≤ roomForEvents
-    call-few = L.waits img (viewOf img a) (rowsOf u) is-held .few
+    call-few = L.waits img (viewOf img a) u is-held .few
 
-    pub call-performs : (c : M.Call) (v : Room) {q : M.Reply} {m : Arrays} → Performs img c (rowsOf u) q (rowsOf v) →
+    pub call-performs : (c : M.Call) (v : Rows) {q : M.Reply} {m : Arrays} → Performs img c u q v →
         m ≡ cond (asks c || isRefusal q) a (arraysIn v) → answered q m ≡ stepOn img a c
     unfolding stepOn
     call-performs c v {q} f e =

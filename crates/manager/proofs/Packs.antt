@@ -28,8 +28,7 @@ use Rattle.state_scopes.specs.Scopes as scope
 use Rattle.state_scopes.specs.Scopes.{mostScopes}
 use Rattle.state_room.specs.Padded.{padded, padded-none, padded-take}
 use Rattle.state_room.specs.PartRows.{Scoped, Queued, Stored, mostReactors}
-use Rattle.state_room.specs.declared.Room.{Room}
-use Rattle.state_room.specs.Holds.{rowsOf, stateIn, Holds, Kept, ruled-holds, most-scopes, most-reactors, rules-table}
+use Rattle.state_room.specs.Holds.{Rows, stateIn, Holds, Kept, ruled-holds, most-scopes, most-reactors, rules-table}
 use Rattle.state_rules.specs.Sound.{sound, soundIn}
 use Rattle.manager.specs.Arrays.{Arrays, viewOf, packed, isSound, freshOver}
 use Rattle.manager.specs.Views.{joined, arraysOf, arraysIn, Unpacks}
@@ -82,12 +81,12 @@ unpacks img m ms sws ews vws bws lc la le lm ls lv lb er en em es ee ev eb =
 -- ---- and back
 
 pub packs :
-    (t : State) (u : Room) → u .ledger .modes ≡ padded 0 mostReactors (t .modes) → Scoped (t .scopes) (u .scopes) →
+    (t : State) (u : Rows) → u .ledger .modes ≡ padded 0 mostReactors (t .modes) → Scoped (t .scopes) (u .scopes) →
     Queued (t .waiting) (t .work) (u .events) (u .ledger .counts) → Stored (t .store) (u .values) (u .buckets) (u .ledger .held) → arraysIn u ≡ packed t
 packs t u m s q h =
     rw (s .things, m, q .held .things, q .waiting, q .work, h .values .things, h .some-values, h .buckets .things, h .some-buckets)
 
-pub holds-packs : (img : Image) (t : State) (u : Room) → Holds img t (rowsOf u) → arraysIn u ≡ packed t
+pub holds-packs : (img : Image) (t : State) (u : Rows) → Holds img t u → arraysIn u ≡ packed t
 holds-packs img t u h = packs t u (h .moded) (h .scoped) (h .queued) (h .stored)
 
 -- what a state handed in that is sound keeps
@@ -100,9 +99,9 @@ module _ (img : Image) (a : Arrays) (s : isSound img a ≡ true) where
   pub table-of-sound : isTable img ≡ true
   table-of-sound = rules-table img (viewOf img a) rules-of-sound
 
-module _ (img : Image) (a : Arrays) (u : Room) (x : Unpacks img a u) where
+module _ (img : Image) (a : Arrays) (u : Rows) (x : Unpacks img a u) where
   -- the state that the rows hold
-  state-is : stateIn img (rowsOf u) ≡ viewOf img a
+  state-is : stateIn img u ≡ viewOf img a
   state-is =
       let f = x .full in
       rw (
@@ -120,7 +119,7 @@ module _ (img : Image) (a : Arrays) (u : Room) (x : Unpacks img a u) where
         front-view blankBucket roomForEntries (a .store .buckets) (f .buckets) (a .store .«open»),
       )
 
-  pub sound-is : {b : Bool} → b ≡ soundIn img (rowsOf u) → b ≡ isSound img a
+  pub sound-is : {b : Bool} → b ≡ soundIn img u → b ≡ isSound img a
   unfolding isSound
   sound-is e = e ∙ rw (state-is, x .counted, x .held)
 
@@ -129,7 +128,7 @@ module _ (img : Image) (a : Arrays) (u : Room) (x : Unpacks img a u) where
     long : {A : Type 0} (n N : ℕ) (l : List A) → n ≤ N → length l ≡ N → n ≡ length (take n l)
     long n N l h e = sym (length-take n l ∙ min-eq-left (rw e h))
 
-    pub holds : Holds img (viewOf img a) (rowsOf u)
+    pub holds : Holds img (viewOf img a) u
     unfolding isSound sound
     holds =
         let f = x .full in
@@ -138,7 +137,7 @@ module _ (img : Image) (a : Arrays) (u : Room) (x : Unpacks img a u) where
         let w = le-trans (leb-true _ _ (and-left (leb (a .waiting) (l .waiting)) _ s)) (waiting-fits img) in
         let n = le-trans (leb-true _ _ (and-left (leb (a .store .held) (l .held)) _ v)) (held-fits img) in
         let o = le-trans (leb-true _ _ (and-left (leb (a .store .«open») (l .held)) _ (and-right (leb (a .store .held) (l .held)) _ v))) (held-fits img) in
-        ruled-holds img (viewOf img a) (rules-of-sound img a s) (rowsOf u) (x .moded) (x .scoped)
+        ruled-holds img (viewOf img a) (rules-of-sound img a s) u (x .moded) (x .scoped)
         (rw (x .counted) (record { held = x .events; waiting = long (a .waiting) roomForEvents (a .slots) w (f .slots); work = refl }))
         (rw (x .held)
         (record {
@@ -148,12 +147,12 @@ module _ (img : Image) (a : Arrays) (u : Room) (x : Unpacks img a u) where
           some-buckets = long (a .store .«open») roomForEntries (a .store .buckets) o (f .buckets);
         }))
 
-    pub kept : Kept img (rowsOf u)
+    pub kept : Kept img u
     kept =
         let e = sym state-is in
         record {
           keeps = subst (λ t. rules img t ≡ true) e (rules-of-sound img a s);
-          holds = subst (λ t. Holds img t (rowsOf u)) e holds;
+          holds = subst (λ t. Holds img t u) e holds;
         }
 
 -- ---- a fresh manager
@@ -164,13 +163,13 @@ module _ (img : Image) {k : Checked} (ek : k ≡ check img) where
     unfolding isTable
     fresh-table = let c : check img ≡ Accepted = sym ek ∙ y in rw c
 
-    pub fresh-packs : (u : Room) {m : Arrays} → Holds img (fresh img) (rowsOf u) → m ≡ arraysIn u → m ≡ freshOver img
+    pub fresh-packs : (u : Rows) {m : Arrays} → Holds img (fresh img) u → m ≡ arraysIn u → m ≡ freshOver img
     unfolding freshOver
     fresh-packs u h q = let t = fresh-table in rw t (q ∙ holds-packs img (fresh img) u h)
 
   pub blank-packs :
-      (u : Room) {x : _} {ss : List ℕ} {m : Arrays} → k ≡ Refused x → scope.Held ss (replicate mostScopes scope.blank) →
-      Bare (replicate mostReactors 0) ss (rowsOf u) → m ≡ arraysIn u → m ≡ freshOver img
+      (u : Rows) {x : _} {ss : List ℕ} {m : Arrays} → k ≡ Refused x → scope.Held ss (replicate mostScopes scope.blank) →
+      Bare (replicate mostReactors 0) ss u → m ≡ arraysIn u → m ≡ freshOver img
   unfolding freshOver isTable
   blank-packs u y h b q =
       let c : check img ≡ Refused _ = sym ek ∙ y in

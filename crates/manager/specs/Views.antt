@@ -5,7 +5,7 @@ use mathlib.Core.Path.{_≡_}
 use mathlib.Core.Logic.{_⊎_}
 use mathlib.Core.List.{List, [], _∷_, map}
 use lib.Dec.{ltb}
-use lib.ListN.{length, take}
+use lib.ListN.{length, take, replicate}
 use Rattle.table_rows.specs.Bytes.{Image}
 use Rattle.tags.specs.Views.{ofGlobal, ofClock}
 use Rattle.tags.specs.Tags.{Clock}
@@ -16,11 +16,12 @@ use Rattle.machine.specs.State.{Scope}
 use Rattle.state_events.specs.Slots as slot
 use Rattle.state_events.specs.Slots.{eventOf, eventsOf, roomForEvents}
 use Rattle.state_scopes.specs.Scopes.{mostScopes, scopesOf}
+use Rattle.state_scopes.specs.Scopes as scope
 use Rattle.state_room.specs.Padded.{padded}
 use Rattle.state_room.specs.PartRows.{mostReactors, Scoped}
 use Rattle.machine.specs.Machine as M
 use Rattle.machine.specs.Machine.{Reply}
-use Rattle.state_room.specs.declared.Room.{Room}
+use Rattle.state_room.specs.Holds.{Rows}
 use Rattle.manager.specs.Arrays.{Arrays, Answered, answered, Shown, Popped, viewOf}
 use Rattle.machine.specs.Heads.{Ready}
 use Rattle.refusals.specs.declared.Refusal.the-variants.{StateRule}
@@ -58,7 +59,7 @@ arraysOf m =
 -- ---- rows of words
 
 -- the arrays that rows hold
-abbrev pub arraysIn : Room → Arrays
+abbrev pub arraysIn : Rows → Arrays
 arraysIn u =
     record {
       scopes = scopesOf (u .scopes);
@@ -69,6 +70,13 @@ arraysIn u =
       store = stores.arraysIn (u .values) (u .buckets) (u .ledger .held);
     }
 
+-- rows that hold nothing
+pub record Blank (scopes events values buckets : List ℕ) : Type 0 where
+  pub no-scope : scope.Held scopes (replicate mostScopes scope.blank)
+  pub no-event : slot.Held events (replicate roomForEvents slot.blank)
+  pub no-value : HeldValues values (replicate roomForEntries blankValue)
+  pub no-bucket : HeldBuckets buckets (replicate roomForEntries blankBucket)
+
 -- how long the arrays are
 pub record Full (a : Arrays) : Type 0 where
   pub scopes : length (a .scopes) ≡ mostScopes
@@ -78,7 +86,7 @@ pub record Full (a : Arrays) : Type 0 where
   pub buckets : length (a .store .buckets) ≡ roomForEntries
 
 -- the rows hold the manager's state and blanks behind it; their counts are those that are handed in, the state's own unless more is counted than an array has
-pub record Unpacks (img : Image) (a : Arrays) (u : Room) : Type 0 where
+pub record Unpacks (img : Image) (a : Arrays) (u : Rows) : Type 0 where
   pub full : Full a
   pub moded : u .ledger .modes ≡ padded 0 mostReactors (viewOf img a .modes)
   pub scoped : Scoped (viewOf img a .scopes) (u .scopes)

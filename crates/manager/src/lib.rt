@@ -11,20 +11,22 @@ ghost use mathlib.Core.Bool.{false, cond, _||_};
 ghost use mathlib.Core.Path.{_≡_};
 ghost use mathlib.Core.List.{List, [], map};
 ghost use Prim.Native.Nat.{ℕ, _≤_, min};
-ghost use lib.ListN.{length, take};
-ghost use Rattle.lists.specs.Lent.{was};
+ghost use lib.ListN.{length, take, replicate};
+ghost use Rattle.lists.specs.Lent.{was, is};
 ghost use Rattle.tags.specs.Views.{ofClock, ofGlobal};
 ghost use Rattle.store_words.specs.Entries.{roomForEntries, blankValue, blankBucket, ofValue, ofBucket};
 ghost use Rattle.store_words.specs.Words.{HeldValues, HeldBuckets};
 ghost use Rattle.state_events.specs.Slots.{eventOf, eventsOf};
 ghost use Rattle.state_events.specs.Slots as slot;
 ghost use Rattle.state_scopes.specs.Scopes.{mostScopes, scopesOf};
+ghost use Rattle.state_scopes.specs.Scopes as scope;
 ghost use Rattle.state_events.specs.Slots.{roomForEvents};
 ghost use Rattle.state_room.specs.Padded.{padded};
 ghost use Rattle.state_room.specs.PartRows.{Scoped, mostReactors};
+ghost use Rattle.state_room.specs.Holds.{were, are, rowsOf};
 ghost use Rattle.manager.specs.Arrays.{asks, isRefusal, stepOn, shownReady, noReady, popped, freshOver};
 ghost use Rattle.table.specs.Check.{check};
-ghost use Rattle.manager.specs.Views.{joined, arraysOf, arraysIn, Unpacks, answeredOf, calledOf, workReply, someWork};
+ghost use Rattle.manager.specs.Views.{joined, arraysOf, arraysIn, Blank, Unpacks, answeredOf, calledOf, workReply, someWork};
 ghost use Rattle.manager.specs.Views.{TellsOrEleven, shownOf, readyFrom, readyIn, poppedOf};
 ghost use Rattle.value_store.specs.Views.{callOf as storeCall};
 ghost use Rattle.call_perform.specs.Calls.{valueCall, callOf, answerReply, replyOf, isPop};
@@ -69,7 +71,7 @@ pub struct Manager {
     pub store: Store,
 }
 
-// ---- to rows: of what is in use, and blanks behind it
+// ---- to rows that are blank as they are lent: what is in use, so that blanks stand behind it
 
 fn at_most(n: usize, most: usize) -> usize
     ensures { λ r. ⌜ r ≡ min n most ⌝ }
@@ -94,17 +96,18 @@ fn mode_rows(modes: [u16; MOST_REACTORS], n: usize) -> [u16; MOST_REACTORS]
     out
 }
 
-fn scope_rows(
+fn lay_scopes(
+    rows: &mut [u64; state_scopes::ROOM],
     clocks: [ScopeClock; MOST_SCOPES],
     active: [bool; MOST_SCOPES],
     ever: [bool; MOST_SCOPES],
     n: usize,
-) -> [u64; state_scopes::ROOM]
-    ensures { λ r. ⌜ Scoped (take n (joined (map ofClock clocks) active ever)) r ⌝ }
+)
+    requires { ⌜ scope.Held (now rows) (replicate mostScopes scope.blank) ⌝ }
+    ensures { λ _. ⌜ Scoped (take n (joined (map ofClock clocks) active ever)) (is rows) ⌝ }
     ensures { λ _. ⌜ (length clocks ≡ mostScopes) × (length active ≡ mostScopes) × (length ever ≡ mostScopes) ⌝ }
 {
     let end = at_most(n, MOST_SCOPES);
-    let mut rows = state_scopes::blank_rows();
     let mut i: usize = 0;
     while i < end {
         let clock = clocks[i];
@@ -115,59 +118,63 @@ fn scope_rows(
             active: now,
             ever: before,
         };
-        state_scopes::put_scope(&mut rows, i, s);
+        state_scopes::put_scope(rows, i, s);
         i += 1;
     }
-    rows
 }
 
-fn slot_rows(slots: [Slot; ROOM_FOR_EVENTS], n: usize) -> [u64; state_events::ROOM]
-    ensures { λ r. ⌜ slot.Held r (padded slot.blank roomForEvents (take n (map eventOf slots))) ⌝ }
+fn lay_slots(rows: &mut [u64; state_events::ROOM], slots: [Slot; ROOM_FOR_EVENTS], n: usize)
+    requires { ⌜ slot.Held (now rows) (replicate roomForEvents slot.blank) ⌝ }
+    ensures { λ _. ⌜ slot.Held (is rows) (padded slot.blank roomForEvents (take n (map eventOf slots))) ⌝ }
     ensures { λ _. ⌜ length slots ≡ roomForEvents ⌝ }
 {
     let end = at_most(n, ROOM_FOR_EVENTS);
-    let mut rows = state_events::blank_rows();
     let mut i: usize = 0;
     while i < end {
         let s = slots[i];
-        state_events::put_slot(&mut rows, i, s);
+        state_events::put_slot(rows, i, s);
         i += 1;
     }
-    rows
 }
 
-fn value_rows(values: [Value; ROOM_FOR_ENTRIES], n: usize) -> ValueRows
-    ensures { λ r. ⌜ HeldValues r (padded blankValue roomForEntries (take n (map ofValue values))) ⌝ }
+fn lay_values(rows: &mut ValueRows, values: [Value; ROOM_FOR_ENTRIES], n: usize)
+    requires { ⌜ HeldValues (now rows) (replicate roomForEntries blankValue) ⌝ }
+    ensures { λ _. ⌜ HeldValues (is rows) (padded blankValue roomForEntries (take n (map ofValue values))) ⌝ }
     ensures { λ _. ⌜ length values ≡ roomForEntries ⌝ }
 {
     let end = at_most(n, ROOM_FOR_ENTRIES);
-    let mut rows: ValueRows = [0; store_words::ROOM_FOR_ENTRIES * store_words::VALUE_WORDS];
     let mut i: usize = 0;
     while i < end {
         let v = values[i];
-        store_words::put_value(&mut rows, i, v);
+        store_words::put_value(rows, i, v);
         i += 1;
     }
-    rows
 }
 
-fn bucket_rows(buckets: [Bucket; ROOM_FOR_ENTRIES], n: usize) -> BucketRows
-    ensures { λ r. ⌜ HeldBuckets r (padded blankBucket roomForEntries (take n (map ofBucket buckets))) ⌝ }
+fn lay_buckets(rows: &mut BucketRows, buckets: [Bucket; ROOM_FOR_ENTRIES], n: usize)
+    requires { ⌜ HeldBuckets (now rows) (replicate roomForEntries blankBucket) ⌝ }
+    ensures { λ _. ⌜ HeldBuckets (is rows) (padded blankBucket roomForEntries (take n (map ofBucket buckets))) ⌝ }
     ensures { λ _. ⌜ length buckets ≡ roomForEntries ⌝ }
 {
     let end = at_most(n, ROOM_FOR_ENTRIES);
-    let mut rows: BucketRows = [0; store_words::ROOM_FOR_ENTRIES * store_words::BUCKET_WORDS];
     let mut i: usize = 0;
     while i < end {
         let b = buckets[i];
-        store_words::put_bucket(&mut rows, i, b);
+        store_words::put_bucket(rows, i, b);
         i += 1;
     }
-    rows
 }
 
-fn unpack(image: &[u8], m: Manager) -> Room
-    ensures { λ r. ⌜ Unpacks (was image) (arraysOf m) r ⌝ }
+fn unpack(
+    image: &[u8],
+    scopes: &mut [u64; state_scopes::ROOM],
+    events: &mut [u64; state_events::ROOM],
+    values: &mut ValueRows,
+    buckets: &mut BucketRows,
+    m: Manager,
+) -> Ledger
+    requires { ⌜ Blank (now scopes) (now events) (now values) (now buckets) ⌝ }
+    ensures { λ r. ⌜ Unpacks (was image) (arraysOf m) (are scopes events values buckets r) ⌝ }
 {
     let scope_count = table_rows::count(image, table_rows::SCOPE);
     let reactor_count = table_rows::count(image, table_rows::REACTOR);
@@ -180,10 +187,10 @@ fn unpack(image: &[u8], m: Manager) -> Room
     let all_values = store.values;
     let all_buckets = store.buckets;
     let modes = mode_rows(all_modes, reactor_count as usize);
-    let scopes = scope_rows(clocks, active, ever, scope_count as usize);
-    let events = slot_rows(slots, m.waiting);
-    let values = value_rows(all_values, store.held);
-    let buckets = bucket_rows(all_buckets, store.open);
+    lay_scopes(scopes, clocks, active, ever, scope_count as usize);
+    lay_slots(events, slots, m.waiting);
+    lay_values(values, all_values, store.held);
+    lay_buckets(buckets, all_buckets, store.open);
     let counts = state_room::Counts {
         waiting: m.waiting,
         work: m.work,
@@ -192,17 +199,10 @@ fn unpack(image: &[u8], m: Manager) -> Room
         values: store.held,
         buckets: store.open,
     };
-    let ledger = Ledger {
+    Ledger {
         modes,
         counts,
         held,
-    };
-    Room {
-        scopes,
-        events,
-        values,
-        buckets,
-        ledger,
     }
 }
 
@@ -263,20 +263,21 @@ fn ever_of(rows: &[u64; state_scopes::ROOM]) -> [bool; MOST_SCOPES]
     out
 }
 
-fn pack(u: Room) -> Manager
-    ensures { λ r. ⌜ arraysOf r ≡ arraysIn u ⌝ }
+fn pack(
+    scopes: &[u64; state_scopes::ROOM],
+    events: &[u64; state_events::ROOM],
+    values: &ValueRows,
+    buckets: &BucketRows,
+    ledger: Ledger,
+) -> Manager
+    ensures { λ r. ⌜ arraysOf r ≡ arraysIn (were scopes events values buckets ledger) ⌝ }
 {
-    let scope_words = u.scopes;
-    let event_words = u.events;
-    let value_words = u.values;
-    let bucket_words = u.buckets;
-    let ledger = u.ledger;
     let modes = ledger.modes;
-    let clocks = clocks_of(&scope_words);
-    let active = active_of(&scope_words);
-    let ever = ever_of(&scope_words);
-    let slots = slots_of(&event_words);
-    let store = value_store::store_of(&value_words, &bucket_words, ledger.held);
+    let clocks = clocks_of(scopes);
+    let active = active_of(scopes);
+    let ever = ever_of(scopes);
+    let slots = slots_of(events);
+    let store = value_store::store_of(values, buckets, ledger.held);
     Manager {
         clocks,
         active,
@@ -287,6 +288,18 @@ fn pack(u: Room) -> Manager
         work: ledger.counts.work,
         store,
     }
+}
+
+// A room by value.
+fn pack_room(u: Room) -> Manager
+    ensures { λ r. ⌜ arraysOf r ≡ arraysIn (rowsOf u) ⌝ }
+{
+    let scopes = u.scopes;
+    let events = u.events;
+    let values = u.values;
+    let buckets = u.buckets;
+    let ledger = u.ledger;
+    pack(&scopes, &events, &values, &buckets, ledger)
 }
 
 // ---- a fresh manager
@@ -423,20 +436,30 @@ fn is_refused(answer: Answer) -> bool
 }
 
 // The manager as it was handed in where a call only asks or is refused, else the one of the rows after it.
-fn left_by(m: Manager, u: Room, call: Call, p: Performed) -> Manager
-    ensures { λ r. ⌜ ((ks keys : List ℕ) → arraysOf r ≡ cond (asks (callOf call ks) || isRefusal (replyOf p keys)) (arraysOf m) (arraysIn u)) ⌝ }
+fn left_by(
+    m: Manager,
+    scopes: &[u64; state_scopes::ROOM],
+    events: &[u64; state_events::ROOM],
+    values: &ValueRows,
+    buckets: &BucketRows,
+    call: Call,
+    p: Performed,
+) -> Manager
+    ensures { λ r. ⌜ ((ks keys : List ℕ) → arraysOf r ≡
+        cond (asks (callOf call ks) || isRefusal (replyOf p keys)) (arraysOf m) (arraysIn (were scopes events values buckets (p .ledger)))) ⌝ }
 {
     let answer = p.answer;
+    let ledger = p.ledger;
     if only_asks(call) {
         return m;
     }
     if p.found {
-        return pack(u);
+        return pack(scopes, events, values, buckets, ledger);
     }
     if is_refused(answer) {
         return m;
     }
-    pack(u)
+    pack(scopes, events, values, buckets, ledger)
 }
 
 // What a call answers, a ready event's action keys in an array, and the manager after it.
@@ -451,12 +474,18 @@ fn step_on(m: Manager, image: &[u8], call: Call, keys: &[u16]) -> Called
     ensures { λ r. ⌜ calledOf r ≡ stepOn (was image) (arraysOf m) (callOf call (was keys)) ⌝ }
     ensures { λ r. ⌜ (r .performed .gathered .actions ≤ roomForEvents) × TellsOrEleven call (r .performed) ⌝ }
 {
-    let u = unpack(image, m);
-    let given = u.ledger;
-    let mut scopes = u.scopes;
-    let mut events = u.events;
-    let mut values = u.values;
-    let mut buckets = u.buckets;
+    let mut scopes = state_scopes::blank_rows();
+    let mut events = state_events::blank_rows();
+    let mut values: ValueRows = [0; store_words::ROOM_FOR_ENTRIES * store_words::VALUE_WORDS];
+    let mut buckets: BucketRows = [0; store_words::ROOM_FOR_ENTRIES * store_words::BUCKET_WORDS];
+    let given = unpack(
+        image,
+        &mut scopes,
+        &mut events,
+        &mut values,
+        &mut buckets,
+        m,
+    );
     let mut actions = [0u16; ROOM_FOR_EVENTS];
     let sound = state_rules::keeps_rules(image, &scopes, &events, &values, &buckets, given);
     if !sound {
@@ -483,15 +512,7 @@ fn step_on(m: Manager, image: &[u8], call: Call, keys: &[u16]) -> Called
         call,
         keys,
     );
-    let ledger = performed.ledger;
-    let rows = Room {
-        scopes,
-        events,
-        values,
-        buckets,
-        ledger,
-    };
-    let manager = left_by(m, rows, call, performed);
+    let manager = left_by(m, &scopes, &events, &values, &buckets, call, performed);
     Called {
         performed,
         actions,
@@ -576,12 +597,12 @@ impl Manager {
             Checked::Refused(_) => {
                 let none = state_scopes::blank_rows();
                 let room = state_fresh::bare([0u16; MOST_REACTORS], none);
-                let manager = pack(room);
+                let manager = pack_room(room);
                 Fresh { checked, manager }
             }
             Checked::Accepted => {
                 let room = state_fresh::room(image);
-                let manager = pack(room);
+                let manager = pack_room(room);
                 Fresh { checked, manager }
             }
         }

@@ -6,10 +6,10 @@ use Rattle.manager.proofs.pack.Tie as tie
 
 returns : tie.Need-returns
 returns c =
-    let s = c .before .before .before in
-    let e = s .before .before in
-    let a = e .before .before in
-    let k = a .before .before in
+    let s = c .before in
+    let e = s .before in
+    let a = e .before in
+    let k = a .before in
     rw (k .clocks-of .ensures, a .active-of .ensures, e .ever-of .ensures, joined-back _, s .slots-of .ensures, c .store-of .ensures)
 
 pub pack-spec : {M : Type 1} → statement M

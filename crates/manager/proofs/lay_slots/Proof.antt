@@ -1,4 +1,4 @@
--- `manager::slot_rows` meets its contract: invariant: the first i slots, and blanks behind them. Assumes nothing.
+-- `manager::lay_slots` meets its contract: invariant: the first i slots, and blanks behind them. Assumes nothing.
 use Prim.Native.Nat.{_-_, _≤_}
 use mathlib.Core.List.{map}
 use lib.ListN.{take}
@@ -8,14 +8,14 @@ use Rattle.state_events.specs.Slots.{eventOf, roomForEvents}
 use Rattle.value_store.proofs.Laws.{length-mapped}
 use Rattle.manager.proofs.Front.{end-few, rows-none, rows-next, rows-all}
 use borrow.Author.Needs.{needs}
-use Rattle.manager.proofs.slot_rows.Statement.{statement}
-use Rattle.manager.proofs.slot_rows.Tie as tie
+use Rattle.manager.proofs.lay_slots.Statement.{statement}
+use Rattle.manager.proofs.lay_slots.Tie as tie
 
 abbrev Inv-loop : tie.InvT-loop
-Inv-loop n slots end rows₀ i₀ rows i = (i ≤ end) × (end ≤ roomForEvents) × (slot.Held rows (padded slot.blank roomForEvents (take i (map eventOf slots))))
+Inv-loop rows₀ n slots end i₀ rows i = (i ≤ end) × (end ≤ roomForEvents) × (slot.Held rows (padded slot.blank roomForEvents (take i (map eventOf slots))))
 
 abbrev μ-loop : tie.MeasureT-loop
-μ-loop n slots end rows₀ i₀ rows i = end - i
+μ-loop rows₀ n slots end i₀ rows i = end - i
 
 loop-holds : tie.Need-loop-holds Inv-loop μ-loop
 loop-holds c = (search needs, search end-few, search rows-none)
@@ -26,8 +26,8 @@ loop-again c = (search needs, search needs, search rows-next)
 returns : tie.Need-returns Inv-loop μ-loop
 returns c = (search rows-all, search (needs, length-mapped))
 
-pub slot-rows-spec : {M : Type 1} → statement M
-slot-rows-spec =
+pub lay-slots-spec : {M : Type 1} → statement M
+lay-slots-spec =
     tie.close
-    (tie.spec Inv-loop μ-loop (λ c κs. search needs) (λ c κs. search needs) loop-holds (λ c. search needs) (λ c. search needs) (λ c κs. search needs)
-    (λ c. search needs) (λ c. search needs) loop-again returns)
+    (tie.spec Inv-loop μ-loop (λ c κs. search needs) loop-holds (λ c. search needs) (λ c. search needs) (λ c κs. search needs) (λ c. search needs)
+    (λ c. search needs) loop-again returns)
