@@ -13,7 +13,7 @@ use crate::image::open;
 use crate::laps::mixed;
 use crate::plain::{Outcome, Plain};
 use crate::records::split;
-use crate::timing::{process, Sides};
+use crate::timing::{process, times, Sides};
 
 /// How many events wait, the second nearly as many as may, and how many of them are timers' of each mode where transitions are timed.
 const WAITING: [(usize, usize); 2] = [(4, 1), (250, 29)];
@@ -94,11 +94,7 @@ pub fn race(repeat: usize, sides: &Sides<'_>, folder: &Path) -> Result<String, S
             best = std::array::from_fn(|at| best[at].min(times[at]));
         }
         let days = [(&timed.rust.day[..], timed.rust.front)];
-        let rust = Sides {
-            ours: sides.rust,
-            ..*sides
-        }
-        .times(&days, repeat, folder, |_| {})?[0][1];
+        let rust = times([sides.rust], &days, repeat, folder, |_| {})?[0][0];
         let each = |time: Duration, count: usize| time.as_nanos() as f64 / count as f64;
         let ours = each(best[0].saturating_sub(best[1]), timed.calls);
         let rust = each(rust, timed.rust.rounds * timed.rust.records);

@@ -15,7 +15,7 @@ use std::time::Duration;
 use crate::image::{RawTag, Table};
 use crate::records::{split, Op};
 use crate::rng::Rng;
-use crate::timing::Sides;
+use crate::timing::{times, Sides};
 
 /// How many events wait, and how many of them are timers' of each mode where transitions are timed: with 29, the table has all 64 actions.
 const WAITING: [(usize, usize); 2] = [(4, 1), (200, 29)];
@@ -173,7 +173,7 @@ pub fn race(repeat: usize, sides: &Sides<'_>, folder: &Path) -> Result<String, S
         .iter()
         .map(|course| (&course.day[..], course.front))
         .collect();
-    let times = sides.times(&days, repeat, folder, |_| {})?;
+    let times = times([sides.ours, sides.rust], &days, repeat, folder, |_| {})?;
     let round = |(course, times): (&Course, [Duration; 2])| {
         times.map(|time| time.as_nanos() as f64 / course.rounds as f64)
     };

@@ -35,7 +35,7 @@ mod tests;
 pub mod text;
 pub mod timing;
 
-pub use sched::rust_bench;
+pub use sched::{rust_bench, rust_usual};
 
 // The published files name these at the crate's root.
 use published::*;

@@ -10,7 +10,7 @@ use oracle::compare::{self, Outcome};
 use oracle::scripts::{self, Written};
 use oracle::{
     antt, beside, by_value, calls, deep, image, judge, laps, make, picture, plain, rescue, rescues,
-    rust_bench, selftest, sweep, text, timing,
+    rust_bench, rust_usual, selftest, sweep, text, timing,
 };
 
 const USAGE: &str = "\
@@ -35,6 +35,7 @@ oracle table SEED COUNT SCRIPT ANSWERS          images with 01's answers
 oracle table days FOLDER SCRIPT ANSWERS         images of recorded days with the recorded answers
 oracle time DAY REPEAT [ANSWERS]    the day in the Rust alone, nanoseconds a record
 oracle rust-bench                   a day on standard input through the Rust alone; its lines to standard output
+oracle rust-usual                   the same, with buffers and formatting as they are usually written
 oracle race REPEAT FOLDER PROGRAM [WORD..]
                                     another program beside rust-bench on long days, as a table; FOLDER for two files
 oracle race-calls REPEAT FOLDER PROGRAM [WORD..]
@@ -254,6 +255,7 @@ fn timed(words: &[&str], out: &mut Out) -> Result<bool, Failure> {
             writeln!(out, "{day}: {words}")?;
         }
         ["rust-bench"] => rust_bench::run(io::stdin().lock(), out)?,
+        ["rust-usual"] => rust_usual::run(io::stdin().lock(), out)?,
         ["race", repeat, folder, ref words @ ..] if !words.is_empty() => {
             let table = raced(timing::race, repeat, folder, words)?;
             write!(out, "{table}")?;
@@ -318,6 +320,7 @@ fn raced(race: Race, repeat: &str, folder: &str, ours: &[&str]) -> Result<String
     let sides = timing::Sides {
         ours,
         rust: &[&own, "rust-bench"],
+        usual: &[&own, "rust-usual"],
     };
     race(number(repeat)? as usize, &sides, Path::new(folder)).map_err(Difference)
 }

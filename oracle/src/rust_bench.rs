@@ -144,13 +144,13 @@ fn tag(bytes: &[u8]) -> RawTag {
 // ---------------------------------------------------------------- what is done
 
 /// Numbers of refusal.
-const MALFORMED: u8 = 1;
+pub const MALFORMED: u8 = 1;
 const KEY: u8 = 5;
 const ARGUMENT: u8 = 6;
 const TARGET: u8 = 10;
 
 /// What a call comes to, or its refusal.
-type Answer<T> = Result<T, u8>;
+pub type Answer<T> = Result<T, u8>;
 
 /// A byte that must be 0 or 1.
 #[inline]
@@ -190,20 +190,20 @@ fn leveled<'k>(
     keys.chunks_exact(2).map(|key| schedule.leveled(two(key)))
 }
 
-struct Bench {
+pub struct Bench {
     table: Table,
-    rust: RustSide,
+    pub rust: RustSide,
 }
 
 impl Bench {
-    fn new(table: Table) -> Self {
+    pub fn new(table: Table) -> Self {
         let rust = RustSide::new(&table, false);
         Self { table, rust }
     }
 
     /// Carries out a record that is no pop.
     #[inline]
-    fn call(&mut self, body: &[u8]) -> Answer<()> {
+    pub fn call(&mut self, body: &[u8]) -> Answer<()> {
         match body {
             [1, 1, operands @ ..] => self.plain(operands),
             [1, 2, operands @ ..] => self.network(operands),

@@ -1,6 +1,6 @@
 //! The scheduler's module: the published modal.rs and queue.rs, unchanged, and stand-ins for what they take from
-//! their parent. What they offer is visible only in here, so the modules that drive them, rust_side and rust_bench,
-//! are children.
+//! their parent. What they offer is visible only in here, so the modules that drive them, rust_side, rust_bench and
+//! rust_usual, are children.
 
 use std::{iter::Copied, slice::Iter};
 
@@ -13,6 +13,8 @@ include!(concat!(env!("OUT_DIR"), "/modal.rs"));
 pub mod rust_bench;
 #[path = "rust_side.rs"]
 pub mod rust_side;
+#[path = "rust_usual.rs"]
+pub mod rust_usual;
 
 /// Rows handed out one by one.
 pub type Rows<'a, T> = Copied<Iter<'a, T>>;

@@ -1,7 +1,8 @@
 //! `oracle time`: a day in the published Rust alone, nanoseconds a record. `oracle race`: another program beside it, in turns.
 //!
 //! A race is like for like: the other program and `oracle rust-bench` are both timed as whole processes that read the same file
-//! and write the same lines nowhere, each less the same process on the image alone. Times are the processor's.
+//! and write the same lines nowhere, each less the same process on the image alone. Times are the processor's. A race over days has `oracle rust-usual`
+//! beside them too, the Rust's bench as it is usually written.
 //!
 //! `oracle time`, and the last column of a race, has the calls alone: parsing and refusals are settled beforehand; a pop's time is that with the
 //! fields of its line read out of the sets, which go back to the manager as the real scheduler gives them back.
@@ -100,8 +101,9 @@ pub fn race_over(
     sides: &Sides<'_>,
     folder: &Path,
 ) -> Result<String, String> {
-    let mut table = "| long day | events waiting on average | records | ours, ns a record | the Rust, ns a record | ours / the Rust | the Rust's calls alone, ns a record |\n\
-                     |---|---|---|---|---|---|---|\n"
+    let mut table = "| long day | events waiting on average | records | ours, ns a record | the Rust, ns a record | ours / the Rust | \
+                     the Rust as usually written, ns a record | ours / that | the Rust's calls alone, ns a record |\n\
+                     |---|---|---|---|---|---|---|---|---|\n"
         .to_string();
     let calls = |(name, day): &(String, Vec<u8>)| {
         let lines = sides
@@ -114,75 +116,75 @@ pub fn race_over(
     let courses = days.iter().map(|(_, day)| (&day[..], image(day)));
     let mut alone = vec![Duration::MAX; days.len()];
     let turn = |at: usize| alone[at] = alone[at].min(calls[at].time());
-    let times = sides.times(&courses.collect::<Vec<_>>(), repeat, folder, turn)?;
+    let programs = [sides.ours, sides.rust, sides.usual];
+    let courses: Vec<_> = courses.collect();
+    let times = times(programs, &courses, repeat, folder, turn)?;
     for (((name, day), calls), (times, alone)) in
         days.iter().zip(&calls).zip(times.iter().zip(alone))
     {
         let each = |time: Duration| time.as_nanos() as f64 / calls.records as f64;
-        let ([ours, rust], alone) = (times.map(each), each(alone));
+        let ([ours, rust, usual], alone) = (times.map(each), each(alone));
         table.push_str(&format!(
-            "| {name} | {:.0} | {} | {ours:.0} | {rust:.0} | {:.2} | {alone:.0} |\n",
+            "| {name} | {:.0} | {} | {ours:.0} | {rust:.0} | {:.2} | {usual:.0} | {:.2} | {alone:.0} |\n",
             waiting(day),
             calls.records,
-            ours / rust
+            ours / rust,
+            ours / usual
         ));
     }
     Ok(table)
 }
 
-/// Two programs that take a day and write its lines: the words that run ours, and those that run the bench over the published Rust.
+/// Programs that take a day and write its lines: the words that run ours, and those that run the bench over the published Rust, made to be quick and as
+/// it is usually written.
 pub struct Sides<'w> {
     pub ours: &'w [&'w str],
     pub rust: &'w [&'w str],
+    pub usual: &'w [&'w str],
 }
 
 impl Sides<'_> {
-    /// The lines of a day, on which both agree.
+    /// The lines of a day, on which all agree.
     pub fn lines(&self, day: &[u8]) -> Result<Vec<u8>, String> {
         let ours = child(self.ours, day, LIMIT)?;
-        agree(day, &ours, &child(self.rust, day, LIMIT)?)?;
+        for rust in [self.rust, self.usual] {
+            agree(day, &ours, &child(rust, day, LIMIT)?)?;
+        }
         Ok(ours)
     }
+}
 
-    /// How long each takes for each of these days, less what it takes for so many bytes of its front: as processes, in turns over all days, the best of
-    /// so many runs each. Behind a day's runs something else has its turn.
-    pub fn times(
-        &self,
-        days: &[(&[u8], usize)],
-        repeat: usize,
-        folder: &Path,
-        mut turn: impl FnMut(usize),
-    ) -> Result<Vec<[Duration; 2]>, String> {
-        let path = |name: &str, at: usize| folder.join(format!("{name}-{at}"));
-        let put = |path: PathBuf, bytes: &[u8]| {
-            std::fs::write(&path, bytes).map_err(|error| format!("{}: {error}", path.display()))
-        };
-        for (at, &(day, front)) in days.iter().enumerate() {
-            put(path("day", at), day)?;
-            put(path("front", at), &day[..front])?;
-        }
-        let mut best = vec![[Duration::MAX; 4]; days.len()];
-        for _ in 0..repeat.max(1) {
-            for (at, best) in best.iter_mut().enumerate() {
-                let (whole, idle) = (path("day", at), path("front", at));
-                let times = [
-                    process(self.ours, &whole)?,
-                    process(self.rust, &whole)?,
-                    process(self.ours, &idle)?,
-                    process(self.rust, &idle)?,
-                ];
-                *best = std::array::from_fn(|which| best[which].min(times[which]));
-                turn(at);
-            }
-        }
-        let less = |[ours, rust, our_idle, rust_idle]: [Duration; 4]| {
-            [
-                ours.saturating_sub(our_idle),
-                rust.saturating_sub(rust_idle),
-            ]
-        };
-        Ok(best.into_iter().map(less).collect())
+/// How long each of these programs takes for each of these days, less what it takes for so many bytes of its front: as processes, in turns over all
+/// days, the best of so many runs each. Behind a day's runs something else has its turn.
+pub fn times<const N: usize>(
+    programs: [&[&str]; N],
+    days: &[(&[u8], usize)],
+    repeat: usize,
+    folder: &Path,
+    mut turn: impl FnMut(usize),
+) -> Result<Vec<[Duration; N]>, String> {
+    let path = |name: &str, at: usize| folder.join(format!("{name}-{at}"));
+    let put = |path: PathBuf, bytes: &[u8]| {
+        std::fs::write(&path, bytes).map_err(|error| format!("{}: {error}", path.display()))
+    };
+    for (at, &(day, front)) in days.iter().enumerate() {
+        put(path("day", at), day)?;
+        put(path("front", at), &day[..front])?;
     }
+    // Of the whole day, and of its front.
+    let mut best = vec![[[Duration::MAX; 2]; N]; days.len()];
+    for _ in 0..repeat.max(1) {
+        for (at, best) in best.iter_mut().enumerate() {
+            for (which, name) in ["day", "front"].iter().enumerate() {
+                for (best, words) in best.iter_mut().zip(programs) {
+                    best[which] = best[which].min(process(words, &path(name, at))?);
+                }
+            }
+            turn(at);
+        }
+    }
+    let less = |best: [[Duration; 2]; N]| best.map(|[day, front]| day.saturating_sub(front));
+    Ok(best.into_iter().map(less).collect())
 }
 
 /// Whether ours are 01's lines of a day, without a refusal and inside the Rust's domain to its end, and the Rust's are the same.
@@ -270,13 +272,15 @@ fn run(rust: &mut RustSide, calls: &[Call]) {
 mod tests {
     use super::*;
     use crate::days::recorded;
-    use crate::rust_bench;
     use crate::text::assemble;
+    use crate::{rust_bench, rust_usual};
 
-    /// The lines of the bench over the published Rust.
-    fn rust_lines(day: &[u8]) -> String {
-        let mut given = Vec::new();
+    /// The lines of the bench over the published Rust, which are those of the usual one, byte for byte.
+    fn rust_lines(day: impl std::io::Read + Copy) -> String {
+        let (mut given, mut usual) = (Vec::new(), Vec::new());
         rust_bench::run(day, &mut given).unwrap();
+        rust_usual::run(day, &mut usual).unwrap();
+        assert!(given == usual);
         String::from_utf8(given).unwrap()
     }
 
@@ -296,7 +300,7 @@ mod tests {
             if stored.lines().any(|line| unknown.contains(&line)) {
                 continue;
             }
-            let given = rust_lines(&case.day);
+            let given = rust_lines(&case.day[..]);
             let same = same_lines(&as_lines(&stored), &as_lines(&given));
             assert_eq!(same, Ok(()), "{}", case.name);
             compared += 1;
@@ -307,6 +311,7 @@ mod tests {
 
     #[test]
     fn the_rust_s_bench_takes_a_day_in_pieces_and_cut_anywhere() {
+        #[derive(Clone, Copy)]
         struct Pieces<'d>(&'d [u8]);
         impl std::io::Read for Pieces<'_> {
             fn read(&mut self, into: &mut [u8]) -> std::io::Result<usize> {
@@ -319,9 +324,7 @@ mod tests {
         let day = make(1, "valid").unwrap();
         for end in (0..day.len().min(3000)).chain([day.len()]) {
             let day = &day[..end];
-            let mut given = Vec::new();
-            rust_bench::run(Pieces(day), &mut given).unwrap();
-            let given = String::from_utf8(given).unwrap();
+            let given = rust_lines(Pieces(day));
             let same = same_lines(&as_lines(&answer(day)), &as_lines(&given));
             assert_eq!(same, Ok(()), "cut at {end}");
         }
@@ -336,7 +339,7 @@ mod tests {
         let day = assemble(DAY).unwrap();
         let right = answer(&day);
         let with = |ours: &str, rust: &str| agree(&day, ours.as_bytes(), rust.as_bytes());
-        assert_eq!(with(&right, &rust_lines(&day)), Ok(()));
+        assert_eq!(with(&right, &rust_lines(&day[..])), Ok(()));
         assert!(right.contains("actions 0,1\n"));
         let turned = right.replace("actions 0,1\n", "actions 1,0\n");
         assert_eq!(with(&right, &turned), Ok(()));
@@ -381,6 +384,7 @@ mod tests {
             let sides = Sides {
                 ours: &one.iter().map(String::as_str).collect::<Vec<&str>>(),
                 rust: &two.iter().map(String::as_str).collect::<Vec<&str>>(),
+                usual: &two.iter().map(String::as_str).collect::<Vec<&str>>(),
             };
             race_over(&[("short".to_string(), day.clone())], 1, &sides, &folder)
         };

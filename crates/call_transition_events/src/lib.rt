@@ -433,10 +433,13 @@ fn take_rows(
 
 // ---- the two steps
 
-// Some row of the kind has a scope of the set in its first field.
+// Some row of the kind has a scope of the set in its first field. An empty set, as of the first-time scopes on most days, has none.
 fn some_row(image: &[u8], kind: u8, set: KeySet) -> bool
     ensures { λ r. ⌜ r ≡ someRow (was image) kind (set .words) ⌝ }
 {
+    if set.is_empty() {
+        return false;
+    }
     let n = table_rows::count(image, kind);
     let mut j: u16 = 0;
     while j < n {

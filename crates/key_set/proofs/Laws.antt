@@ -15,6 +15,7 @@ use lib.ListN.{length, getD, set, replicate, length-set, length-replicate, getD-
 use lib.Seq.{getD-set-same, getD-set-other, set-out, ext-getD}
 use borrow.Author.Tests.{eq-eqb, ne-eqb, lt-ltb, le-ltb, le-leb}
 use Rattle.lists.specs.Tests.{same?, gt-eqb, below?, and-yes, or-no, or-yes}
+use Rattle.lists.specs.Every.{no-way}
 use Rattle.lists.specs.Lists.{keep, any, foldl}
 use Rattle.lists.specs.Ranges.{ascending, those-ascend, first-none, Lowest, those-end, those-first, those-lowest, those-none}
 use Rattle.lists.specs.Ranges.{those-empty, those-fit, those-any, those-same, keep-those, both, either, count-either, count-more}
@@ -434,3 +435,10 @@ module _ (ws : List ℕ) where
   pub empty-yes : none ≡ lowestFrom ws 0 → true ≡ isEmptyOf ws
   unfolding isEmptyOf sizeOf
   empty-yes e = rw (lowest-none ws 0 e)
+
+  pub empty-has : isEmptyOf ws ≡ true → (k : ℕ) → has ws k ≡ false
+  empty-has e k = go (lowestFrom ws 0) refl
+    where
+      go : (o : Option ℕ) → o ≡ lowestFrom ws 0 → has ws k ≡ false
+      go none q = none-from ws 0 q k (omega arith)
+      go (some j) q = no-way (empty-no q ∙ e)

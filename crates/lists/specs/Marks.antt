@@ -24,6 +24,12 @@ unfolding any
 any-same p q h [] = refl
 any-same p q h (a ∷ l) = rw (h a, any-same p q h l)
 
+-- none passes a test that all fail
+pub any-no : {A : Type 0} (p : A → Bool) → ((a : A) → p a ≡ false) → (l : List A) → any p l ≡ false
+unfolding any
+any-no p h [] = refl
+any-no p h (a ∷ l) = rw (h a, any-no p h l)
+
 -- every one passes where none fails
 pub every-not : {A : Type 0} (p : A → Bool) (l : List A) → every p l ≡ not (any (λ a. not (p a)) l)
 unfolding any every

@@ -1,4 +1,4 @@
--- What the machine asks of the table besides `schedule`: document 01, "The table image". Assumes nothing.
+-- What the machine asks of the table besides `table_schedule`: document 01, "The table image". Assumes nothing.
 use Prim.Native.Nat.{ℕ}
 use mathlib.Core.Bool.{Bool, not}
 use mathlib.Core.List.{List}

@@ -9,6 +9,7 @@ use Rattle.lists.specs.Lists.{keep}
 use Rattle.lists.specs.Every.{no-way}
 use Rattle.table_rows.specs.Bytes.{Image}
 use Rattle.tags.specs.Tags.{at}
+use Rattle.key_set.specs.Sets.{noKeys, wordCount}
 use Rattle.table.specs.Check.{isTable}
 use Rattle.machine.specs.State.{Event, rootEvent}
 use Rattle.machine.specs.Machine.{Call, plain, control, transit, pop}
@@ -33,7 +34,7 @@ accepted-table = refl
 
 -- the timer's event
 abbrev pub e : Event
-e = record { queue = 1; tag = at 5 0; reactions = 0 ∷ 0 ∷ []; terminal = false; control = false; network = false; action = 0; stored = at 0 0 }
+e = record { queue = 1; tag = at 5 0; reactions = noKeys wordCount; terminal = false; control = false; network = false; action = 0; stored = at 0 0 }
 
 abbrev pub entry : Event → ℕ → Fate → Entry
 entry e n f = record { event = e; by = n; fate = f }
@@ -72,7 +73,7 @@ abbrev pub bs : List Call
 bs = transit 0 0 true (at 0 0) ∷ plain (at 5 0) true [] ∷ pop ∷ transit 0 0 true (at 5 0) ∷ []
 
 abbrev pub p : Event
-p = rootEvent (at 5 0) (0 ∷ 0 ∷ []) true false false
+p = rootEvent (at 5 0) (noKeys wordCount) true false false
 
 pub is-both :
     historyOf img bs ≡
@@ -86,7 +87,7 @@ abbrev pub ds : List Call
 ds = control (at 3 0) ∷ pop ∷ []
 
 abbrev pub c : Event
-c = rootEvent (at 3 0) (0 ∷ 0 ∷ []) false true false
+c = rootEvent (at 3 0) (noKeys wordCount) false true false
 
 abbrev pub turned : ℕ → History
 turned r = entry c 0 (popped 1 r) ∷ []
@@ -113,7 +114,7 @@ not-twice t = let z : c ∷ c ∷ [] ≡ c ∷ [] = t .made 0 (omega arith) in l
 
 -- a pop that also swallows a later control event, which no answer shows
 abbrev pub later : Event
-later = rootEvent (at 6 0) (0 ∷ 0 ∷ []) false true false
+later = rootEvent (at 6 0) (noKeys wordCount) false true false
 
 pub not-swallowed : Told img (plain (at 5 0) true [] ∷ control (at 6 0) ∷ pop ∷ []) (entry p 0 (popped 2 0) ∷ entry later 1 (popped 2 0) ∷ []) → ⊥
 unfolding dayOf waitsIn popTakes scopeTurns turnsOf
