@@ -11,15 +11,14 @@ use Rattle.table_rows.specs.Bytes.{Image, be}
 use Rattle.machine.specs.State.{State}
 use Rattle.machine.specs.Machine.{rules}
 use Rattle.machine_rules_kept.specs.Kept.{step-keeps}
-use Rattle.state_room.specs.Holds.{Rows, Holds, rowsOf, stateIn, state-is}
+use Rattle.state_room.specs.Holds.{Rows, Holds, stateIn, state-is}
 use Rattle.day_records.specs.Records.{Record, call, malformed, cut, over, mostBytes}
 use Rattle.day_records.specs.Views.{ofParsed, Parses}
 use Rattle.day_records.specs.declared.Parsed.{Parsed}
 use Rattle.byte_writer.specs.Written.{Written}
 use Rattle.byte_writer.proofs.WrittenLaws.{written-none, written-then, written-as, written-long, written-room}
 use Rattle.day_run.specs.Days.{Next, pending, broken, whole, nextAt, bytesLeft, bodyAt, Ran, stopped, endedAt, behind, longest, malformedLine, lineAt, stateAt, ranIn, ranOn, ran}
-use Rattle.day_run.specs.Views.{ofNext, Kept, Takes, Pieced}
-use Rattle.day_run.specs.declared.Pieces.{Pieces}
+use Rattle.day_run.specs.Views.{ofNext, Kept, Takes, RunOn}
 use Rattle.day_run.specs.declared.Next as code
 
 -- ---- what stands at a place
@@ -179,17 +178,12 @@ module _ {img : Image} {bytes : List ℕ} {first : Rows} {old : List ℕ} {d : R
 
   -- ---- the run ends
 
-  module _ {given : Rows} (f : first ≡ given) (p : Pieces) (a : rowsOf (p .day) ≡ d) (b : p .used ≡ used) where
-    abbrev Ended : List ℕ → Type 0
-    Ended new = Kept img (rowsOf (p .day)) × Pieced img (ran img bytes (stateIn img given) (length old)) p bytes old new
+  abbrev Ended : ℕ → Bool → List ℕ → Type 0
+  Ended wrote closed new = Kept img d × RunOn img whole-run d used wrote closed bytes old new
 
-    pub ends-here : whole-run ≡ behind (g .lines) (stopped (g .state) used) → p .ended ≡ false → p .written ≡ written → Ended out
-    ends-here e i w =
-        rw (← f)
-        (rw a keeps-on, record { holds = rw (e, a) (g .holds); used = rw e b; inside = rw b (g .inside); ended = rw e i; lines = rw (e, w, append-nil (g .lines)) (g .are-written) })
+  pub ends-here : {closed : Bool} → whole-run ≡ behind (g .lines) (stopped (g .state) used) → closed ≡ false → Ended written closed out
+  ends-here e i = (keeps-on, record { holds = rw e (g .holds); used = rw e; inside = g .inside; ended = rw (e, i); lines = rw (e, append-nil (g .lines)) (g .are-written) })
 
-    pub ends-broken : whole-run ≡ behind (g .lines) (endedAt (g .state) used) → {written-end : ℕ} {out-end : List ℕ} → Written out written malformedLine out-end written-end →
-        p .ended ≡ true → p .written ≡ written-end → Ended out-end
-    ends-broken e y i w =
-        rw (← f)
-        (rw a keeps-on, record { holds = rw (e, a) (g .holds); used = rw e b; inside = rw b (g .inside); ended = rw e i; lines = rw (e, w) (written-then (g .are-written) y) })
+  pub ends-broken : whole-run ≡ behind (g .lines) (endedAt (g .state) used) → {written-end : ℕ} {out-end : List ℕ} → Written out written malformedLine out-end written-end →
+      Ended written-end true out-end
+  ends-broken e y = (keeps-on, record { holds = rw e (g .holds); used = rw e; inside = g .inside; ended = rw e; lines = rw e (written-then (g .are-written) y) })

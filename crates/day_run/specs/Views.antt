@@ -1,5 +1,5 @@
 -- The code's answers as the definitions', and what its parts do. Assumes nothing.
-use mathlib.Core.Bool.{true, cond}
+use mathlib.Core.Bool.{Bool, true, cond}
 use mathlib.Core.Path.{_≡_}
 use mathlib.Core.List.{List}
 use Prim.Native.Nat.{ℕ, _≤_}
@@ -8,7 +8,7 @@ use Rattle.table_rows.specs.Bytes.{Image}
 use Rattle.machine.specs.State.{State}
 use Rattle.machine.specs.Machine.{rules}
 pub use Rattle.state_room.specs.Holds.{Kept}
-use Rattle.state_room.specs.Holds.{Rows, Holds, rowsOf}
+use Rattle.state_room.specs.Holds.{Rows, Holds, rowsOf, stateIn}
 use Rattle.byte_writer.specs.Written.{Written}
 use Rattle.day_lines.specs.Lines.{lineOf}
 use Rattle.call_push.specs.declared.Push.the-variants as P
@@ -56,9 +56,16 @@ abbrev pub Taking : Image → Rows → Record → List ℕ → Rows → Type 0
 Taking img before w line after = (s : State) → rules img s ≡ true → Holds img s before → Takes img s w line after
 
 -- what a piece's run leaves: the state, how many bytes were taken, whether the run is over, and the lines over the front of the buffer
-pub record Pieced (img : Image) (r : D.Ran) (p : Pieces) (bytes old new : List ℕ) : Type 0 where
-  pub holds : Holds img (r .state) (rowsOf (p .day))
-  pub used : p .used ≡ r .used
-  pub inside : p .used ≤ length bytes
-  pub ended : p .ended ≡ r .ended
-  pub lines : Written old 0 (r .lines) new (p .written)
+pub record RunOn (img : Image) (r : D.Ran) (after : Rows) (took wrote : ℕ) (closed : Bool) (bytes old new : List ℕ) : Type 0 where
+  pub holds : Holds img (r .state) after
+  pub used : took ≡ r .used
+  pub inside : took ≤ length bytes
+  pub ended : closed ≡ r .ended
+  pub lines : Written old 0 (r .lines) new wrote
+
+-- by value, and on rows: from the state that they hold, in as much room as the buffer has
+abbrev pub Pieced : Image → D.Ran → Pieces → List ℕ → List ℕ → List ℕ → Type 0
+Pieced img r p = RunOn img r (rowsOf (p .day)) (p .used) (p .written) (p .ended)
+
+abbrev pub RunRows : Image → Rows → Rows → ℕ → ℕ → Bool → List ℕ → List ℕ → List ℕ → Type 0
+RunRows img before after took wrote closed bytes old = RunOn img (D.ran img bytes (stateIn img before) (length old)) after took wrote closed bytes old

@@ -18,7 +18,7 @@ ghost use Rattle.table.specs.Check.{isTable};
 ghost use Rattle.byte_writer.specs.Written.{Written};
 ghost use Rattle.day_lines.specs.Lines.{lineOf};
 ghost use Rattle.day_run.specs.Days.{nextAt, bodyAt, ran, answersOf, fitting, imageEnd, opened, dayAnswers};
-ghost use Rattle.day_run.specs.Views.{ofNext, opOf, lineFrom, Kept, Taking, Pieced};
+ghost use Rattle.day_run.specs.Views.{ofNext, opOf, lineFrom, Kept, Taking, RunRows, Pieced};
 ghost use Rattle.state_room.specs.PartRows.{spareRoom};
 ghost use Rattle.state_room.specs.Holds.{Holds, rows, were, are, rowsOf, stateIn};
 use call_perform::Answer;
@@ -259,19 +259,32 @@ fn say(
 
 // ---- the run
 
+// What the run of a piece on lent rows comes to: the ledger after it, and the rest as in `Pieces`.
+struct Run {
+    ledger: Ledger,
+    used: usize,
+    written: usize,
+    ended: bool,
+}
+
 // As many whole records as the bytes have, while a line has room.
-pub fn run_records(image: &[u8], day: Room, bytes: &[u8], out: &mut [u8]) -> Pieces
-    requires { ⌜ Kept (now image) (rowsOf day) ⌝ }
-    ensures { λ r. ⌜ Kept (was image) (rowsOf (r .day)) ⌝ }
-    ensures { λ r. ⌜ Pieced (was image) (ran (was image) (was bytes) (stateIn (was image) (rowsOf day)) (length (was out))) r (was bytes) (was out) (is out) ⌝ }
+fn run_rows(
+    image: &[u8],
+    scopes: &mut [u64; state_scopes::ROOM],
+    events: &mut [u64; state_events::ROOM],
+    values: &mut ValueRows,
+    buckets: &mut BucketRows,
+    given: Ledger,
+    bytes: &[u8],
+    out: &mut [u8],
+) -> Run
+    requires { ⌜ Kept (now image) (rows scopes events values buckets given) ⌝ }
+    ensures { λ r. ⌜ Kept (was image) (are scopes events values buckets (r .ledger)) ⌝ }
+    ensures { λ r. ⌜ RunRows (was image) (were scopes events values buckets given) (are scopes events values buckets (r .ledger)) (r .used) (r .written) (r .ended)
+        (was bytes) (was out) (is out) ⌝ }
 {
-    let mut scopes = day.scopes;
-    let mut events = day.events;
-    let mut values = day.values;
-    let mut buckets = day.buckets;
-    let mut ledger = day.ledger;
-    let counts = ledger.counts;
-    let mut heads = state_queues::heads(&events, counts.waiting);
+    let mut ledger = given;
+    let mut heads = state_queues::heads(events, given.counts.waiting);
     let mut actions = [0u16; state_events::ROOM_FOR_EVENTS];
     let mut keys = [0u16; day_records::MOST_KEYS];
     let mut spare = [0u64; state_room::SPARE];
@@ -291,10 +304,10 @@ pub fn run_records(image: &[u8], day: Room, bytes: &[u8], out: &mut [u8]) -> Pie
                 let parsed = read(bytes, used, n, &mut keys);
                 let t = take_record(
                     image,
-                    &mut scopes,
-                    &mut events,
-                    &mut values,
-                    &mut buckets,
+                    scopes,
+                    events,
+                    values,
+                    buckets,
                     &mut heads,
                     &mut actions,
                     &mut spare,
@@ -308,6 +321,36 @@ pub fn run_records(image: &[u8], day: Room, bytes: &[u8], out: &mut [u8]) -> Pie
             }
         }
     }
+    Run {
+        ledger,
+        used,
+        written,
+        ended,
+    }
+}
+
+// The same by value.
+pub fn run_records(image: &[u8], day: Room, bytes: &[u8], out: &mut [u8]) -> Pieces
+    requires { ⌜ Kept (now image) (rowsOf day) ⌝ }
+    ensures { λ r. ⌜ Kept (was image) (rowsOf (r .day)) ⌝ }
+    ensures { λ r. ⌜ Pieced (was image) (ran (was image) (was bytes) (stateIn (was image) (rowsOf day)) (length (was out))) r (was bytes) (was out) (is out) ⌝ }
+{
+    let mut scopes = day.scopes;
+    let mut events = day.events;
+    let mut values = day.values;
+    let mut buckets = day.buckets;
+    let given = day.ledger;
+    let r = run_rows(
+        image,
+        &mut scopes,
+        &mut events,
+        &mut values,
+        &mut buckets,
+        given,
+        bytes,
+        out,
+    );
+    let ledger = r.ledger;
     let after = Room {
         scopes,
         events,
@@ -317,9 +360,9 @@ pub fn run_records(image: &[u8], day: Room, bytes: &[u8], out: &mut [u8]) -> Pie
     };
     Pieces {
         day: after,
-        used,
-        written,
-        ended,
+        used: r.used,
+        written: r.written,
+        ended: r.ended,
     }
 }
 

@@ -1,4 +1,4 @@
--- `day_run::run_records` meets its contract: the lines so far are written, and the arrays hold the state after the records so far. Assumes nothing.
+-- `day_run::run_rows` meets its contract: the lines so far are written, and the arrays hold the state after the records so far. Assumes nothing.
 use Prim.Native.Nat.{ℕ, _-_}
 use mathlib.Core.Bool.{false}
 use mathlib.Core.Path.{_≡_, refl, _∙_}
@@ -16,29 +16,29 @@ use Rattle.state_room.specs.Holds.{Rows}
 use Rattle.state_room.specs.Holds.{kept-waits}
 use Rattle.day_run.proofs.RunLaws.{Running, running-begins, room-left, told, fits, keeps-on, runs-on, stops-room, stops-pending, stops-broken, ends-here, ends-broken}
 use borrow.Author.Needs.{needs}
-use Rattle.day_run.proofs.run_records.Statement.{statement}
-use Rattle.day_run.proofs.run_records.Tie as tie
+use Rattle.day_run.proofs.run_rows.Statement.{statement}
+use Rattle.day_run.proofs.run_rows.Tie as tie
 
--- the rows of the run's own arrays
+-- the rows of the lent arrays
 abbrev room : List ℕ → List ℕ → List ℕ → List ℕ → Ledger → Rows
 room xs es vs bs l = record { scopes = xs; events = es; values = vs; buckets = bs; ledger = l }
 
 abbrev Inv-loop : tie.InvT-loop
-Inv-loop image bytes out₀ scopes₀ events₀ values₀ buckets₀ ledger₀ heads₀ actions₀ keys₀ spare₀ u₀ w₀ e₀ out scopes events values buckets ledger heads actions keys spare used written ended =
+Inv-loop image scopes₀ events₀ values₀ buckets₀ bytes out₀ ledger₀ heads₀ actions₀ keys₀ spare₀ u₀ w₀ e₀ scopes events values buckets out ledger heads actions keys spare used written ended =
     Running image bytes (room scopes₀ events₀ values₀ buckets₀ ledger₀) out₀ (room scopes events values buckets ledger) used written out ×
     (length keys ≡ mostKeys) × (length actions ≡ roomForEvents) × (ended ≡ false) × Held heads (headsOf (take (ledger .counts .waiting) (eventsOf events))) ×
     (length spare ≡ spareRoom)
 
 abbrev μ-loop : tie.MeasureT-loop
-μ-loop image bytes out₀ scopes₀ events₀ values₀ buckets₀ ledger₀ heads₀ actions₀ keys₀ spare₀ u₀ w₀ e₀ out scopes events values buckets ledger heads actions keys spare used written ended =
+μ-loop image scopes₀ events₀ values₀ buckets₀ bytes out₀ ledger₀ heads₀ actions₀ keys₀ spare₀ u₀ w₀ e₀ scopes events values buckets out ledger heads actions keys spare used written ended =
     length bytes - used
 
 heads-requires : tie.Need-heads-requires Inv-loop μ-loop
-heads-requires c κs = kept-waits (c .before .before .before .before .before .before .before .before .before .before .pre) .few
+heads-requires c κs = kept-waits (c .before .before .before .before .pre) .few
 
 loop-holds : tie.Need-loop-holds Inv-loop μ-loop
 loop-holds c =
-    let s = c .before .before .before .before .before .before .before .before .before .before .before in
+    let s = c .before .before .before .before .before in
     (running-begins (s .args .bytes .now) (s .args .out .now) (s .pre), search needs, search needs, refl, c .heads .ensures, search needs)
 
 sub-loop : tie.Need-sub-loop Inv-loop μ-loop
@@ -102,7 +102,7 @@ loop-again c =
 returns : tie.Need-returns Inv-loop μ-loop
 returns c =
     let i = c .before .loop .inv in
-    ends-here (i .0) refl _ refl refl (stops-room (i .0) (c .loop-test .left)) (i .3) refl
+    ends-here (i .0) (stops-room (i .0) (c .loop-test .left)) (i .3)
 
 same-length : tie.Need-same-length Inv-loop μ-loop
 same-length c = written-long (returns c .1 .lines)
@@ -111,7 +111,7 @@ returns-2 : tie.Need-returns-2 Inv-loop μ-loop
 returns-2 c =
     let t = c .before .before .before in
     let i = t .before .loop .inv in
-    ends-here (i .0) refl _ refl refl (stops-pending (i .0) (t .loop-test .taken) (told (c .enum-told .given .1) (c .before .before .next-at .ensures))) (i .3) refl
+    ends-here (i .0) (stops-pending (i .0) (t .loop-test .taken) (told (c .enum-told .given .1) (c .before .before .next-at .ensures))) (i .3)
 
 same-length-2 : tie.Need-same-length-2 Inv-loop μ-loop
 same-length-2 c = written-long (returns-2 c .1 .lines)
@@ -122,13 +122,13 @@ returns-3 c =
     let m = w .before .before in
     let t = m .before .before .before in
     let g = t .before .loop .inv .0 in
-    ends-broken g refl _ refl refl (stops-broken g (t .loop-test .taken) (told (m .enum-told2 .given .1) (m .before .before .next-at .ensures))) (w .write-refused .ensures) refl refl
+    ends-broken g (stops-broken g (t .loop-test .taken) (told (m .enum-told2 .given .1) (m .before .before .next-at .ensures))) (w .write-refused .ensures)
 
 same-length-3 : tie.Need-same-length-3 Inv-loop μ-loop
 same-length-3 c = written-long (returns-3 c .1 .lines)
 
-pub run-records-spec : {M : Type 1} → statement M
-run-records-spec =
+pub run-rows-spec : {M : Type 1} → statement M
+run-rows-spec =
     tie.close
     (tie.spec Inv-loop μ-loop heads-requires loop-holds sub-loop next-at-requires enum-told (λ c. search needs) write-refused-requires (λ c. search needs)
     end-of-requires read-requires (λ c. search needs) (λ c. search needs) take-record-requires say-requires loop-less loop-again same-length returns same-length-2 returns-2
