@@ -2,14 +2,13 @@
 // run of a day come in by `perform`, with every queue's least tag lent. A new call gets its variant of `Call` and its line in `perform`.
 ghost use mathlib.Core.Path.{_≡_};
 ghost use Prim.Native.Nat.{_≤_};
-ghost use lib.ListN.{length, take};
+ghost use lib.ListN.{length};
 ghost use Rattle.lists.specs.Lent.{was, is};
 ghost use Rattle.machine.specs.State.{State};
 ghost use Rattle.machine.specs.Machine as M;
-ghost use Rattle.state_events.specs.Slots.{eventsOf, roomForEvents};
+ghost use Rattle.state_events.specs.Slots.{roomForEvents};
 ghost use Rattle.call_pop_ready.specs.Gathering.{Grown};
-ghost use Rattle.state_queues.specs.Queue.{headsOf, Held as HeldHeads};
-ghost use Rattle.state_room.specs.PartRows.{spareRoom, Queued, Shows};
+ghost use Rattle.state_room.specs.PartRows.{spareRoom, Queued, Headed, Shows};
 ghost use Rattle.state_room.specs.Holds.{rows, were, are, Kept, Performs, replyOf as replied};
 ghost use Rattle.call_pop.specs.Pops.{replyOf as peekedReply};
 ghost use Rattle.value_store.specs.Views.{answerOf};
@@ -135,7 +134,7 @@ fn ask(
     question: Question,
 ) -> Answer
     requires { ⌜ counts .waiting ≤ roomForEvents ⌝ }
-    requires { ⌜ HeldHeads (now heads) (headsOf (take (counts .waiting) (eventsOf (now events)))) ⌝ }
+    requires { ⌜ Headed (now heads) (now events) counts ⌝ }
     ensures { λ r. ⌜ ((s : State) → Queued (s .waiting) (s .work) (was events) counts → Shows s (was scopes) →
         answerReply r ≡ M.perform (was image) s (questionOf question) .reply) ⌝ }
 {
@@ -168,7 +167,7 @@ fn transit(
     requires { ⌜ Kept (now image) (rows scopes events values buckets given) ⌝ }
     requires { ⌜ spareRoom ≤ length (now spare) ⌝ }
     ensures { λ r. ⌜ Performs (was image) (transitOf request) (were scopes events values buckets given) (answerReply (r .answer)) (are scopes events values buckets (r .ledger)) ⌝ }
-    ensures { λ r. ⌜ HeldHeads (is heads) (headsOf (take (r .ledger .counts .waiting) (eventsOf (is events)))) ⌝ }
+    ensures { λ r. ⌜ Headed (is heads) (is events) (r .ledger .counts) ⌝ }
     ensures { λ r. ⌜ Idle r ⌝ }
 {
     let t = call_transition::apply_transition(
@@ -205,10 +204,10 @@ pub fn perform(
     keys: &[u16],
 ) -> Performed
     requires { ⌜ Kept (now image) (rows scopes events values buckets given) ⌝ }
-    requires { ⌜ HeldHeads (now heads) (headsOf (take (given .counts .waiting) (eventsOf (now events)))) ⌝ }
+    requires { ⌜ Headed (now heads) (now events) (given .counts) ⌝ }
     requires { ⌜ (length (now actions) ≡ roomForEvents) × (spareRoom ≤ length (now spare)) ⌝ }
     ensures { λ r. ⌜ Performs (was image) (callOf call (was keys)) (were scopes events values buckets given) (replyOf r (is actions)) (are scopes events values buckets (r .ledger)) ⌝ }
-    ensures { λ r. ⌜ HeldHeads (is heads) (headsOf (take (r .ledger .counts .waiting) (eventsOf (is events)))) ⌝ }
+    ensures { λ r. ⌜ Headed (is heads) (is events) (r .ledger .counts) ⌝ }
     ensures { λ r. ⌜ Grown 0 (r .gathered .actions) (was actions) (is actions) × (r .gathered .actions ≤ roomForEvents) ⌝ }
     ensures { λ r. ⌜ Tells call r ⌝ }
 {

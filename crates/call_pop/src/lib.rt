@@ -14,7 +14,7 @@ ghost use Rattle.state_events.specs.Slots.{eventsOf, eventOf};
 ghost use Rattle.state_scopes.specs.Scopes.{scopesOf};
 ghost use Rattle.state_queues.specs.Queue.{headsOf, Held};
 ghost use Rattle.state_heads.specs.Found.{headOf};
-ghost use Rattle.state_room.specs.PartRows.{Queued, Waits, Shows};
+ghost use Rattle.state_room.specs.PartRows.{waitingIn, Headed, Queued, Waits, Shows};
 ghost use Rattle.call_pop.specs.Pops.{replyOf, lent, Takes, Pops};
 use call_pop_ready::Gathered;
 use key_set::KeySet;
@@ -106,9 +106,9 @@ fn take_at(
 ) -> Taking
     requires { ⌜ Waits (now events) (given .counts) ⌝ }
     requires { ⌜ (length (now keys) ≡ roomForEvents) × (given .gathered .actions + given .counts .waiting ≤ roomForEvents) ⌝ }
-    requires { ⌜ Held (now heads) (headsOf (take (given .counts .waiting) (eventsOf (now events)))) ⌝ }
+    requires { ⌜ Headed (now heads) (now events) (given .counts) ⌝ }
     ensures { λ r. ⌜ Takes (taken (h .queue) (ofQueue (h .stamp)) (lent (was events) (given .counts))) given r (was keys) (is events) (is keys) ⌝ }
-    ensures { λ r. ⌜ Held (is heads) (headsOf (take (r .counts .waiting) (eventsOf (is events)))) ⌝ }
+    ensures { λ r. ⌜ Headed (is heads) (is events) (r .counts) ⌝ }
 {
     let none = KeySet::empty();
     let stamp = h.stamp;
@@ -145,9 +145,9 @@ fn take_head(
 ) -> Taking
     requires { ⌜ Waits (now events) (given .counts) ⌝ }
     requires { ⌜ (length (now keys) ≡ roomForEvents) × (given .gathered .actions + given .counts .waiting ≤ roomForEvents) ⌝ }
-    requires { ⌜ Held (now heads) (headsOf (take (given .counts .waiting) (eventsOf (now events)))) ⌝ }
+    requires { ⌜ Headed (now heads) (now events) (given .counts) ⌝ }
     ensures { λ r. ⌜ Takes (takeAt (ofGlobal t) (lent (was events) (given .counts)) (headOf h)) given r (was keys) (is events) (is keys) ⌝ }
-    ensures { λ r. ⌜ Held (is heads) (headsOf (take (r .counts .waiting) (eventsOf (is events)))) ⌝ }
+    ensures { λ r. ⌜ Headed (is heads) (is events) (r .counts) ⌝ }
 {
     match h {
         Head::Empty => given,
@@ -174,10 +174,10 @@ fn take_scopes(
 ) -> Taking
     requires { ⌜ Waits (now events) (given .counts) ⌝ }
     requires { ⌜ (length (now keys) ≡ roomForEvents) × (given .gathered .actions + given .counts .waiting ≤ roomForEvents) ⌝ }
-    requires { ⌜ Held (now heads) (headsOf (take (given .counts .waiting) (eventsOf (now events)))) ⌝ }
-    requires { ⌜ headOf (turn .local) ≡ scopeHead (now image) (scopesOf (now scopes)) (take (given .counts .waiting) (eventsOf (now events))) ⌝ }
+    requires { ⌜ Headed (now heads) (now events) (given .counts) ⌝ }
+    requires { ⌜ headOf (turn .local) ≡ scopeHead (now image) (scopesOf (now scopes)) (waitingIn (now events) (given .counts)) ⌝ }
     ensures { λ r. ⌜ Takes (takeScopes (turn .turns) (was image) (scopesOf (was scopes)) (ofGlobal (turn .tag)) (lent (was events) (given .counts))) given r (was keys) (is events) (is keys) ⌝ }
-    ensures { λ r. ⌜ Held (is heads) (headsOf (take (r .counts .waiting) (eventsOf (is events)))) ⌝ }
+    ensures { λ r. ⌜ Headed (is heads) (is events) (r .counts) ⌝ }
 {
     let t = turn.tag;
     let n = table_rows::count(image, table_rows::SCOPE);
@@ -207,9 +207,9 @@ pub fn pop_next_event(
 ) -> Popped
     requires { ⌜ Waits (now events) counts ⌝ }
     requires { ⌜ length (now keys) ≡ roomForEvents ⌝ }
-    requires { ⌜ Held (now heads) (headsOf (take (counts .waiting) (eventsOf (now events)))) ⌝ }
+    requires { ⌜ Headed (now heads) (now events) counts ⌝ }
     ensures { λ r. ⌜ ((s : State) → Queued (s .waiting) (s .work) (was events) counts → Shows s (was scopes) → Pops (perform (was image) s pop) r (was keys) (is events) (is keys)) ⌝ }
-    ensures { λ r. ⌜ Held (is heads) (headsOf (take (r .counts .waiting) (eventsOf (is events)))) ⌝ }
+    ensures { λ r. ⌜ Headed (is heads) (is events) (r .counts) ⌝ }
 {
     let n = table_rows::count(image, table_rows::SCOPE);
     let waiting = counts.waiting;
@@ -299,7 +299,7 @@ pub fn peek_is_control_only(
     heads: &[u64; state_queues::HEADS],
 ) -> bool
     requires { ⌜ counts .waiting ≤ roomForEvents ⌝ }
-    requires { ⌜ Held (now heads) (headsOf (take (counts .waiting) (eventsOf (now events)))) ⌝ }
+    requires { ⌜ Headed (now heads) (now events) counts ⌝ }
     ensures { λ r. ⌜ ((s : State) → Queued (s .waiting) (s .work) (was events) counts → Shows s (was scopes) → flag r ≡ perform (was image) s onlyControl .reply) ⌝ }
 {
     let n = table_rows::count(image, table_rows::SCOPE);

@@ -4,7 +4,7 @@
 ghost use mathlib.Core.Path.{_≡_};
 ghost use mathlib.Core.Bool.{cond, _&&_};
 ghost use Prim.Native.Nat.{_+_, _<_};
-ghost use lib.ListN.{getD, take};
+ghost use lib.ListN.{getD};
 ghost use Rattle.lists.specs.Lent.{was, is};
 ghost use Rattle.lists.specs.Walk as lists;
 ghost use Rattle.tags.specs.Views.{ofGlobal, ofLocal, ofQueue, ofClock, mappedLocal};
@@ -13,10 +13,8 @@ ghost use Rattle.machine.specs.Table.{setOf};
 ghost use Rattle.machine.specs.Transition.{isTag};
 ghost use Rattle.machine.specs.State.{State};
 ghost use Rattle.machine.specs.Machine.{keysOk, rootMade, toRoot, localTag, actionEvent, actionPlaced, actionMade, perform};
-ghost use Rattle.state_events.specs.Slots.{eventsOf};
 ghost use Rattle.state_scopes.specs.Scopes.{scopesOf, blank};
-ghost use Rattle.state_queues.specs.Queue.{headsOf, Held};
-ghost use Rattle.state_room.specs.PartRows.{Queued, Waits, Shows};
+ghost use Rattle.state_room.specs.PartRows.{Headed, Queued, Waits, Shows};
 ghost use Rattle.call_push.specs.Pushes.{madeOf, scopeFor, made, callOf, pushed, Pushes};
 use key_set::KeySet;
 use refusals::Outcome;
@@ -351,9 +349,9 @@ pub fn push_with(
     keys: &[u16],
 ) -> Pushed
     requires { ⌜ Waits (now events) counts ⌝ }
-    requires { ⌜ Held (now heads) (headsOf (take (counts .waiting) (eventsOf (now events)))) ⌝ }
+    requires { ⌜ Headed (now heads) (now events) counts ⌝ }
     ensures { λ r. ⌜ ((s : State) → Queued (s .waiting) (s .work) (was events) counts → Shows s (was scopes) → Pushes (perform (was image) s (callOf push (was keys))) r (is events)) ⌝ }
-    ensures { λ r. ⌜ Held (is heads) (headsOf (take (r .counts .waiting) (eventsOf (is events)))) ⌝ }
+    ensures { λ r. ⌜ Headed (is heads) (is events) (r .counts) ⌝ }
 {
     let event = event_of(image, scopes, push, keys);
     let r = give(image, events, counts, event);

@@ -4,13 +4,11 @@
 ghost use mathlib.Core.Path.{_≡_};
 ghost use mathlib.Core.Bool.{true};
 ghost use Prim.Native.Nat.{_+_, _≤_};
-ghost use lib.ListN.{length, take};
+ghost use lib.ListN.{length};
 ghost use Rattle.lists.specs.Lent.{was, is};
 ghost use Rattle.machine.specs.State.{State, fresh as freshState};
 ghost use Rattle.state_events.specs.Slots.{roomForEvents};
 ghost use Rattle.machine.specs.Machine.{rules};
-ghost use Rattle.state_events.specs.Slots.{eventsOf};
-ghost use Rattle.state_queues.specs.Queue.{headsOf, Held};
 ghost use Rattle.call_perform.specs.Calls.{replyOf};
 ghost use Rattle.day_records.specs.Records.{mostKeys, recordsFrom};
 ghost use Rattle.day_records.specs.Views.{keyCount, ofParsed, Parses};
@@ -19,7 +17,7 @@ ghost use Rattle.byte_writer.specs.Written.{Written};
 ghost use Rattle.day_lines.specs.Lines.{lineOf};
 ghost use Rattle.day_run.specs.Days.{nextAt, bodyAt, ran, answersOf, fitting, imageEnd, opened, dayAnswers};
 ghost use Rattle.day_run.specs.Views.{ofNext, opOf, lineFrom, Kept, Taking, RunRows, Pieced};
-ghost use Rattle.state_room.specs.PartRows.{spareRoom};
+ghost use Rattle.state_room.specs.PartRows.{spareRoom, Headed};
 ghost use Rattle.state_room.specs.Holds.{Holds, rows, were, are, rowsOf, stateIn};
 use call_perform::Answer;
 use call_perform::Call;
@@ -168,11 +166,11 @@ fn take_record(
     keys: &[u16],
 ) -> Taken
     requires { ⌜ Kept (now image) (rows scopes events values buckets given) ⌝ }
-    requires { ⌜ Held (now heads) (headsOf (take (given .counts .waiting) (eventsOf (now events)))) ⌝ }
+    requires { ⌜ Headed (now heads) (now events) (given .counts) ⌝ }
     requires { ⌜ (length (now actions) ≡ roomForEvents) × (keyCount parsed ≤ length (now keys)) × (spareRoom ≤ length (now spare)) ⌝ }
     ensures { λ r. ⌜ Taking (was image) (were scopes events values buckets given) (ofParsed parsed (was keys))
         (lineFrom (was image) r (is actions)) (are scopes events values buckets (r .performed .ledger)) ⌝ }
-    ensures { λ r. ⌜ Held (is heads) (headsOf (take (r .performed .ledger .counts .waiting) (eventsOf (is events)))) ⌝ }
+    ensures { λ r. ⌜ Headed (is heads) (is events) (r .performed .ledger .counts) ⌝ }
     ensures { λ r. ⌜ (length (is actions) ≡ roomForEvents) × (r .performed .gathered .actions ≤ roomForEvents) ⌝ }
 {
     match op_of(parsed) {

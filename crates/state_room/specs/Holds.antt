@@ -34,7 +34,7 @@ use Rattle.state_events.specs.Slots.{eventsOf, roomForEvents, waiting-fits}
 use Rattle.state_scopes.specs.Scopes.{mostScopes, scopesOf}
 use Rattle.state_scopes.proofs.ScopeLaws.{scopes-fit}
 use Rattle.state_room.specs.Padded.{padded, padded-take}
-use Rattle.state_room.specs.PartRows.{mostReactors, Queued, queued-is, queued-waits, Waits, Stored, Fits, stored-is, stored-lent, Shows, Scoped, scoped-get, scoped-take}
+use Rattle.state_room.specs.PartRows.{mostReactors, waitingIn, Queued, queued-is, queued-waits, Waits, Stored, Fits, stored-is, stored-lent, Shows, Scoped, scoped-get, scoped-take}
 use Rattle.state_room.specs.declared.Ledger.{Ledger}
 use Rattle.state_room.specs.declared.Room.{Room}
 
@@ -91,7 +91,7 @@ stateIn img r =
     record {
       modes = take (reactors img) (r .ledger .modes);
       scopes = take (scopes img) (scopesOf (r .scopes));
-      waiting = take (r .ledger .counts .waiting) (eventsOf (r .events));
+      waiting = waitingIn (r .events) (r .ledger .counts);
       work = r .ledger .counts .work;
       store = storeOf (r .values) (r .buckets) (r .ledger .held);
     }
@@ -105,7 +105,7 @@ unfolding versions every
 most-reactors img t = le-trans (count-most img (table-is img t) K.reactor (omega arith)) (limits-fit (λ l. getD (l .most) K.reactor 0) mostReactors tt img)
 
 module _ (img : Image) (s : State) (r : Rows) (h : Holds img s r) where
-  pub waiting-is : take (r .ledger .counts .waiting) (eventsOf (r .events)) ≡ s .waiting
+  pub waiting-is : waitingIn (r .events) (r .ledger .counts) ≡ s .waiting
   waiting-is = queued-is (s .waiting) (s .work) (r .events) (r .ledger .counts) (h .queued) (h .few)
 
   pub waits : Waits (r .events) (r .ledger .counts)

@@ -15,6 +15,8 @@ use Rattle.store_calls.specs.Lent.{storeOf, Lent, Laid}
 use Rattle.machine.specs.State.{Event, State, ordinary, scopeAt}
 use Rattle.state_events.specs.Slots as slot
 use Rattle.state_events.specs.Slots.{eventsOf, roomForEvents, slotWords}
+use Rattle.state_queues.specs.Queue as queue
+use Rattle.state_queues.specs.Queue.{headsOf}
 use Rattle.state_scopes.specs.Scopes as scope
 use Rattle.state_scopes.specs.Scopes.{Scope, mostScopes, scopeWords, scopesOf}
 use Rattle.state_room.specs.Padded.{padded, padded-take, padded-get, padded-set, padded-more, padded-lay}
@@ -31,6 +33,14 @@ spareRoom = mostScopes * scopeWords + (roomForEvents * slotWords + (roomForEntri
 
 -- ---- the waiting events
 
+-- those that wait in the rows; contracts name them so, and say no other way where they lie
+abbrev pub waitingIn : List ℕ → Counts → List Event
+waitingIn ws c = take (c .waiting) (eventsOf ws)
+
+-- every queue's least tag, of these events
+abbrev pub Headed : List ℕ → List ℕ → Counts → Type 0
+Headed hs ws c = queue.Held hs (headsOf (waitingIn ws c))
+
 -- these events wait, so many of them ordinary
 pub record Queued (es : List Event) (n : ℕ) (ws : List ℕ) (c : Counts) : Type 0 where
   pub held : slot.Held ws (padded slot.blank roomForEvents es)
@@ -39,12 +49,12 @@ pub record Queued (es : List Event) (n : ℕ) (ws : List ℕ) (c : Counts) : Typ
 
 -- what a working function asks of the rows and counts that it is lent: blanks behind the events that wait, and the work counted
 pub record Waits (ws : List ℕ) (c : Counts) : Type 0 where
-  pub held : slot.Held ws (padded slot.blank roomForEvents (take (c .waiting) (eventsOf ws)))
+  pub held : slot.Held ws (padded slot.blank roomForEvents (waitingIn ws c))
   pub few : c .waiting ≤ roomForEvents
-  pub counted : c .work ≡ count ordinary (take (c .waiting) (eventsOf ws))
+  pub counted : c .work ≡ count ordinary (waitingIn ws c)
 
 module _ (es : List Event) (work : ℕ) (ws : List ℕ) (c : Counts) where
-  pub queued-is : Queued es work ws c → length es ≤ roomForEvents → take (c .waiting) (eventsOf ws) ≡ es
+  pub queued-is : Queued es work ws c → length es ≤ roomForEvents → waitingIn ws c ≡ es
   queued-is q h = rw (q .waiting, q .held .things) (padded-take slot.blank roomForEvents es h)
 
   pub queued-waits : Queued es work ws c → length es ≤ roomForEvents → work ≡ count ordinary es → Waits ws c
@@ -64,7 +74,7 @@ module _ (es : List Event) (work : ℕ) (ws : List ℕ) (c : Counts) where
   queued-more e out q o =
       record { whole = o .whole; things = o .things ∙ (rw (q .waiting, q .held .things) (padded-more slot.blank roomForEvents es e)) }
 
-pub waits-queued : (ws : List ℕ) (c : Counts) → Waits ws c → Queued (take (c .waiting) (eventsOf ws)) (c .work) ws c
+pub waits-queued : (ws : List ℕ) (c : Counts) → Waits ws c → Queued (waitingIn ws c) (c .work) ws c
 waits-queued ws c w =
     let n : length (eventsOf ws) ≡ roomForEvents = H.things-length slot.decode slot.encode slot.slotWords roomForEvents slot.encode-long ws in
     let few = w .few in

@@ -13,7 +13,7 @@ ghost use Rattle.machine.specs.Machine.{modeRules, scopeRules, eventRules, queu
 ghost use Rattle.table_rows.specs.Limits.{limits};
 ghost use Rattle.state_events.specs.Slots.{eventsOf, eventOf, roomForEvents};
 ghost use Rattle.state_scopes.specs.Scopes.{mostScopes, scopesOf, blank};
-ghost use Rattle.state_room.specs.PartRows.{mostReactors};
+ghost use Rattle.state_room.specs.PartRows.{mostReactors, waitingIn};
 ghost use Rattle.state_room.specs.Holds.{were};
 ghost use Rattle.lists.specs.Lent.{was};
 ghost use Rattle.state_rules.specs.Sound.{keysBelow, eventKeeps, sizesOf, scopesSound, queueSound, queueRulesIn, soundIn};
@@ -260,7 +260,7 @@ fn queue_sound(
     counts: Counts,
 ) -> bool
     requires { ⌜ counts .waiting ≤ roomForEvents ⌝ }
-    ensures { λ r. ⌜ r ≡ queueSound (was image) (scopesOf (was scopes)) (take (counts .waiting) (eventsOf (was events))) (counts .work) ⌝ }
+    ensures { λ r. ⌜ r ≡ queueSound (was image) (scopesOf (was scopes)) (waitingIn (was events) counts) (counts .work) ⌝ }
 {
     let n = counts.waiting;
     if !events_keep(image, scopes, events, n) {
