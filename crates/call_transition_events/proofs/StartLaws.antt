@@ -41,7 +41,7 @@ use Rattle.store_calls.specs.Lent.{storeOf, Did}
 use Rattle.state_queues.specs.declared.Accepted.{Accepted}
 use Rattle.state_queues.specs.declared.Accepted.the-variants as A
 use Rattle.state_queues.specs.Queue.{acceptedAt, acceptedIn}
-use Rattle.machine.specs.Table.{scopes, hasParent}
+use Rattle.machine.specs.Table.{scopes}
 use Rattle.machine.specs.State.{Event, State, ordinary, everAt, tally, accepted}
 use Rattle.machine.specs.Transition.{Step, ifSome, held, plainEvent, firsts, startupRows, startups, step4, timerScope, timerImage, timerEvent, timer, timerRows, resetRows, resetEvent}
 use Rattle.state_events.specs.Slots as slot
@@ -220,20 +220,16 @@ module _ (img : Image) where
   -- ---- step 5
 
   module _ (j : ℕ) where
-    module _ (ws : List ℕ) {i : ℕ} {b : Bool} {x : Tag} (e : i ≡ timerScope img j) (f : b ≡ hasParent img i) (h : x ≡ timerTag img j) where
-      pub image-mapped : {k : Clock} {a : Answer} → b ≡ true → k ≡ clockIn ws i → a ≡ toGlobal k x → a ≡ imageIn img ws j
-      unfolding imageIn
-      image-mapped g q r = r ∙ rw (← e, ← f, g, ← h, q)
-
-      pub image-plain : b ≡ false → done x ≡ imageIn img ws j
-      unfolding imageIn
-      image-plain g = rw (← e, ← f, g, ← h)
+    pub image-mapped :
+        (ws : List ℕ) {i : ℕ} {x : Tag} {k : Clock} {a : Answer} → i ≡ timerScope img j → x ≡ timerTag img j → k ≡ clockIn ws i → a ≡ toGlobal k x → a ≡ imageIn img ws j
+    unfolding imageIn
+    image-mapped ws e h q r = r ∙ rw (← e, ← h, q)
 
     pub timer-event :
-        (g : Tag) {q a i : ℕ} {x : Tag} {ks : List ℕ} → a ≡ timerAction img j → i ≡ timerScope img j → q ≡ cond (hasParent img i) i none → x ≡ timerTag img j → ks ≡ triggersOf img a →
+        (g : Tag) {q a : ℕ} {x : Tag} {ks : List ℕ} → a ≡ timerAction img j → q ≡ timerScope img j → x ≡ timerTag img j → ks ≡ triggersOf img a →
         record { queue = q; tag = x; reactions = ks; terminal = false; control = false; network = false; action = a; stored = g } ≡ timerEvent img j g
     unfolding timerEvent
-    timer-event g e f h k l = rw (h, k, l, f, e)
+    timer-event g e f k l = rw (k, l, f, e)
 
     module _ (set : List ℕ) (a : Rows) where
       pub timer-none : has set (timerScope img j) ≡ false → Steps img (λ s. timerStep img set s j) a O.Done a
@@ -243,7 +239,7 @@ module _ (img : Image) where
       same-image : (s : State) → Holds img s a → timerImage img s j ≡ imageIn img (a .scopes) j
       unfolding timerImage imageIn
       same-image s k =
-          ap (λ x. cond (hasParent img (timerScope img j)) (toGlobal (x .clock) (timerTag img j)) (done (timerTag img j))) (sym (shows img s a k (timerScope img j)))
+          ap (λ x. toGlobal (x .clock) (timerTag img j)) (sym (shows img s a k (timerScope img j)))
 
       module _ (e : has set (timerScope img j) ≡ true) {m : MappedGlobal} (h : mappedGlobal m ≡ imageIn img (a .scopes) j) (b : Rows) where
         pub timer-refused : {x : Refusal} → m ≡ M.Refused x → Steps img (λ s. timerStep img set s j) a (O.Refused x) b

@@ -14,7 +14,7 @@ use Rattle.tags.specs.Views.{ofGlobal}
 use Rattle.table.specs.Rules.{timerTag}
 use Rattle.key_set.specs.Sets.{has}
 use Rattle.table_schedule.specs.Schedule.{startupsOf}
-use Rattle.machine.specs.Table.{scopes, hasParent}
+use Rattle.machine.specs.Table.{scopes}
 use Rattle.machine.specs.State.{Event, State, accepted}
 use Rattle.machine.specs.Transition.{Step, held, plainEvent, step4, timerScope, timer, timerRows, resetRows, resetEvent, step5}
 use Rattle.state_scopes.specs.Scopes.{scopesOf, blank}
@@ -76,7 +76,7 @@ abbrev pub clockIn : List ℕ → ℕ → Clock
 clockIn ws i = getD (scopesOf ws) i blank .clock
 
 unfoldable pub imageIn : Image → List ℕ → ℕ → Answer
-imageIn img ws j = cond (hasParent img (timerScope img j)) (toGlobal (clockIn ws (timerScope img j)) (timerTag img j)) (done (timerTag img j))
+imageIn img ws j = toGlobal (clockIn ws (timerScope img j)) (timerTag img j)
 
 -- ---- row by row
 

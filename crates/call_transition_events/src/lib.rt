@@ -2,14 +2,13 @@
 // A refusal ends a step; its caller then puts the rows as given back. Each part takes the whole room, so that its contract is a step of the machine.
 // Where a timer's event waits, and at which tag, is in `timer_slot` and `timer_image`; callers use `firsts`, `startups` and `restarts`.
 ghost use mathlib.Core.Path.{_≡_};
-ghost use mathlib.Core.Bool.{true, cond, _&&_, not};
+ghost use mathlib.Core.Bool.{true, _&&_, not};
 ghost use Prim.Native.Nat.{_≤_};
 ghost use Rattle.lists.specs.Lent.{was};
-ghost use Rattle.table_rows.specs.Rows.{none};
 ghost use Rattle.key_set.specs.Sets.{has};
 ghost use Rattle.tags.specs.Views.{ofGlobal, mappedGlobal};
 ghost use Rattle.table.specs.Check.{isTable};
-ghost use Rattle.machine.specs.Table.{scopes as scopesIn, hasParent};
+ghost use Rattle.machine.specs.Table.{scopes as scopesIn};
 ghost use Rattle.machine.specs.State.{tally, accepted};
 ghost use Rattle.machine.specs.Transition as T;
 ghost use Rattle.state_events.specs.Slots.{eventOf, roomForEvents};
@@ -224,13 +223,6 @@ fn accept_startup(
 
 // ---- 5. a timer
 
-fn has_parent(image: &[u8], i: u16) -> bool
-    ensures { λ r. ⌜ r ≡ hasParent (was image) i ⌝ }
-{
-    let above = table_rows::parent(image, i);
-    above != table_rows::NONE
-}
-
 fn timer_scope(image: &[u8], j: u16) -> u16
     ensures { λ r. ⌜ r ≡ T.timerScope (was image) j ⌝ }
 {
@@ -238,43 +230,28 @@ fn timer_scope(image: &[u8], j: u16) -> u16
     table_rows::action_scope(image, action)
 }
 
-// A timer's tag on the global scale.
+// A timer's tag on the global scale, by its scope's clock. No scope that is restarted runs on global time itself: `timer-parent` of machine_rules_kept.
 fn timer_image(image: &[u8], scopes: &[u64; state_scopes::ROOM], j: u16) -> MappedGlobal
     ensures { λ r. ⌜ mappedGlobal r ≡ imageIn (was image) (was scopes) j ⌝ }
 {
     let i = timer_scope(image, j);
     let x = table_schedule::timer_tag(image, j);
-    if has_parent(image, i) {
-        let s = state_scopes::scope_at(scopes, i as usize);
-        let clock = s.clock;
-        let local = x.as_local();
-        return clock.to_global(local);
-    }
-    let own = x.as_global();
-    MappedGlobal::Tag(own)
-}
-
-// The scope's own queue, or the root's where it has no parent.
-fn timer_queue(image: &[u8], i: u16) -> u16
-    ensures { λ r. ⌜ r ≡ cond (hasParent (was image) i) i none ⌝ }
-{
-    if has_parent(image, i) {
-        return i;
-    }
-    state_events::NONE
+    let s = state_scopes::scope_at(scopes, i as usize);
+    let clock = s.clock;
+    clock.to_global(x)
 }
 
 fn timer_slot(image: &[u8], j: u16, g: GlobalTag) -> Slot
     ensures { λ r. ⌜ eventOf r ≡ T.timerEvent (was image) j (ofGlobal g) ⌝ }
 {
     let action = table_rows::timer_action(image, j);
-    let i = timer_scope(image, j);
-    let queue = timer_queue(image, i);
+    let queue = timer_scope(image, j);
     let x = table_schedule::timer_tag(image, j);
+    let own = QueueTag::of_local(x);
     let reactions = table_schedule::triggers(image, action);
     Slot {
         queue,
-        tag: x,
+        tag: own,
         reactions,
         terminal: false,
         control: false,

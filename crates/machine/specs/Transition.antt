@@ -19,7 +19,7 @@ use Rattle.tags.specs.Tags.{Tag, Clock, Answer, zeroTag, earlier, delayed, toLo
 use Rattle.store.specs.Store as S
 use Rattle.store.specs.Store.{Store}
 use Rattle.table_schedule.specs.Schedule.{isActive, triggersOf, startupsOf, resetsOf}
-use Rattle.machine.specs.Table.{scopes, reactors, actions, hasParent}
+use Rattle.machine.specs.Table.{scopes, reactors, actions}
 use Rattle.machine.specs.State.{Event, Scope, State, root, scopeAt, clockAt, everAt, clocked, marked}
 use Rattle.machine.specs.State.{withModes, withScopes, withQueue, withStore, accepted, without, stamped, inQueue, rootEvent}
 
@@ -201,14 +201,14 @@ step4 img c first s =
 abbrev pub timerScope : Image → ℕ → ℕ
 timerScope img j = actionScope img (timerAction img j)
 
--- the Rust asks whether the scope runs on global time, and then goes by the root; carried over as it stands
+-- by the scope's own clock: no restarted timer's scope runs on global time (02, C-19; `timer-parent` of machine_rules_kept)
 unfoldable pub timerImage : Image → State → ℕ → Answer
-timerImage img s j = cond (hasParent img (timerScope img j)) (toGlobal (clockAt s (timerScope img j)) (timerTag img j)) (done (timerTag img j))
+timerImage img s j = toGlobal (clockAt s (timerScope img j)) (timerTag img j)
 
 unfoldable pub timerEvent : Image → ℕ → Tag → Event
 timerEvent img j g =
     record {
-      queue = cond (hasParent img (timerScope img j)) (timerScope img j) root;
+      queue = timerScope img j;
       tag = timerTag img j;
       reactions = triggersOf img (timerAction img j);
       terminal = false;

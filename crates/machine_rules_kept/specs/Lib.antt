@@ -4,6 +4,7 @@ pub mod Sound
 pub mod Events
 pub mod Turns
 pub mod Prepared
+pub mod Timers
 pub mod Steps
 pub mod Calls
 pub mod Kept

@@ -21,7 +21,7 @@ use Rattle.store.specs.Store as S
 use Rattle.store.specs.Store.{Store, Found, lacks, isValue, isBucket}
 use Rattle.table_schedule.specs.Schedule.{startupsOf, resetsOf}
 use Rattle.table.specs.Check.{isTable}
-use Rattle.machine.specs.Table.{scopes, reactors, modes, actions, hasParent}
+use Rattle.machine.specs.Table.{scopes, reactors, modes, actions}
 use Rattle.machine.specs.State.{Event, State, clockAt, activeAt, everAt, withStore, accepted, fresh}
 use Rattle.machine.specs.Heads as H
 use Rattle.machine.specs.Heads.{Head, peek}
@@ -143,7 +143,7 @@ step4-mild img c first s =
 timer-mild : (img : Image) (s : State) (j : ℕ) → Mild (timer img s j)
 unfolding timer timerImage
 timer-mild img s j =
-    mild-then (mild-either (hasParent img (timerScope img j)) (global-mild (clockAt s (timerScope img j)) (timerTag img j)) fine) λ g.
+    mild-then (global-mild (clockAt s (timerScope img j)) (timerTag img j)) λ g.
     mild-then (held-mild img (timerAction img j) g s) λ t. accepted-mild img t (timerEvent img j g)
 
 step5-mild : (img : Image) (c : Tag) (target : ℕ) (ins : List Bool) (s : State) → Mild (step5 img c target ins s)

@@ -1,13 +1,14 @@
 -- A transition's steps 4 and 5, and the whole: all state rules hold after it. Assumes the accepted table.
 use Prim.Native.Nat.{ℕ, _<_}
-use mathlib.Core.Bool.{Bool, true, false, not}
+use mathlib.Core.Bool.{Bool, true, false, not, _&&_}
 use mathlib.Core.Path.{_≡_, refl, ap, _∙_, sym}
 use mathlib.Core.List.{List, [], _∷_, map}
 use native.Mathlib.Omega.{arith}
 use lib.Dec.{ltb, leb, eqb}
 use lib.ListN.{length, getD}
 use borrow.Author.Tests.{lt-ltb, ltb-true}
-use Rattle.lists.specs.Lists.{from}
+use Rattle.lists.specs.Tests.{and-left, and-right}
+use Rattle.lists.specs.Lists.{every, from}
 use Rattle.lists.specs.Walk.{done, _>>=_, walk, bind-done}
 use Rattle.refusals.specs.declared.Refusal.the-variants as R
 use Rattle.table_rows.specs.Bytes.{Image}
@@ -28,13 +29,14 @@ use Rattle.machine.specs.State.{Event, State, root, clockAt, activeAt, withStor
 use Rattle.machine.specs.Transition.{Plan, isTag, insideOf, prepared, turned, held, plainEvent, firsts, startupRows, startups, ifSome, step4, timerScope, timerImage, timerEvent, timer}
 use Rattle.machine.specs.Transition.{timerRows, resetRows, resetEvent, step5, planOf, turnsOn, transition}
 use Rattle.machine.specs.Machine.{queueRules, imageRules}
-use Rattle.lists.specs.Every.{by-test, both, or-right, done-is, unless-is, every-all, keep-walk, keep-below, getD-from}
+use Rattle.lists.specs.Every.{both, or-right, done-is, unless-is, every-all, keep-walk, keep-below, getD-from}
 use Rattle.machine_rules_kept.specs.Stored.{push-keeps}
 use Rattle.machine_rules_kept.specs.Limits.{delayed-within, global-within}
 use Rattle.machine_rules_kept.specs.Sound.{proper, Sound, sound-store, sound-accepts, sound-without}
 use Rattle.machine_rules_kept.specs.Events.{keysExist, rows-exist, root-proper, with-action}
 use Rattle.machine_rules_kept.specs.Turns.{Walked, all-turns}
 use Rattle.machine_rules_kept.specs.Prepared.{sound-prepared, outside-prepared}
+use Rattle.machine_rules_kept.specs.Timers.{rows-parent}
 
 -- all state rules but that the table passes: `Sound`, and "a scope is active exactly if .. find it current"
 pub record Ruled (img : Image) (s : State) : Type 0 where
@@ -103,49 +105,46 @@ module _ (img : Image) where
     module _ (s : State) (j : ℕ) (l : j < count img K.timer) (g : Tag) (e : timerImage img s j ≡ done g) where
       image-within : within g ≡ true
       unfolding timerImage
-      image-within =
-          by-test (hasParent img (timerScope img j)) (λ b. global-within (clockAt s (timerScope img j)) (timerTag img j) g (timer-within img tb j l) (rw b at e))
-          (λ b. rw (done-is (rw b at e)) at (timer-within img tb j l))
+      image-within = global-within (clockAt s (timerScope img j)) (timerTag img j) g (timer-within img tb j l) e
 
-      timer-queue : queueRules img (timerEvent img j g) ≡ true
+      timer-queue : hasParent img (timerScope img j) ≡ true → queueRules img (timerEvent img j g) ≡ true
       unfolding queueRules timerEvent
-      timer-queue =
+      timer-queue b =
           let q = timerScope img j in
-          by-test (hasParent img q)
-          (λ b. rw b (or-right (eqb q root) (both (lt-ltb q (scopes img) (action-scope img tb (timerAction img j) (timer-action img tb j l))) b))) (λ b. rw b)
+          or-right (eqb q root) (both (lt-ltb q (scopes img) (action-scope img tb (timerAction img j) (timer-action img tb j l))) b)
 
       timer-image : imageRules (s .scopes) (timerEvent img j g) ≡ true
       unfolding imageRules timerEvent timerImage
-      timer-image =
-          let q = timerScope img j in
-          by-test (hasParent img q) (λ b. rw b (or-right (eqb q root) (or-right (not (activeAt s q)) (ap isTag (rw b at e))))) (λ b. rw b)
+      timer-image = let q = timerScope img j in or-right (eqb q root) (or-right (not (activeAt s q)) (ap isTag e))
 
-      timer-proper : proper img s (timerEvent img j g) ≡ true
+      timer-proper : hasParent img (timerScope img j) ≡ true → proper img s (timerEvent img j g) ≡ true
       unfolding proper timerEvent
-      timer-proper =
+      timer-proper b =
           both (with-action img (timerEvent img j g) (timer-within img tb j l) (triggers-exist (timerAction img j)) (lt-ltb _ _ (timer-action img tb j l)) image-within)
-          (both timer-queue timer-image)
+          (both (timer-queue b) timer-image)
 
     -- a value more changes nothing for an event
     proper-store : (s : State) (st : Store) (e : Event) → proper img s e ≡ true → proper img (withStore s st) e ≡ true
     unfolding proper imageRules
     proper-store s st e p = p
 
-    ruled-timer : (s : State) (j : ℕ) (t : State) → ltb j (count img K.timer) ≡ true → Ruled img s → timer img s j ≡ done t → Ruled img t
+    ruled-timer : (s : State) (j : ℕ) (t : State) → (ltb j (count img K.timer) && hasParent img (timerScope img j)) ≡ true → Ruled img s → timer img s j ≡ done t → Ruled img t
     unfolding timer held
     ruled-timer s j t q h d =
-        let l = ltb-true j (count img K.timer) q in
+        let l = ltb-true j (count img K.timer) (and-left _ _ q) in
         bind-done (timerImage img s j) _ d λ g e r.
         bind-done (held img (timerAction img j) g s) (λ u. accepted img u (timerEvent img j g)) r λ u f x.
         bind-done (S.pushed (limits img .held) (s .store) (timerAction img j) g 0) (λ st. done (withStore s st)) f λ st y z.
         ruled-accepts u (timerEvent img j g) t (ruled-held (timerAction img j) g s u (lt-ltb _ _ (timer-action img tb j l)) (image-within s j l g e) h f)
-        (rw (← (done-is z)) (proper-store s st (timerEvent img j g) (timer-proper s j l g e))) x
+        (rw (← (done-is z)) (proper-store s st (timerEvent img j g) (timer-proper s j l g e (and-right (ltb j (count img K.timer)) _ q)))) x
 
-    ruled-step5 : (c : Tag) (target : ℕ) (ins : List Bool) (s t : State) → Ruled img s → step5 img c target ins s ≡ done t → Ruled img t
+    ruled-step5 :
+        (c : Tag) (target : ℕ) (ins : List Bool) (s t : State) → every (λ j. ltb j (count img K.timer) && hasParent img (timerScope img j)) (timerRows img ins) ≡ true →
+        Ruled img s → step5 img c target ins s ≡ done t → Ruled img t
     unfolding step5 resetEvent
-    ruled-step5 c target ins s t h d =
+    ruled-step5 c target ins s t b h d =
         bind-done (walk (timer img) s (timerRows img ins)) _ d λ u e r.
-        some u (keep-walk (Ruled img) (λ j. ltb j (count img K.timer)) (timer img) ruled-timer (timerRows img ins) s u (unfold timerRows in keep-below _ (count img K.timer)) h e) (resetRows img ins) r
+        some u (keep-walk (Ruled img) (λ j. ltb j (count img K.timer) && hasParent img (timerScope img j)) (timer img) ruled-timer (timerRows img ins) s u b h e) (resetRows img ins) r
       where
         some : (u : State) → Ruled img u → (rows : List ℕ) → ifSome rows (done u) (delayed c >>= λ there. accepted img u (plainEvent there (resetsOf img target))) ≡ done t → Ruled img t
         some u k [] d = rw (← (done-is d)) k
@@ -165,7 +164,7 @@ module _ (img : Image) where
         all-turns img p w (s2 .modes) (scopes img) 0 s2 u (omega arith)
         (record { sound = sound-prepared img tb r m l s (h .sound) reset; outside = outside-prepared img tb r m l s (h .sound) reset p refl; modes = refl; below = λ j z. absurd (omega arith) })
         e in
-        ruled-step5 c (modeScope img m) ins v t (ruled-step4 c (firsts img p s2) u v (after s2 u p refl k) x) y
+        ruled-step5 c (modeScope img m) ins v t (rows-parent img tb m l reset) (ruled-step4 c (firsts img p s2) u v (after s2 u p refl k) x) y
       where
         after : (s2 u : State) (p : Plan) → p .now ≡ map (isActive img (s2 .modes)) (from 0 (scopes img)) → Walked img p (s2 .modes) (scopes img) u → Ruled img u
         after s2 u p n k =

@@ -1,6 +1,6 @@
 -- What an accepted image has, as facts for later crates: one law for each rule of document 01, read off `Table`. Assumes nothing.
 use mathlib.Core.Path.{_≡_, refl, sym, ap, _∙_}
-use mathlib.Core.Logic.{_⊎_, inl, inr}
+use mathlib.Core.Logic.{_≢_, _⊎_, inl, inr, ⊎-elim}
 use mathlib.Core.Bool.{Bool, true, false, not, cond, _&&_, _||_}
 use Prim.Native.Nat.{ℕ, _≤_, _<_}
 use native.Mathlib.Nat.{zero-add}
@@ -8,16 +8,17 @@ use native.Mathlib.Omega.{arith}
 use lib.Dec.{ltb, leb, eqb, lit<}
 use lib.ListN.{length, getD}
 use borrow.Author.Tests.{ltb-true, ltb-false, leb-true, eqb-true, eqb-false, eq-eqb, not-true, not-false}
-use Rattle.lists.specs.Tests.{and-left, and-right}
+use Rattle.lists.specs.Tests.{and-left, and-right, same?}
 use Rattle.lists.specs.Lists.{every, every-at}
 use Rattle.lists.specs.Scan.{scan-all}
+use Rattle.lists.specs.Every.{no-way}
 use Rattle.tags.specs.Tags.{within}
 use Rattle.table_rows.specs.Bytes.{Image, be}
 use Rattle.table_rows.specs.Kinds.{kindOf, kindCount, headBytes, count, countPlace, place, scope, reactor, mode, reaction, action, trigger, startup, reset, timer}
 use Rattle.table_rows.specs.Limits.{versions, most, limits-fit}
 use Rattle.table_rows.specs.Rows.{none, rowPlace, field, parent, scopeReactor, scopeMode, rootScope, initialMode, modeScope, modeReactor, level, actionScope, logical}
 use Rattle.table_rows.specs.Rows.{triggerAction, triggerReaction, startupScope, startupAction, startupReaction, resetScope, resetReaction, timerAction}
-use Rattle.table_rows.specs.Lineage.{under}
+use Rattle.table_rows.specs.Lineage.{inSubtree, under, subtree-end}
 use Rattle.table.specs.Rules.{key, keyFields, keyExists, keysExist, parentRule, agrees, scopeRule, initialRule, reactorRule}
 use Rattle.table.specs.Rules.{modeRule, maxLevel, reactionRule, actionRule, timerTag, timerRule, ownRule, rowRule}
 use Rattle.table.specs.Check.{version, wrongLength, countFits, badCount, badRow, kindFits, badKind, checkRows, check}
@@ -241,3 +242,14 @@ module _ (s : Image) (t : Table s) where
       go : (scopeMode s (modeScope s m) ≡ none) ⊎ Named s (modeScope s m) → Named s (modeScope s m)
       go (inl e) = absurd (mode-some m l (sym (mode-back m l) ∙ e))
       go (inr h) = h
+
+  -- it has a parent, and so has every scope in its subtree
+  pub mode-child : (m i : ℕ) → m < count s mode → i < count s scope → inSubtree s (modeScope s m) i ≡ true → parent s i ≡ none → ⊥
+  unfolding versions every
+  mode-child m i l k h e = ⊎-elim self below (same? i (modeScope s m))
+    where
+      self : i ≡ modeScope s m → ⊥
+      self q = mode-named m l .child (rw q at e)
+
+      below : i ≢ modeScope s m → ⊥
+      below n = no-way (subtree-end s (modeScope s m) i n (sym e) (omega (arith, count-most scope (lit< tt), limits-fit (λ q. getD (q .most) scope 0) none tt s)) ∙ h)

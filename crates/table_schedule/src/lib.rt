@@ -9,19 +9,19 @@ ghost use Rattle.lists.specs.Lent.{was};
 ghost use Rattle.key_set.specs.Sets.{insertKey};
 ghost use Rattle.table_rows.specs.Kinds.{kindOf, place as placeOf, count as countOf};
 ghost use Rattle.table_rows.specs.Rows.{none};
-ghost use Rattle.tags.specs.Views.{ofQueue};
+ghost use Rattle.tags.specs.Views.{ofLocal};
 ghost use Rattle.table.specs.Rules.{timerTag};
 ghost use Rattle.table_schedule.specs.Schedule.{namesMode, isModal, isCurrent, isActive, belongs as belongsTo, reactionsBy, triggersOf, startupsOf, resetsOf};
 use key_set::KeySet;
-use tags::QueueTag;
+use tags::LocalTag;
 
-// A timer row's tag, on the scale of its scope's queue: a scope without a parent has the root's.
-pub fn timer_tag(image: &[u8], j: u16) -> QueueTag
-    ensures { λ r. ⌜ ofQueue r ≡ timerTag (now (image .entry)) j ⌝ }
+// A timer row's tag, on its scope's scale.
+pub fn timer_tag(image: &[u8], j: u16) -> LocalTag
+    ensures { λ r. ⌜ ofLocal r ≡ timerTag (now (image .entry)) j ⌝ }
 {
     let offset = table_rows::timer_offset(image, j);
     let microstep = table_rows::timer_microstep(image, j);
-    QueueTag(offset, microstep)
+    LocalTag(offset, microstep)
 }
 
 // ---- modes

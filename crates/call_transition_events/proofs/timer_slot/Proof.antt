@@ -1,4 +1,5 @@
 -- `call_transition_events::timer_slot` meets its contract. Assumes nothing.
+use mathlib.Core.Path.{_∙_}
 use Rattle.call_transition_events.proofs.StartLaws.{timer-event}
 use borrow.Author.Needs.{needs}
 use Rattle.call_transition_events.proofs.timer_slot.Statement.{statement}
@@ -6,9 +7,10 @@ use Rattle.call_transition_events.proofs.timer_slot.Tie as tie
 
 returns : tie.Need-returns
 returns c =
-    let queue = c .before .before in
-    let action = queue .before .before .timer-action .ensures in
-    timer-event _ _ _ action (queue .before .timer-scope .ensures) (queue .timer-queue .ensures) (c .before .timer-tag .ensures) (c .triggers .ensures)
+    let own = c .before in
+    let queue = own .before .before in
+    let tag = own .of-local .ensures ∙ own .before .timer-tag .ensures in
+    timer-event _ _ _ (queue .before .timer-action .ensures) (queue .timer-scope .ensures) tag (c .triggers .ensures)
 
 pub timer-slot-spec : {M : Type 1} → statement M
 timer-slot-spec =
