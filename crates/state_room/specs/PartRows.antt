@@ -33,7 +33,7 @@ spareRoom = mostScopes * scopeWords + (roomForEvents * slotWords + (roomForEntri
 
 -- ---- the waiting events
 
--- those that wait in the rows; contracts name them so, and say no other way where they lie
+-- those that wait in the rows: what the contracts of the calls call them; only loops over rows speak of the first so many
 abbrev pub waitingIn : List ℕ → Counts → List Event
 waitingIn ws c = take (c .waiting) (eventsOf ws)
 
