@@ -68,7 +68,17 @@ pub fn line(at: usize, state: &State, table: &Table) -> String {
     )
 }
 
-/// Whether our line says what the Rust's does, buckets and the values that the Rust gave up (`ACTION:?`) aside.
+/// Whether two words are the same, or clocks that are the same but for an S that is not compared (`?`).
+fn same_word(ours: &str, rust: &str) -> bool {
+    let same_clock = |(ours, rust): (&str, &str)| match rust.strip_suffix('?') {
+        Some(rust) => ours.rsplit_once(':').map(|(front, _)| front) == rust.strip_suffix(':'),
+        None => ours == rust,
+    };
+    let count = |word: &str| word.split(',').count();
+    count(ours) == count(rust) && ours.split(',').zip(rust.split(',')).all(same_clock)
+}
+
+/// Whether our line says what the Rust's does, buckets, the values that the Rust gave up (`ACTION:?`) and an S that is apart aside.
 pub fn same_as_rust(ours: &str, rust: &str) -> bool {
     let parts = |line: &str| {
         let (front, values) = line.split_once(" values ").unwrap_or((line, ""));
@@ -90,7 +100,13 @@ pub fn same_as_rust(ours: &str, rust: &str) -> bool {
             .map(str::to_string)
             .collect()
     };
-    our_front == rust_front && kept(&our_values) == kept(&rust_values)
+    let words = |front: &str| -> Vec<String> { front.split(' ').map(str::to_string).collect() };
+    let (ours, rust) = (words(&our_front), words(&rust_front));
+    let same_front = ours
+        .iter()
+        .zip(&rust)
+        .all(|(ours, rust)| same_word(ours, rust));
+    ours.len() == rust.len() && same_front && kept(&our_values) == kept(&rust_values)
 }
 
 /// What `deep` does not show: modes, and every event in order of acceptance. The error names the first that differs.

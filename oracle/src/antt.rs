@@ -2,7 +2,7 @@
 //!
 //! A file is a day, or a text (.txt) whose comments at the top say what it shows. The answers and the end state are
 //! the plain machine's, written only after the published Rust has agreed on every pop, on refusal 7 and on the states
-//! after every record as far as deep.rs compares them. Refusals 8 and 9, buckets, stored tags and the order of events
+//! after every record as far as deep.rs compares them, to the end or to where 02's C-14 parts the two: a day's comment says so. Refusals 8 and 9, buckets, stored tags and the order of events
 //! and values are the plain machine's alone.
 
 use std::collections::BTreeMap;
@@ -12,6 +12,7 @@ use std::path::Path;
 use crate::answers::Ready;
 use crate::compare::{compare, Outcome};
 use crate::deep;
+use crate::domain::Why;
 use crate::image::{self, RawTag};
 use crate::judge::judge;
 use crate::plain::{self, Clock, Event, Plain, State};
@@ -60,7 +61,7 @@ pub fn file(days: &[(String, Vec<u8>)]) -> Result<String, String> {
 /// One day: its image, its calls, and the theorems.
 fn theorem(path: &str, bytes: &[u8], images: &mut Images) -> Result<String, String> {
     let (day, about) = read(path, bytes)?;
-    agreed(&day)?;
+    let parted = agreed(&day)?;
     let (table, records) = image::open(&day)
         .map_err(|refused| format!("no calls follow a refused table: {refused}"))?;
     let image = &day[..day.len() - records.len()];
@@ -75,7 +76,8 @@ fn theorem(path: &str, bytes: &[u8], images: &mut Images) -> Result<String, Stri
     let name = name(path);
     let (on, image) = on(&name, image, images);
     let day = format!("{on}-image {name}-calls");
-    let about: String = about.iter().map(|line| format!("-- {line}\n")).collect();
+    let about = about.into_iter().chain(parted);
+    let about: String = about.map(|line| format!("-- {line}\n")).collect();
     let given = format!("\n{about}{image}{}", given(&name, &calls));
     if calls.len() > LONG {
         return Ok(given + &left(&name, "longDayOf", &day, &replies, &plain.state));
@@ -133,22 +135,23 @@ fn read(path: &str, bytes: &[u8]) -> Result<(Vec<u8>, Vec<String>), String> {
     Ok((text::assemble(text)?, about))
 }
 
-/// The published Rust agrees with the plain machine over the whole day.
-fn agreed(day: &[u8]) -> Result<(), String> {
+/// The published Rust agrees with the plain machine over the whole day, or up to where C-14 parts them: then that in words.
+fn agreed(day: &[u8]) -> Result<Option<String>, String> {
     let answers = plain::answer(day);
-    for outcome in [
-        compare(day, answers.as_bytes())?,
-        judge(day, answers.as_bytes())?,
-    ] {
-        match outcome {
-            Outcome::Agree { .. } => {}
-            Outcome::LeftDomain { record, why } => {
-                return Err(format!("record {record} leaves the domain: {why}"));
-            }
-            Outcome::Differ(words) => return Err(words),
-        }
+    if let Outcome::Differ(words) = judge(day, answers.as_bytes())? {
+        return Err(words);
     }
-    deep::agree(day)
+    deep::agree(day)?;
+    match compare(day, answers.as_bytes())? {
+        Outcome::Agree { .. } => Ok(None),
+        Outcome::LeftDomain { record, why } => match why {
+            Why::ResetScope(_) => Ok(Some(format!(
+                "The Rust is compared up to call {record}, where {why}."
+            ))),
+            _ => Err(format!("record {record} leaves the domain: {why}")),
+        },
+        Outcome::Differ(words) => Err(words),
+    }
 }
 
 // ---------------------------------------------------------------- terms

@@ -19,8 +19,9 @@ use std::thread;
 use std::time::{Duration, Instant};
 
 use crate::answers::lines;
-use crate::compare::{compare, difference, table_line, Outcome, NO_LINE};
+use crate::compare::{compare_counting, difference, table_line, Outcome, NO_LINE};
 use crate::days::{damaged, made, recorded, Case, SHORT};
+use crate::domain::Why;
 use crate::judge::judge;
 use crate::make::{KINDS, LONG_KINDS};
 use crate::plain::answer;
@@ -97,20 +98,23 @@ pub fn child_in_pieces(
     }
 }
 
+/// How the comparison of a day with the Rust ended, and how many of its transitions are no longer refused with 7.
+pub type Compared = (Outcome, usize);
+
 /// Holds what a program gave for a day to everything that is known; how the comparison with the Rust ended, or the
 /// first difference in words.
-pub fn check(day: &[u8], given: Result<Vec<u8>, String>) -> Result<Outcome, String> {
+pub fn check(day: &[u8], given: Result<Vec<u8>, String>) -> Result<Compared, String> {
     let given = given?;
-    let outcome = match compare(day, &given).map_err(|words| format!("compare: {words}"))? {
-        Outcome::Differ(words) => return Err(format!("compare: {words}")),
-        outcome => outcome,
-    };
+    let compared = compare_counting(day, &given).map_err(|words| format!("compare: {words}"))?;
+    if let (Outcome::Differ(words), _) = compared {
+        return Err(format!("compare: {words}"));
+    }
     if let Outcome::Differ(words) = judge(day, &given).map_err(|words| format!("judge: {words}"))? {
         return Err(format!("judge: {words}"));
     }
     match first_difference(day, answer(day).as_bytes(), &given)? {
         Some(words) => Err(format!("01: {words}")),
-        None => Ok(outcome),
+        None => Ok(compared),
     }
 }
 
@@ -155,19 +159,26 @@ struct Counts {
     records: usize,
     compared: usize,
     left: usize,
+    /// Days left out from where the S of a scope that a reset turned inactive is read, and their records from there on.
+    apart: (usize, usize),
+    sevens: usize,
     refused_tables: usize,
 }
 
 impl Counts {
-    fn add(&mut self, day: &[u8], outcome: &Outcome) {
-        let records =
-            crate::image::open(day).map(|(_, records)| crate::records::split(records).len());
-        self.refused_tables += usize::from(records.is_err());
-        self.records += records.unwrap_or(0);
+    fn add(&mut self, day: &[u8], (outcome, sevens): &Compared) {
+        let opened = crate::image::open(day);
+        self.refused_tables += usize::from(opened.is_err());
+        let count = opened.map_or(0, |(_, records)| crate::records::split(records).len());
+        self.records += count;
+        self.sevens += sevens;
         match outcome {
-            Outcome::LeftDomain { record, .. } => {
+            Outcome::LeftDomain { record, why } => {
                 self.left += 1;
                 self.compared += record - 1;
+                if let Why::ResetScope(_) = why {
+                    self.apart = (self.apart.0 + 1, self.apart.1 + count + 1 - record);
+                }
             }
             Outcome::Agree { records } => self.compared += records,
             Outcome::Differ(_) => {}
@@ -207,7 +218,8 @@ pub fn beside(
     Ok(run(&cases, sides).map(|counts| {
         format!(
             "{} days: {stored} recorded, {} made, {} damaged ({} refused tables in all); {} records, {} of them compared \
-             with the Rust; {} days left its domain; {}\nno difference",
+             with the Rust; {} days left its domain, {} of them (with {} records) where the S of a scope that a reset turned \
+             inactive is read; {} transitions were refused with 7 before C-14; {}\nno difference",
             cases.len(),
             whole - stored,
             cases.len() - whole,
@@ -215,6 +227,9 @@ pub fn beside(
             counts.records,
             counts.compared,
             counts.left,
+            counts.apart.0,
+            counts.apart.1,
+            counts.sevens,
             by_side.join(", ")
         )
     }))
@@ -243,7 +258,7 @@ fn run(cases: &[Case], sides: &[Side<'_>]) -> Result<Counts, String> {
     Ok(counts)
 }
 
-fn check_case(case: &Case, runner: &Runner<'_>) -> Result<Outcome, String> {
+fn check_case(case: &Case, runner: &Runner<'_>) -> Result<Compared, String> {
     let given = runner(&case.day, LIMIT)?;
     if let Some(recorded) = &case.recorded {
         if let Some(words) = first_difference(&case.day, recorded, &given)? {

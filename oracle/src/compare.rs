@@ -4,6 +4,7 @@
 //! 7, 8 or 9 was due is not judged here but in judge.rs.
 
 use crate::answers::{lines, pop_line, same_pop};
+use crate::domain::Why;
 use crate::image;
 use crate::records::{split, Op, Record};
 use crate::sched::rust_side::{outside_domain, RustSide};
@@ -14,7 +15,7 @@ pub enum Outcome {
     /// Agreed over this many records.
     Agree { records: usize },
     /// Agreed up to a record that leaves 01's domain of comparison; counted from 1.
-    LeftDomain { record: usize, why: String },
+    LeftDomain { record: usize, why: Why },
     /// The first difference, in words.
     Differ(String),
 }
@@ -76,48 +77,62 @@ fn open_refusals(op: &Op) -> &'static [&'static str] {
 }
 
 pub fn compare(day: &[u8], answers: &[u8]) -> Result<Outcome, String> {
+    Ok(compare_counting(day, answers)?.0)
+}
+
+/// The same, and how many accepted transitions 01 would refuse with 7 for an S that 02's C-14 leaves at zero.
+pub fn compare_counting(day: &[u8], answers: &[u8]) -> Result<(Outcome, usize), String> {
     follow(day, answers, &mut |_, _, _, _| {})
 }
 
 /// Both sides' answers to the records, as far as they are compared: each record's number, itself, ours and the Rust's.
 type Seen<'s> = &'s mut dyn FnMut(usize, &Record<'_>, &str, &str);
 
-fn follow(day: &[u8], answers: &[u8], seen: Seen<'_>) -> Result<Outcome, String> {
+fn follow(day: &[u8], answers: &[u8], seen: Seen<'_>) -> Result<(Outcome, usize), String> {
     let answers = lines(answers)?;
     let (table, records) = match table_line(day, &answers) {
         Ok(opened) => opened,
-        Err(outcome) => return Ok(outcome),
+        Err(outcome) => return Ok((outcome, 0)),
     };
     let mut rust = RustSide::new(&table, true);
+    let outcome = each_record(&table, &records, &answers, &mut rust, seen);
+    Ok((outcome, rust.sevens()))
+}
+
+fn each_record(
+    table: &image::Table,
+    records: &[Record<'_>],
+    answers: &[&str],
+    rust: &mut RustSide,
+    seen: Seen<'_>,
+) -> Outcome {
     for (index, record) in records.iter().enumerate() {
         let at = index + 1;
         let got = answers.get(at).copied().unwrap_or(NO_LINE);
-        let (expected, same) = match record.op.refused_by_bytes(&table) {
+        let (expected, same) = match record.op.refused_by_bytes(table) {
             Some(number) => {
                 let expected = format!("refused {number}");
                 let same = got == expected;
                 (expected, same)
             }
-            None => match one_call(&mut rust, &record.op, got) {
+            None => match one_call(rust, &record.op, got) {
                 Ok(answered) => answered,
-                Err(why) => return Ok(Outcome::LeftDomain { record: at, why }),
+                Err(why) => return Outcome::LeftDomain { record: at, why },
             },
         };
         seen(at, record, got, &expected);
         if !same {
-            return Ok(difference(at, record, &expected, got));
+            return difference(at, record, &expected, got);
         }
     }
-    Ok(
-        extra_line(records.len(), &answers).unwrap_or(Outcome::Agree {
-            records: records.len(),
-        }),
-    )
+    extra_line(records.len(), answers).unwrap_or(Outcome::Agree {
+        records: records.len(),
+    })
 }
 
 /// A call that the bytes don't refuse, put to the Rust where it was accepted: what is expected, and whether the answer is that.
 /// `Err` says why 01's domain of comparison is left.
-fn one_call(rust: &mut RustSide, op: &Op, got: &str) -> Result<(String, bool), String> {
+fn one_call(rust: &mut RustSide, op: &Op, got: &str) -> Result<(String, bool), Why> {
     if *op == Op::Pop {
         let expected = pop_line(rust.pop().as_ref());
         let same = same_pop(&expected, got);
@@ -148,7 +163,7 @@ pub type Row = [String; 4];
 /// `oracle aside`: the rows of a comparison, and how it ended.
 pub fn aside(day: &[u8], answers: &[u8]) -> Result<(Vec<Row>, Outcome), String> {
     let mut rows = Vec::new();
-    let outcome = follow(day, answers, &mut |at, record, ours, rust| {
+    let (outcome, _) = follow(day, answers, &mut |at, record, ours, rust| {
         rows.push([
             at.to_string(),
             record.to_string(),

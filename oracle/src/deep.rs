@@ -11,7 +11,8 @@
 //! - N: number of the record, from 1. TAG: `OFFSET.MICROSTEP`, or `-` for none.
 //! - C: 1 if what comes next is control only, else 0. W: ordinary events waiting.
 //! - BITS: one 0 or 1 a scope, scope 0 first.
-//! - CLOCKS: one a scope, joined by commas, each `G:L:ALLOWED:S` with tags as above and allowed 0 or 1.
+//! - CLOCKS: one a scope, joined by commas, each `G:L:ALLOWED:S` with tags as above and allowed 0 or 1. `?` in the place of S: a reset
+//!   turned the scope inactive, and the Rust has S from c where 02's C-14 has zero (domain.rs). deep-plain never prints it.
 //! - HEADS: least tag of each queue, joined by commas: the root's, then each scope's own local tag, active or not.
 //! - VALUES: `ACTION:OFFSET.MICROSTEP:VALUE`, ascending by action then tag, joined by commas, `-` if there are none.
 //!   `ACTION:?` in the place of an action's values: the Rust's padded store would have grown too large, so that
@@ -25,6 +26,7 @@
 use std::io::{self, Write};
 
 use crate::answers::{joined, lines};
+use crate::domain::Why;
 use crate::image::{self, RawTag, Table};
 use crate::plain::{self, Plain};
 use crate::records::{split, Op, Record};
@@ -67,19 +69,26 @@ struct Clock {
     global: WideTag,
     local: WideTag,
     allowed: bool,
-    suspended: WideTag,
+    /// None where it is not compared.
+    suspended: Option<WideTag>,
+}
+
+impl Clock {
+    fn same(&self, other: &Self) -> bool {
+        let compared = self.suspended.is_some() && other.suspended.is_some();
+        (self.global, self.local, self.allowed) == (other.global, other.local, other.allowed)
+            && (!compared || self.suspended == other.suspended)
+    }
 }
 
 impl std::fmt::Display for Clock {
     fn fmt(&self, f: &mut std::fmt::Formatter<'_>) -> std::fmt::Result {
-        write!(
-            f,
-            "{}:{}:{}:{}",
-            self.global,
-            self.local,
-            u8::from(self.allowed),
-            self.suspended
-        )
+        let allowed = u8::from(self.allowed);
+        write!(f, "{}:{}:{allowed}:", self.global, self.local)?;
+        match self.suspended {
+            Some(tag) => write!(f, "{tag}"),
+            None => f.write_str("?"),
+        }
     }
 }
 
@@ -120,14 +129,14 @@ impl Snapshot {
             held: Vec::new(),
             buckets: Vec::new(),
         };
-        for scope in rust.scopes() {
+        for (number, scope) in rust.scopes().enumerate() {
             snapshot.active.push(scope.active);
             snapshot.ever.push(scope.ever);
             snapshot.clocks.push(Clock {
                 global: scope.clock.global.into(),
                 local: scope.clock.local.into(),
                 allowed: scope.clock.allowed,
-                suspended: scope.clock.suspended.into(),
+                suspended: (!rust.is_apart(number)).then(|| scope.clock.suspended.into()),
             });
             snapshot.heads.push(scope.head.map(WideTag::from));
         }
@@ -185,7 +194,7 @@ impl Snapshot {
                     global: clock.global.into(),
                     local: clock.local.into(),
                     allowed: clock.allowed,
-                    suspended: clock.suspended.into(),
+                    suspended: Some(clock.suspended.into()),
                 })
                 .collect(),
             heads: std::iter::once(None)
@@ -203,18 +212,20 @@ impl Snapshot {
         }
     }
 
-    /// Name of the first field in which two states differ; buckets and values given up aside.
+    /// Name of the first field in which two states differ; buckets, values given up and an S that is apart aside.
     fn first_difference(&self, other: &Self) -> Option<&'static str> {
         let same_held = |(one, two): (&Held, &Held)| {
             *one == Held::GivenUp || *two == Held::GivenUp || one == two
         };
+        let same_clocks = self.clocks.len() == other.clocks.len()
+            && (self.clocks.iter().zip(&other.clocks)).all(|(one, two)| one.same(two));
         let fields = [
             ("peek", self.peek == other.peek),
             ("control", self.control_only == other.control_only),
             ("work", self.work == other.work),
             ("active", self.active == other.active),
             ("ever", self.ever == other.ever),
-            ("clocks", self.clocks == other.clocks),
+            ("clocks", same_clocks),
             ("heads", self.heads == other.heads),
             (
                 "values",
@@ -293,7 +304,7 @@ pub fn applied(
 }
 
 /// Applies one record to the Rust; the reason if that leaves 01's domain.
-fn apply(rust: &mut RustSide, op: &Op) -> Option<String> {
+fn apply(rust: &mut RustSide, op: &Op) -> Option<Why> {
     if let Some(why) = outside_domain(op) {
         return Some(why);
     }
@@ -353,7 +364,7 @@ pub fn print_plain(day: &[u8], out: &mut impl Write) -> io::Result<()> {
 
 /// Runs a day on both sides and compares the states after every record, to the end or to where the domain is left.
 /// Also holds refusal 7 against the Rust: an accepted call leaves no tag beyond the limits there, and a call refused
-/// with 7 would. The error says record and field.
+/// with 7 would, unless it reads an S that is apart. The error says record and field.
 pub fn agree(day: &[u8]) -> Result<(), String> {
     let Ok((table, records)) = image::open(day) else {
         return Ok(());
@@ -366,11 +377,12 @@ pub fn agree(day: &[u8]) -> Result<(), String> {
         let at = index + 1;
         match plain.step(&record.op) {
             plain::Outcome::Refused(plain::OVERRUN) => {
-                let mut trial = RustSide::new(&table, false);
+                let mut trial = RustSide::new(&table, true);
                 for op in accepted.iter().chain([&record.op]) {
                     apply_anyhow(&mut trial, op);
                 }
-                if trial.beyond_limits().is_none() {
+                let apart = matches!(trial.left_domain(), Some(Why::ResetScope(_)));
+                if !apart && trial.beyond_limits().is_none() {
                     return Err(format!(
                         "record {at} was refused 7, but the Rust's tags stay within the limits"
                     ));

@@ -9,6 +9,7 @@ pub mod calls;
 pub mod compare;
 pub mod days;
 pub mod deep;
+pub mod domain;
 pub mod image;
 pub mod judge;
 pub mod laps;

@@ -1,4 +1,4 @@
-//! The plain machine, read off 01 as it stands: events in one list in order of acceptance, values and buckets in
+//! The plain machine, read off 01 and the changes of 02 as they stand: events in one list in order of acceptance, values and buckets in
 //! lists, limits of 256, refusals in order, a transition on a copy of the state. Simple before fast. It shares
 //! nothing with the published Rust; the two are compared.
 
@@ -518,7 +518,11 @@ impl<'t> Plain<'t> {
             let active = is_active(self.table, &self.state.modes, scope);
             match (self.state.active[scope], active) {
                 (true, false) => {
-                    self.state.clocks[scope].suspended = self.state.clocks[scope].to_local(now)?;
+                    // 02, C-14: in a reset subtree S keeps at zero.
+                    if !in_reset(scope) {
+                        let clock = &mut self.state.clocks[scope];
+                        clock.suspended = clock.to_local(now)?;
+                    }
                     self.state.active[scope] = false;
                 }
                 (false, true) => {

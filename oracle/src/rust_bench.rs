@@ -306,6 +306,7 @@ impl Bench {
             schedule,
             manager,
             stores,
+            ..
         } = &mut self.rust;
         manager.apply_transition(ReactorKey(reactor), &request, schedule, stores, tag);
         Ok(())

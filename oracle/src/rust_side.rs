@@ -3,6 +3,7 @@
 use super::modal::{clock_map, ClockView, EventManager};
 use super::{ModeTransition, Schedule};
 use crate::answers::Ready;
+use crate::domain::{Apart, Turn, Why};
 use crate::image::{RawTag, Table, MAX_MICROSTEP, MAX_OFFSET};
 use crate::records::Op;
 use crate::schedule::{rust_tag, ActionKey, ModeKey, ReactionKey, ReactorKey, TableSchedule};
@@ -24,16 +25,25 @@ pub struct RustSide {
     pub(super) schedule: TableSchedule,
     pub(super) manager: EventManager<TableSchedule>,
     pub(super) stores: Stores,
+    /// Kept where the domain is watched.
+    apart: Option<Apart>,
+}
+
+/// A tag beyond 01's limits. The Rust knows none.
+fn beyond(tag: Tag) -> bool {
+    !(0..=i128::from(MAX_OFFSET)).contains(&tag.offset().whole_nanoseconds())
+        || tag.microstep() > MAX_MICROSTEP as usize
 }
 
 impl RustSide {
-    /// A fresh manager. `watching` looks for value moves that leave 01's domain.
+    /// A fresh manager. `watching` looks for what leaves 01's domain.
     pub fn new(table: &Table, watching: bool) -> Self {
         let schedule = TableSchedule::new(table);
         let manager = EventManager::new(schedule.limits(), &schedule, false);
         Self {
             manager,
             stores: Stores::new(schedule.action_capacity(), watching),
+            apart: watching.then(|| Apart::new(table.scopes.len())),
             schedule,
         }
     }
@@ -105,6 +115,7 @@ impl RustSide {
                 &self.schedule,
             ),
             Call::Transition(reactor, target, transition, tag) => {
+                let before: Option<Vec<bool>> = self.apart.is_some().then(|| self.active());
                 self.stores.begin_transition();
                 let request = ModeTransition {
                     target: *target,
@@ -117,8 +128,41 @@ impl RustSide {
                     &mut self.stores,
                     *tag,
                 );
+                if let Some(before) = before {
+                    self.note(*target, *transition, &before);
+                }
             }
             Call::Pop => {}
+        }
+    }
+
+    fn active(&self) -> Vec<bool> {
+        let active = |scope| self.manager.scope_active(scope);
+        self.schedule.scopes().map(active).collect()
+    }
+
+    /// What the transition just applied made of the scopes, for C-14.
+    fn note(&mut self, target: ModeKey, transition: TransitionKind, before: &[bool]) {
+        let mut inside = vec![false; before.len()];
+        if matches!(transition, TransitionKind::Reset) {
+            let target = self.schedule.scope_for_mode(target);
+            for scope in self.schedule.descendant_scopes(target) {
+                inside[usize::from(scope.0)] = true;
+            }
+        }
+        let scopes = self.schedule.scopes().zip(inside).zip(before);
+        let turns = scopes.map(|((scope, inside), &before)| {
+            let suspended = self.manager.clock_view(scope).suspended;
+            Turn {
+                inside,
+                before,
+                after: self.manager.scope_active(scope),
+                zero: suspended == Tag::ZERO,
+                beyond: beyond(suspended),
+            }
+        });
+        if let Some(apart) = &mut self.apart {
+            apart.note(turns);
         }
     }
 
@@ -159,8 +203,19 @@ impl RustSide {
     }
 
     /// Why the transition just applied left 01's domain, if it did.
-    pub fn left_domain(&self) -> Option<String> {
-        self.stores.clash()
+    pub fn left_domain(&self) -> Option<Why> {
+        let read = self.apart.as_ref().and_then(Apart::read);
+        read.map(Why::ResetScope).or_else(|| self.stores.clash())
+    }
+
+    /// Accepted transitions that 01 refuses with 7 for the S of a scope in the reset subtree, and 02's C-14 does not.
+    pub fn sevens(&self) -> usize {
+        self.apart.as_ref().map_or(0, Apart::sevens)
+    }
+
+    /// Whether a scope's S is zero by C-14 and another tag here.
+    pub fn is_apart(&self, scope: usize) -> bool {
+        self.apart.as_ref().is_some_and(|apart| apart.has(scope))
     }
 
     pub fn stores(&self) -> &Stores {
@@ -179,13 +234,11 @@ impl RustSide {
         self.manager.work_count()
     }
 
-    /// A tag of the state that lies beyond 01's limits, if there is one. The Rust knows no limits, so a call that
-    /// 01 refuses with 7 leaves one behind, and an accepted one never does.
+    /// A tag of the state that lies beyond 01's limits, if there is one, the S of scopes that are apart aside. The Rust
+    /// knows no limits, so a call that 01 refuses with 7 leaves one behind, and an accepted one never does.
     pub fn beyond_limits(&self) -> Option<Tag> {
-        self.manager.all_tags().into_iter().find(|tag| {
-            !(0..=i128::from(MAX_OFFSET)).contains(&tag.offset().whole_nanoseconds())
-                || tag.microstep() > MAX_MICROSTEP as usize
-        })
+        let tags = self.manager.all_tags(|scope| self.is_apart(scope));
+        tags.into_iter().find(|&tag| beyond(tag))
     }
 
     pub fn root_head(&self) -> Option<Tag> {
@@ -212,11 +265,9 @@ pub(crate) struct ScopeView {
 }
 
 /// Whether a record is outside 01's domain of comparison before it is applied.
-pub fn outside_domain(op: &Op) -> Option<String> {
+pub fn outside_domain(op: &Op) -> Option<Why> {
     match op {
-        Op::Transition { tag, .. } if tag.microstep == MAX_MICROSTEP => {
-            Some("a transition at the microstep limit".to_string())
-        }
+        Op::Transition { tag, .. } if tag.microstep == MAX_MICROSTEP => Some(Why::MicrostepLimit),
         _ => None,
     }
 }

@@ -1,6 +1,7 @@
 //! `ExecutionStorage`: one published store of u64 an action. A value pushed by the manager is 0.
 
 use crate::action::store::ActionStore;
+use crate::domain::Why;
 use crate::sched::ExecutionStorage;
 use crate::schedule::{ActionKey, TableSchedule};
 use crate::{ReactorData, Tag};
@@ -42,12 +43,9 @@ impl Stores {
     }
 
     /// Why the last transition left 01's domain, if it did.
-    pub fn clash(&self) -> Option<String> {
+    pub fn clash(&self) -> Option<Why> {
         self.clash.map(|((action, from, to), (_, _, other))| {
-            format!(
-                "two value moves of action {} from {from}, to {to} and to {other}",
-                action.0
-            )
+            Why::Moves(action.0, format!("from {from}, to {to} and to {other}"))
         })
     }
 

@@ -3,7 +3,7 @@
 
 use std::collections::BTreeMap;
 
-use crate::compare::{compare, Outcome};
+use crate::compare::{compare_counting, Outcome};
 use crate::deep;
 use crate::image;
 use crate::judge::judge;
@@ -21,10 +21,12 @@ struct Counts {
     transitions: usize,
     /// By line, as "refused 7".
     refusals: BTreeMap<String, usize>,
-    /// By reason.
-    left: BTreeMap<String, usize>,
+    /// Days and their records that were left out, by reason.
+    left: BTreeMap<String, (usize, usize)>,
     /// Records before the domain was left.
     compared: usize,
+    /// Transitions that are no longer refused with 7.
+    sevens: usize,
 }
 
 pub fn sweep(from: u64, to: u64, kind: Option<&str>) -> Result<String, String> {
@@ -39,19 +41,18 @@ pub fn sweep(from: u64, to: u64, kind: Option<&str>) -> Result<String, String> {
             one(&day, &mut counts).map_err(|words| format!("seed {seed} kind {kind}: {words}"))?;
         }
     }
-    let by = |counts: &BTreeMap<String, usize>| {
-        let items: Vec<String> = counts
-            .iter()
-            .map(|(what, count)| format!("{what}: {count}"))
-            .collect();
-        match items[..] {
-            [] => "none".to_string(),
-            _ => items.join(", "),
-        }
+    let by = |items: Vec<String>| match items[..] {
+        [] => "none".to_string(),
+        _ => items.join(", "),
+    };
+    let refusal = |(what, count): (&String, &usize)| format!("{what}: {count}");
+    let reason = |(why, (days, records)): (&String, &(usize, usize))| {
+        format!("{why}: {days} with {records} records left out")
     };
     Ok(format!(
         "{} days ({} refused tables), {} records, {} of them compared with the Rust; \
-         {} ready, {} nothing, {} transitions accepted; refusals: {}; days that left the domain: {}\nno difference",
+         {} ready, {} nothing, {} transitions accepted, {} of them refused with 7 before C-14; refusals: {}; \
+         days that left the domain: {}\nno difference",
         counts.days,
         counts.refused_tables,
         counts.records,
@@ -59,21 +60,24 @@ pub fn sweep(from: u64, to: u64, kind: Option<&str>) -> Result<String, String> {
         counts.ready,
         counts.nothing,
         counts.transitions,
-        by(&counts.refusals),
-        by(&counts.left)
+        counts.sevens,
+        by(counts.refusals.iter().map(refusal).collect()),
+        by(counts.left.iter().map(reason).collect())
     ))
 }
 
 fn one(day: &[u8], counts: &mut Counts) -> Result<(), String> {
     let answers = answer(day);
     counts.days += 1;
-    match compare(day, answers.as_bytes())? {
+    let (outcome, sevens) = compare_counting(day, answers.as_bytes())?;
+    counts.sevens += sevens;
+    match outcome {
         Outcome::Agree { records } => counts.compared += records,
         Outcome::LeftDomain { record, why } => {
             counts.compared += record - 1;
-            // The reason without its numbers.
-            let why = why.split(" of action").next().unwrap_or("").to_string();
-            *counts.left.entry(why).or_default() += 1;
+            let left = counts.left.entry(why.kind().to_string()).or_default();
+            left.0 += 1;
+            left.1 += answers.lines().count() - record;
         }
         Outcome::Differ(words) => return Err(format!("compare: {words}")),
     }

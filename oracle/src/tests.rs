@@ -1,6 +1,8 @@
 //! Small days in the text form of text.rs, and what must come out of them.
 
-use crate::compare::{aside, compare, table, Outcome};
+use crate::beside::check;
+use crate::compare::{aside, compare, compare_counting, table, Outcome};
+use crate::domain::Why;
 use crate::judge::judge;
 use crate::make::{make, KINDS};
 use crate::text::{assemble, numbered_lines_of};
@@ -52,13 +54,83 @@ fn a_pop_stops_where_the_least_scope_head_falls_below_its_tag() {
     assert_eq!(heads, ["ready 100 7", "ready 100 3", "ready 100 7"]);
 }
 
+/// The plain machine's answers, and where the comparison with the Rust leaves off; judge and the states agree.
+fn parted(day: &[u8]) -> (Vec<String>, Result<(Outcome, usize), String>) {
+    let answers = plain::answer(day);
+    assert!(matches!(
+        judge(day, answers.as_bytes()),
+        Ok(Outcome::Agree { .. })
+    ));
+    assert_eq!(deep::agree(day), Ok(()));
+    let compared = compare_counting(day, answers.as_bytes());
+    (answers.lines().map(str::to_string).collect(), compared)
+}
+
+fn apart_at(record: usize, sevens: usize) -> Result<(Outcome, usize), String> {
+    let why = Why::ResetScope(4);
+    Ok((Outcome::LeftDomain { record, why }, sevens))
+}
+
 #[test]
-fn a_reset_scope_that_goes_inactive_is_suspended_by_the_clock_of_step_1() {
+fn a_reset_scope_that_goes_inactive_keeps_s_at_zero() {
+    let (answers, compared) = parted(&day(&format!(
+        "{TN} timer 0 5 0; transition 1 2 history 10 0; transition 0 0 reset 30 0;
+         transition 1 2 history 50 0; pop"
+    )));
+    assert!(answers[4].starts_with("ready 55 0 "));
+    assert_eq!(compared, apart_at(3, 0));
+}
+
+#[test]
+fn the_rust_is_compared_on_where_another_reset_makes_s_zero_there_too() {
+    for again in [
+        "transition 0 0 reset 40 0; transition 1 2 history 50 0",
+        "transition 1 2 reset 50 0",
+    ] {
+        let day = day(&format!(
+            "{TN} timer 0 5 0; transition 1 2 history 10 0; transition 0 0 reset 30 0; {again}; pop"
+        ));
+        assert!(answers(&day).last().unwrap().starts_with("ready 55 0 "));
+    }
+}
+
+#[test]
+fn an_s_that_is_zero_in_the_rust_as_well_is_not_apart() {
+    let day = day(&format!(
+        "{TN} timer 0 5 0; transition 1 2 history 30 0; transition 0 0 reset 30 0;
+         transition 1 2 history 50 0; pop"
+    ));
+    assert!(answers(&day)[4].starts_with("ready 55 0 "));
+}
+
+#[test]
+fn a_seven_that_is_no_longer_given_is_told_apart_and_judged() {
+    let text = |rest: &str| {
+        day(&format!(
+            "{TN} transition 1 2 history 10 0; transition 0 0 reset 5 0; {rest} pop"
+        ))
+    };
+    let (answers, compared) = parted(&text(""));
+    assert_eq!(answers[2], "ok");
+    assert_eq!(compared, Ok((Outcome::Agree { records: 3 }, 1)));
+    let (_, compared) = parted(&text("transition 1 2 history 20 0;"));
+    assert_eq!(compared, apart_at(3, 1));
+    let as_before = "table ok\nok\nrefused 7\nnothing\n";
+    match judge(&text(""), as_before.as_bytes()) {
+        Ok(Outcome::Differ(words)) => assert!(words.starts_with("record 2 "), "{words}"),
+        other => panic!("{other:?}"),
+    }
+}
+
+#[test]
+fn the_rust_s_answers_after_c_14_parts_the_two_are_not_ours() {
     let day = day(&format!(
         "{TN} timer 0 5 0; transition 1 2 history 10 0; transition 0 0 reset 30 0;
          transition 1 2 history 50 0; pop"
     ));
-    assert!(answers(&day)[4].starts_with("ready 50 1 "));
+    let rust = plain::answer(&day).replace("ready 55 0", "ready 50 1");
+    let words = check(&day, Ok(rust.into_bytes())).unwrap_err();
+    assert!(words.starts_with("01: record 4 "), "{words}");
 }
 
 /// A timer's event and a push stand at one stored tag, with unlike local tags.
@@ -74,7 +146,7 @@ fn moves_of_one_value_to_unlike_tags_leave_the_domain() {
     let day = two_moves("timer 0 0 3; transition 0 1 reset 10 0;");
     let answers = plain::answer(&day);
     match compare(&day, answers.as_bytes()) {
-        Ok(Outcome::LeftDomain { record: 6, why }) => assert!(why.starts_with("two value moves")),
+        Ok(Outcome::LeftDomain { record: 6, why }) => assert!(matches!(why, Why::Moves(0, _))),
         other => panic!("{other:?}"),
     }
 }

@@ -272,6 +272,7 @@ fn run(rust: &mut RustSide, calls: &[Call]) {
 mod tests {
     use super::*;
     use crate::days::recorded;
+    use crate::domain::Why;
     use crate::text::assemble;
     use crate::{rust_bench, rust_usual};
 
@@ -288,7 +289,7 @@ mod tests {
         text.lines().collect()
     }
 
-    /// Recorded days that the Rust can answer to the end: none of 01's refusals that it knows nothing of.
+    /// Recorded days without 01's refusals that the Rust knows nothing of, each to its end or to where 02's C-14 parts it from the Rust.
     #[test]
     fn the_rust_s_bench_gives_the_recorded_answers() {
         let folder = concat!(env!("CARGO_MANIFEST_DIR"), "/../days");
@@ -301,7 +302,15 @@ mod tests {
                 continue;
             }
             let given = rust_lines(&case.day[..]);
-            let same = same_lines(&as_lines(&stored), &as_lines(&given));
+            let end = match compare(&case.day, stored.as_bytes()) {
+                Ok(Outcome::LeftDomain {
+                    record,
+                    why: Why::ResetScope(_),
+                }) => record,
+                _ => usize::MAX,
+            };
+            let front = |text| -> Vec<&str> { as_lines(text).into_iter().take(end).collect() };
+            let same = same_lines(&front(&stored), &front(&given));
             assert_eq!(same, Ok(()), "{}", case.name);
             compared += 1;
             refused += given.matches("\nrefused ").count();

@@ -34,20 +34,17 @@ impl<S: Schedule> EventManager<S> {
         self.nonterminal_work_count
     }
 
-    /// Every tag of the state: events' tags and stored tags, global images in active scopes, clocks.
-    pub(crate) fn all_tags(&self) -> Vec<Tag> {
+    /// Every tag of the state: events' tags and stored tags, global images in active scopes, clocks; the S of a scope that is apart aside.
+    pub(crate) fn all_tags(&self, apart: impl Fn(usize) -> bool) -> Vec<Tag> {
         let mut tags = Vec::new();
         for (tag, stored) in self.root.tags() {
             tags.push(tag);
             tags.extend(stored);
         }
-        for &scope in &self.scopes {
+        for (number, &scope) in self.scopes.iter().enumerate() {
             let clock = &self.scope_clocks[scope];
-            tags.extend([
-                clock.activation_global,
-                clock.activation_local,
-                clock.suspended_local,
-            ]);
+            tags.extend([clock.activation_global, clock.activation_local]);
+            tags.extend((!apart(number)).then_some(clock.suspended_local));
             for (tag, stored) in self.scope_queues[scope].tags() {
                 tags.push(tag);
                 tags.extend(stored);

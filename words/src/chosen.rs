@@ -94,7 +94,7 @@ fn concerns_scope(scope: u64, record: &Record, table: &Table, state: &State) -> 
 /// A transition that changes a scope's clock, or resets what it lies in.
 fn turns_scope(scope: u64, record: &Record, table: &Table, state: &State) -> bool {
     let i = scope as usize;
-    let reset = record.call[3] == 1 && table.inside(scope, table.row(2, record.call[2])[0]);
+    let reset = table.resets(record, scope);
     let changed = record.turns() && state.scopes.get(i) != record.scopes.get(i);
     reset || changed
 }

@@ -142,6 +142,12 @@ impl Table {
         true
     }
 
+    /// Whether a record asks for a reset of what a scope lies in.
+    pub fn resets(&self, record: &Record, scope: u64) -> bool {
+        let [op, _, mode, kind, ..] = record.call;
+        op == 5 && kind == 1 && self.inside(scope, self.row(2, mode)[0])
+    }
+
     /// The timers that a transition by reset to a mode starts: their numbers and fields.
     pub fn started(&self, mode: u64) -> impl Iterator<Item = (u64, [u64; 3])> + '_ {
         let outer = self.row(2, mode)[0];

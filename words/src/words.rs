@@ -632,6 +632,9 @@ impl Telling<'_> {
 
     fn scope_words(&self, old: &Scope, new: &Scope) -> Option<String> {
         match (old.active, new.active) {
+            (true, false) if new.suspended == Tag::default() => {
+                Some("stops at local zero".to_string())
+            }
             (true, false) => Some(format!("stops at local {}", self.time(new.suspended))),
             (false, true) if new.activation_local == Tag::default() => {
                 Some("starts at local zero".to_string())
@@ -650,13 +653,10 @@ impl Telling<'_> {
     fn why(&self, number: &str, record: &Record) -> String {
         let table = self.table;
         let [op, first, second, ..] = record.call;
-        // a scope that sleeps is not stopped, and need not map
-        let stops = |scope: u64| {
-            op == 4
-                || self
-                    .scopes
-                    .get(scope as usize)
-                    .is_some_and(|scope| scope.active)
+        // a scope that sleeps is not stopped, and one that the reset has put to zero is not asked where it stands: neither need map
+        let stops = |i: u64| {
+            let active = self.scopes.get(i as usize).is_some_and(|s| s.active);
+            op == 4 || (active && !table.resets(record, i))
         };
         let unmapped: Vec<String> = record
             .locals

@@ -20,7 +20,7 @@ use Rattle.store.specs.Store as S
 use Rattle.store.specs.Store.{Store}
 use Rattle.table_schedule.specs.Schedule.{isActive, triggersOf, startupsOf, resetsOf}
 use Rattle.machine.specs.Table.{scopes, reactors, actions}
-use Rattle.machine.specs.State.{Event, Scope, State, root, scopeAt, clockAt, everAt, clocked, marked}
+use Rattle.machine.specs.State.{Event, Scope, State, scopeAt, clockAt, everAt, clocked, marked}
 use Rattle.machine.specs.State.{withModes, withScopes, withQueue, withStore, accepted, without, stamped, inQueue, rootEvent}
 
 abbrev pub Step : Type 0
@@ -79,12 +79,12 @@ prepared img r m reset s =
 
 -- ---- 3. "Scopes ascending."
 
--- "Going inactive: S is c mapped to local."
+-- "Going inactive: S is c mapped to local"; 02, C-14: "a scope in the reset subtree that goes inactive keeps S at zero", as step 1 has made it
 abbrev pub suspended : Clock → Tag → Clock
 suspended k t = record { G = k .G; L = k .L; allowed = k .allowed; S = t }
 
-unfoldable pub leaving : Tag → Clock → Result Refusal Clock
-leaving c k = toLocal k c >>= λ t. done (suspended k t)
+unfoldable pub leaving : Tag → Bool → Clock → Result Refusal Clock
+leaving c inside k = cond inside (done k) (toLocal k c >>= λ t. done (suspended k t))
 
 -- "Going active: G = c, allowed no, L = S (zero in a reset subtree)": step 1 has made S zero there
 abbrev pub activated : Tag → Clock → Clock
@@ -100,7 +100,7 @@ staying c inside k = cond inside (restarted c) k
 -- a scope's clock after its turn: was it active, is it now
 unfoldable pub clockAfter : Tag → Bool → Bool → Scope → Result Refusal Clock
 clockAfter c now inside x =
-    cond (x .active) (cond now (done (staying c inside (x .clock))) (leaving c (x .clock)))
+    cond (x .active) (cond now (done (staying c inside (x .clock))) (leaving c inside (x .clock)))
     (done (cond now (activated c (x .clock)) (x .clock)))
 
 abbrev pub isTag : Answer → Bool

@@ -14,6 +14,7 @@ use Rattle.machine_days.specs.Computed.{dayOf, longDayOf, askedOf, scope
 
 -- A gate's worked hour: the hold timer, the lamp and the pass, through locking, history and reset
 -- The text of docs/MODES.md and its picture; a minute is 60000000000 nanoseconds.
+-- The Rust is compared up to call 21, where the S of scope 5, which a reset turned inactive, is read (02, C-14).
 abbrev pub hour-image : Image
 hour-image =
     0 ∷ 0 ∷ 0 ∷ 149 ∷ 1 ∷ 0 ∷ 6 ∷ 0 ∷ 2 ∷ 0 ∷ 4 ∷ 0 ∷ 4 ∷ 0 ∷ 4 ∷ 0 ∷ 3 ∷ 0 ∷ 0 ∷ 0 ∷ 0 ∷ 0 ∷ 3 ∷ 255 ∷
@@ -43,6 +44,12 @@ hour-calls =
     transit 0 1 false (at 5100000000000 0) ∷
     pop ∷
     transit 0 0 true (at 6000000000000 0) ∷
+    transit 1 3 false (at 6300000000000 0) ∷
+    pop ∷
+    pop ∷
+    transit 0 0 true (at 7500000000000 0) ∷
+    transit 1 3 false (at 7800000000000 0) ∷
+    pop ∷
     pop ∷
     pop ∷
     pop ∷
@@ -67,31 +74,38 @@ pub hour : longDayOf hour-image hour-calls ≡
           ok ∷
           nothing ∷
           ok ∷
+          ok ∷
+          ready (record { tag = at 7020000000000 0; terminal = false; work = true; network = false; reactions = 4 ∷ 0 ∷ []; actions = 2 ∷ [] }) ∷
           ready (record { tag = at 7200000000000 0; terminal = false; work = true; network = false; reactions = 1 ∷ 0 ∷ []; actions = 0 ∷ [] }) ∷
-          ready (record { tag = at 9600000000000 0; terminal = false; work = true; network = false; reactions = 2 ∷ 0 ∷ []; actions = 1 ∷ [] }) ∷
+          ok ∷
+          ok ∷
+          ready (record { tag = at 8520000000000 0; terminal = false; work = true; network = false; reactions = 4 ∷ 0 ∷ []; actions = 2 ∷ [] }) ∷
+          ready (record { tag = at 8700000000000 0; terminal = false; work = true; network = false; reactions = 1 ∷ 0 ∷ []; actions = 0 ∷ [] }) ∷
+          ready (record { tag = at 11100000000000 0; terminal = false; work = true; network = false; reactions = 2 ∷ 0 ∷ []; actions = 1 ∷ [] }) ∷
           nothing ∷
           [];
       end =
           record {
-            modes = 0 ∷ 2 ∷ [];
+            modes = 0 ∷ 3 ∷ [];
             scopes =
                 scope (clock (at 0 0) (at 0 0) true (at 0 0)) true true ∷
-                scope (clock (at 6000000000000 0) (at 0 0) false (at 0 0)) true true ∷
+                scope (clock (at 7500000000000 0) (at 0 0) false (at 0 0)) true true ∷
                 scope (clock (at 5100000000000 0) (at 1200000000000 0) false (at 2100000000000 0)) false true ∷
-                scope (clock (at 6000000000000 0) (at 0 0) false (at 0 0)) true true ∷
-                scope (clock (at 6000000000000 0) (at 0 0) false (at 0 0)) true true ∷
-                scope (clock (at 4680000000000 0) (at 0 0) false (at 0 0)) false true ∷
+                scope (clock (at 7500000000000 0) (at 0 0) false (at 0 0)) true true ∷
+                scope (clock (at 7500000000000 0) (at 0 0) false (at 300000000000 0)) false true ∷
+                scope (clock (at 7800000000000 0) (at 0 0) false (at 0 0)) true true ∷
                 [];
-            waiting =
-                record { queue = 5; tag = (at 720000000000 0); reactions = 4 ∷ 0 ∷ []; terminal = false; control = false; network = false; action = 2; stored = (at 5400000000000 0) } ∷
-                [];
-            work = 1;
+            waiting = [];
+            work = 0;
             store =
                 record {
                   values =
-                      value 0 (at 7200000000000 0) 0 ∷ value 1 (at 9600000000000 0) 0 ∷ value 2 (at 5400000000000 0) 0 ∷
+                      value 0 (at 8700000000000 0) 0 ∷ value 1 (at 11100000000000 0) 0 ∷ value 2 (at 8520000000000 0) 0 ∷
                       [];
-                  buckets = bucket 0 7200000000000 1 ∷ bucket 1 9600000000000 1 ∷ bucket 2 5400000000000 1 ∷ [];
+                  buckets =
+                      bucket 0 8700000000000 1 ∷ bucket 1 11100000000000 1 ∷ bucket 2 7020000000000 1 ∷
+                      bucket 2 8520000000000 1 ∷
+                      [];
                 };
           };
     }

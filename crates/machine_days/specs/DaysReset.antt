@@ -74,6 +74,113 @@ pub reset-drops-asked : askedOf reset-drops-image reset-drops-calls ≡
 unfolding askedOf
 reset-drops-asked = refl
 
+-- READINGS-02, C-14: after that reset a push at (20,0) is accepted, and one before G, at (9,0), is 7.
+-- The Rust is compared up to call 5, where the S of scope 4, which a reset turned inactive, is read (02, C-14).
+abbrev pub reset-from-nothing-push-image : Image
+reset-from-nothing-push-image =
+    0 ∷ 0 ∷ 0 ∷ 72 ∷ 1 ∷ 0 ∷ 5 ∷ 0 ∷ 2 ∷ 0 ∷ 3 ∷ 0 ∷ 0 ∷ 0 ∷ 1 ∷ 0 ∷ 0 ∷ 0 ∷ 0 ∷ 0 ∷ 0 ∷ 0 ∷ 0 ∷ 255 ∷
+    255 ∷ 0 ∷ 0 ∷ 255 ∷ 255 ∷ 0 ∷ 0 ∷ 0 ∷ 0 ∷ 0 ∷ 0 ∷ 0 ∷ 1 ∷ 0 ∷ 1 ∷ 255 ∷ 255 ∷ 0 ∷ 2 ∷ 0 ∷ 1 ∷ 0 ∷
+    1 ∷ 0 ∷ 2 ∷ 0 ∷ 1 ∷ 0 ∷ 2 ∷ 0 ∷ 0 ∷ 0 ∷ 0 ∷ 0 ∷ 2 ∷ 0 ∷ 1 ∷ 0 ∷ 1 ∷ 0 ∷ 0 ∷ 0 ∷ 3 ∷ 0 ∷ 1 ∷ 0 ∷ 4 ∷
+    0 ∷ 1 ∷ 0 ∷ 4 ∷ 1 ∷
+    []
+
+abbrev pub reset-from-nothing-push-calls : List Call
+reset-from-nothing-push-calls =
+    transit 1 2 false (at 10 0) ∷
+    transit 0 0 true (at 30 0) ∷
+    action 0 (at 20 0) false [] ∷
+    action 0 (at 9 0) false [] ∷
+    transit 1 2 false (at 50 0) ∷
+    pop ∷
+    []
+
+pub reset-from-nothing-push : dayOf reset-from-nothing-push-image reset-from-nothing-push-calls ≡
+    record {
+      replies =
+          ok ∷
+          ok ∷
+          ok ∷
+          refusal R.MappedTag ∷
+          ok ∷
+          ready (record { tag = at 60 0; terminal = false; work = true; network = false; reactions = 0 ∷ 0 ∷ []; actions = 0 ∷ [] }) ∷
+          [];
+      end =
+          record {
+            modes = 0 ∷ 2 ∷ [];
+            scopes =
+                scope (clock (at 0 0) (at 0 0) true (at 0 0)) true true ∷
+                scope (clock (at 30 0) (at 0 0) false (at 0 0)) true true ∷
+                scope (clock (at 30 0) (at 0 0) false (at 0 0)) true true ∷
+                scope (clock (at 30 0) (at 0 0) false (at 20 0)) false true ∷
+                scope (clock (at 50 0) (at 0 0) false (at 0 0)) true true ∷
+                [];
+            waiting = [];
+            work = 0;
+            store = record { values = []; buckets = [] };
+          };
+    }
+unfolding dayOf
+reset-from-nothing-push = refl
+
+pub reset-from-nothing-push-asked : askedOf reset-from-nothing-push-image reset-from-nothing-push-calls ≡
+    ((nothing ∷ flag false ∷ number 0 ∷ flag true ∷ flag true ∷ flag true ∷ flag true ∷ flag false ∷ flag true ∷ flag true ∷ flag true ∷ flag true ∷ flag false ∷ []) ∷
+    (nothing ∷ flag false ∷ number 0 ∷ flag true ∷ flag true ∷ flag true ∷ flag false ∷ flag true ∷ flag true ∷ flag true ∷ flag true ∷ flag true ∷ flag true ∷ []) ∷
+    (nothing ∷ flag false ∷ number 0 ∷ flag true ∷ flag true ∷ flag true ∷ flag true ∷ flag false ∷ flag true ∷ flag true ∷ flag true ∷ flag true ∷ flag true ∷ []) ∷
+    (nothing ∷ flag false ∷ number 1 ∷ flag true ∷ flag true ∷ flag true ∷ flag true ∷ flag false ∷ flag true ∷ flag true ∷ flag true ∷ flag true ∷ flag true ∷ []) ∷
+    (nothing ∷ flag false ∷ number 1 ∷ flag true ∷ flag true ∷ flag true ∷ flag true ∷ flag false ∷ flag true ∷ flag true ∷ flag true ∷ flag true ∷ flag true ∷ []) ∷
+    (tag (at 60 0) ∷ flag false ∷ number 1 ∷ flag true ∷ flag true ∷ flag true ∷ flag false ∷ flag true ∷ flag true ∷ flag true ∷ flag true ∷ flag true ∷ flag true ∷ []) ∷
+    (nothing ∷ flag false ∷ number 0 ∷ flag true ∷ flag true ∷ flag true ∷ flag false ∷ flag true ∷ flag true ∷ flag true ∷ flag true ∷ flag true ∷ flag true ∷ []) ∷ [])
+unfolding askedOf
+reset-from-nothing-push-asked = refl
+
+-- READINGS-02, C-14: L and S are zero, G stays: local is 35 - 10, so the pop is at (75,0).
+-- The Rust is compared up to call 4, where the S of scope 4, which a reset turned inactive, is read (02, C-14).
+abbrev pub reset-from-nothing-calls : List Call
+reset-from-nothing-calls =
+    transit 1 2 false (at 10 0) ∷
+    transit 0 0 true (at 30 0) ∷
+    action 0 (at 35 0) false [] ∷
+    transit 1 2 false (at 50 0) ∷
+    pop ∷
+    []
+
+pub reset-from-nothing : dayOf reset-from-nothing-push-image reset-from-nothing-calls ≡
+    record {
+      replies =
+          ok ∷
+          ok ∷
+          ok ∷
+          ok ∷
+          ready (record { tag = at 75 0; terminal = false; work = true; network = false; reactions = 0 ∷ 0 ∷ []; actions = 0 ∷ [] }) ∷
+          [];
+      end =
+          record {
+            modes = 0 ∷ 2 ∷ [];
+            scopes =
+                scope (clock (at 0 0) (at 0 0) true (at 0 0)) true true ∷
+                scope (clock (at 30 0) (at 0 0) false (at 0 0)) true true ∷
+                scope (clock (at 30 0) (at 0 0) false (at 0 0)) true true ∷
+                scope (clock (at 30 0) (at 0 0) false (at 20 0)) false true ∷
+                scope (clock (at 50 0) (at 0 0) false (at 0 0)) true true ∷
+                [];
+            waiting = [];
+            work = 0;
+            store = record { values = []; buckets = [] };
+          };
+    }
+unfolding dayOf
+reset-from-nothing = refl
+
+pub reset-from-nothing-asked : askedOf reset-from-nothing-push-image reset-from-nothing-calls ≡
+    ((nothing ∷ flag false ∷ number 0 ∷ flag true ∷ flag true ∷ flag true ∷ flag true ∷ flag false ∷ flag true ∷ flag true ∷ flag true ∷ flag true ∷ flag false ∷ []) ∷
+    (nothing ∷ flag false ∷ number 0 ∷ flag true ∷ flag true ∷ flag true ∷ flag false ∷ flag true ∷ flag true ∷ flag true ∷ flag true ∷ flag true ∷ flag true ∷ []) ∷
+    (nothing ∷ flag false ∷ number 0 ∷ flag true ∷ flag true ∷ flag true ∷ flag true ∷ flag false ∷ flag true ∷ flag true ∷ flag true ∷ flag true ∷ flag true ∷ []) ∷
+    (nothing ∷ flag false ∷ number 1 ∷ flag true ∷ flag true ∷ flag true ∷ flag true ∷ flag false ∷ flag true ∷ flag true ∷ flag true ∷ flag true ∷ flag true ∷ []) ∷
+    (tag (at 75 0) ∷ flag false ∷ number 1 ∷ flag true ∷ flag true ∷ flag true ∷ flag false ∷ flag true ∷ flag true ∷ flag true ∷ flag true ∷ flag true ∷ flag true ∷ []) ∷
+    (nothing ∷ flag false ∷ number 0 ∷ flag true ∷ flag true ∷ flag true ∷ flag false ∷ flag true ∷ flag true ∷ flag true ∷ flag true ∷ flag true ∷ flag true ∷ []) ∷ [])
+unfolding askedOf
+reset-from-nothing-asked = refl
+
 -- READINGS, "Transition": timers and reset rows count for every scope of the subtree, active or not.
 abbrev pub reset-inactive-rows-image : Image
 reset-inactive-rows-image =
@@ -128,6 +235,7 @@ unfolding askedOf
 reset-inactive-rows-asked = refl
 
 -- READINGS, "Transition": initial mode none: a reset leaves that reactor with no mode.
+-- The Rust is compared up to call 5, where the S of scope 4, which a reset turned inactive, is read (02, C-14).
 abbrev pub reset-initial-none-image : Image
 reset-initial-none-image =
     0 ∷ 0 ∷ 0 ∷ 72 ∷ 1 ∷ 0 ∷ 5 ∷ 0 ∷ 2 ∷ 0 ∷ 3 ∷ 0 ∷ 0 ∷ 0 ∷ 1 ∷ 0 ∷ 0 ∷ 0 ∷ 0 ∷ 0 ∷ 0 ∷ 0 ∷ 0 ∷ 255 ∷
@@ -164,7 +272,7 @@ pub reset-initial-none : dayOf reset-initial-none-image reset-initial-none-calls
                 scope (clock (at 11 0) (at 0 0) false (at 0 0)) true true ∷
                 scope (clock (at 11 0) (at 0 0) false (at 0 0)) true true ∷
                 scope (clock (at 0 0) (at 0 0) false (at 0 0)) false false ∷
-                scope (clock (at 20 0) (at 1 0) false (at 1 0)) true true ∷
+                scope (clock (at 20 0) (at 0 0) false (at 0 0)) true true ∷
                 [];
             waiting = [];
             work = 0;
@@ -186,14 +294,6 @@ unfolding askedOf
 reset-initial-none-asked = refl
 
 -- READINGS, "Transition": a scope inactive before and after a reset keeps its G and allowed; a push before that G is then 7.
-abbrev pub reset-keeps-clock-image : Image
-reset-keeps-clock-image =
-    0 ∷ 0 ∷ 0 ∷ 72 ∷ 1 ∷ 0 ∷ 5 ∷ 0 ∷ 2 ∷ 0 ∷ 3 ∷ 0 ∷ 0 ∷ 0 ∷ 1 ∷ 0 ∷ 0 ∷ 0 ∷ 0 ∷ 0 ∷ 0 ∷ 0 ∷ 0 ∷ 255 ∷
-    255 ∷ 0 ∷ 0 ∷ 255 ∷ 255 ∷ 0 ∷ 0 ∷ 0 ∷ 0 ∷ 0 ∷ 0 ∷ 0 ∷ 1 ∷ 0 ∷ 1 ∷ 255 ∷ 255 ∷ 0 ∷ 2 ∷ 0 ∷ 1 ∷ 0 ∷
-    1 ∷ 0 ∷ 2 ∷ 0 ∷ 1 ∷ 0 ∷ 2 ∷ 0 ∷ 0 ∷ 0 ∷ 0 ∷ 0 ∷ 2 ∷ 0 ∷ 1 ∷ 0 ∷ 1 ∷ 0 ∷ 0 ∷ 0 ∷ 3 ∷ 0 ∷ 1 ∷ 0 ∷ 4 ∷
-    0 ∷ 1 ∷ 0 ∷ 4 ∷ 1 ∷
-    []
-
 abbrev pub reset-keeps-clock-calls : List Call
 reset-keeps-clock-calls =
     transit 1 2 false (at 10 0) ∷
@@ -205,7 +305,7 @@ reset-keeps-clock-calls =
     pop ∷
     []
 
-pub reset-keeps-clock : dayOf reset-keeps-clock-image reset-keeps-clock-calls ≡
+pub reset-keeps-clock : dayOf reset-from-nothing-push-image reset-keeps-clock-calls ≡
     record {
       replies =
           ok ∷
@@ -234,7 +334,7 @@ pub reset-keeps-clock : dayOf reset-keeps-clock-image reset-keeps-clock-calls �
 unfolding dayOf
 reset-keeps-clock = refl
 
-pub reset-keeps-clock-asked : askedOf reset-keeps-clock-image reset-keeps-clock-calls ≡
+pub reset-keeps-clock-asked : askedOf reset-from-nothing-push-image reset-keeps-clock-calls ≡
     ((nothing ∷ flag false ∷ number 0 ∷ flag true ∷ flag true ∷ flag true ∷ flag true ∷ flag false ∷ flag true ∷ flag true ∷ flag true ∷ flag true ∷ flag false ∷ []) ∷
     (nothing ∷ flag false ∷ number 0 ∷ flag true ∷ flag true ∷ flag true ∷ flag false ∷ flag true ∷ flag true ∷ flag true ∷ flag true ∷ flag true ∷ flag true ∷ []) ∷
     (nothing ∷ flag false ∷ number 0 ∷ flag true ∷ flag true ∷ flag true ∷ flag true ∷ flag false ∷ flag true ∷ flag true ∷ flag true ∷ flag true ∷ flag true ∷ []) ∷
@@ -345,7 +445,7 @@ pub reset-nested : dayOf reset-nested-image reset-nested-calls ≡
                 scope (clock (at 20 0) (at 0 0) false (at 0 0)) true true ∷
                 scope (clock (at 20 0) (at 0 0) false (at 0 0)) true true ∷
                 scope (clock (at 20 0) (at 0 0) false (at 0 0)) true true ∷
-                scope (clock (at 10 0) (at 0 0) false (at 10 0)) false true ∷
+                scope (clock (at 10 0) (at 0 0) false (at 0 0)) false true ∷
                 [];
             waiting = [];
             work = 0;
@@ -368,6 +468,54 @@ pub reset-nested-asked : askedOf reset-nested-image reset-nested-calls ≡
     (nothing ∷ flag false ∷ number 0 ∷ flag true ∷ flag true ∷ flag true ∷ flag true ∷ flag false ∷ flag true ∷ flag true ∷ flag true ∷ flag true ∷ flag true ∷ []) ∷ [])
 unfolding askedOf
 reset-nested-asked = refl
+
+-- 02, C-14: "7 is no longer given for that scope's S": the reset is before the scope's G, so c has no local tag there.
+-- The Rust is compared up to call 4, where the S of scope 4, which a reset turned inactive, is read (02, C-14).
+abbrev pub reset-no-seven-calls : List Call
+reset-no-seven-calls =
+    transit 1 2 false (at 10 0) ∷
+    transit 0 0 true (at 5 0) ∷
+    action 0 (at 12 0) false [] ∷
+    transit 1 2 false (at 20 0) ∷
+    pop ∷
+    []
+
+pub reset-no-seven : dayOf reset-from-nothing-push-image reset-no-seven-calls ≡
+    record {
+      replies =
+          ok ∷
+          ok ∷
+          ok ∷
+          ok ∷
+          ready (record { tag = at 22 0; terminal = false; work = true; network = false; reactions = 0 ∷ 0 ∷ []; actions = 0 ∷ [] }) ∷
+          [];
+      end =
+          record {
+            modes = 0 ∷ 2 ∷ [];
+            scopes =
+                scope (clock (at 0 0) (at 0 0) true (at 0 0)) true true ∷
+                scope (clock (at 5 0) (at 0 0) false (at 0 0)) true true ∷
+                scope (clock (at 5 0) (at 0 0) false (at 0 0)) true true ∷
+                scope (clock (at 5 0) (at 0 0) false (at 15 0)) false true ∷
+                scope (clock (at 20 0) (at 0 0) false (at 0 0)) true true ∷
+                [];
+            waiting = [];
+            work = 0;
+            store = record { values = []; buckets = [] };
+          };
+    }
+unfolding dayOf
+reset-no-seven = refl
+
+pub reset-no-seven-asked : askedOf reset-from-nothing-push-image reset-no-seven-calls ≡
+    ((nothing ∷ flag false ∷ number 0 ∷ flag true ∷ flag true ∷ flag true ∷ flag true ∷ flag false ∷ flag true ∷ flag true ∷ flag true ∷ flag true ∷ flag false ∷ []) ∷
+    (nothing ∷ flag false ∷ number 0 ∷ flag true ∷ flag true ∷ flag true ∷ flag false ∷ flag true ∷ flag true ∷ flag true ∷ flag true ∷ flag true ∷ flag true ∷ []) ∷
+    (nothing ∷ flag false ∷ number 0 ∷ flag true ∷ flag true ∷ flag true ∷ flag true ∷ flag false ∷ flag true ∷ flag true ∷ flag true ∷ flag true ∷ flag true ∷ []) ∷
+    (nothing ∷ flag false ∷ number 1 ∷ flag true ∷ flag true ∷ flag true ∷ flag true ∷ flag false ∷ flag true ∷ flag true ∷ flag true ∷ flag true ∷ flag true ∷ []) ∷
+    (tag (at 22 0) ∷ flag false ∷ number 1 ∷ flag true ∷ flag true ∷ flag true ∷ flag false ∷ flag true ∷ flag true ∷ flag true ∷ flag true ∷ flag true ∷ flag true ∷ []) ∷
+    (nothing ∷ flag false ∷ number 0 ∷ flag true ∷ flag true ∷ flag true ∷ flag false ∷ flag true ∷ flag true ∷ flag true ∷ flag true ∷ flag true ∷ flag true ∷ []) ∷ [])
+unfolding askedOf
+reset-no-seven-asked = refl
 
 -- Step 5: c delayed by zero past the limit is 7, after the timers; without reset rows nothing is delayed.
 abbrev pub reset-rows-at-limit-image : Image
@@ -470,6 +618,108 @@ pub reset-rows-asked : askedOf reset-rows-image reset-rows-calls ≡
 unfolding askedOf
 reset-rows-asked = refl
 
+-- 02, C-14: a scope in the reset subtree that goes inactive keeps S at zero, so its timer of 5 has all of them before it: (55,0). By 01, and in the Rust, (50,1).
+-- The Rust is compared up to call 3, where the S of scope 4, which a reset turned inactive, is read (02, C-14).
+abbrev pub reset-stays-zero-image : Image
+reset-stays-zero-image =
+    0 ∷ 0 ∷ 0 ∷ 86 ∷ 1 ∷ 0 ∷ 5 ∷ 0 ∷ 2 ∷ 0 ∷ 3 ∷ 0 ∷ 0 ∷ 0 ∷ 1 ∷ 0 ∷ 0 ∷ 0 ∷ 0 ∷ 0 ∷ 0 ∷ 0 ∷ 1 ∷ 255 ∷
+    255 ∷ 0 ∷ 0 ∷ 255 ∷ 255 ∷ 0 ∷ 0 ∷ 0 ∷ 0 ∷ 0 ∷ 0 ∷ 0 ∷ 1 ∷ 0 ∷ 1 ∷ 255 ∷ 255 ∷ 0 ∷ 2 ∷ 0 ∷ 1 ∷ 0 ∷
+    1 ∷ 0 ∷ 2 ∷ 0 ∷ 1 ∷ 0 ∷ 2 ∷ 0 ∷ 0 ∷ 0 ∷ 0 ∷ 0 ∷ 2 ∷ 0 ∷ 1 ∷ 0 ∷ 1 ∷ 0 ∷ 0 ∷ 0 ∷ 3 ∷ 0 ∷ 1 ∷ 0 ∷ 4 ∷
+    0 ∷ 1 ∷ 0 ∷ 4 ∷ 1 ∷ 0 ∷ 0 ∷ 0 ∷ 0 ∷ 0 ∷ 0 ∷ 0 ∷ 0 ∷ 0 ∷ 5 ∷ 0 ∷ 0 ∷ 0 ∷ 0 ∷
+    []
+
+abbrev pub reset-stays-zero-calls : List Call
+reset-stays-zero-calls =
+    transit 1 2 false (at 10 0) ∷
+    transit 0 0 true (at 30 0) ∷
+    transit 1 2 false (at 50 0) ∷
+    pop ∷
+    []
+
+pub reset-stays-zero : dayOf reset-stays-zero-image reset-stays-zero-calls ≡
+    record {
+      replies =
+          ok ∷
+          ok ∷
+          ok ∷
+          ready (record { tag = at 55 0; terminal = false; work = true; network = false; reactions = 0 ∷ 0 ∷ []; actions = 0 ∷ [] }) ∷
+          [];
+      end =
+          record {
+            modes = 0 ∷ 2 ∷ [];
+            scopes =
+                scope (clock (at 0 0) (at 0 0) true (at 0 0)) true true ∷
+                scope (clock (at 30 0) (at 0 0) false (at 0 0)) true true ∷
+                scope (clock (at 30 0) (at 0 0) false (at 0 0)) true true ∷
+                scope (clock (at 30 0) (at 0 0) false (at 20 0)) false true ∷
+                scope (clock (at 50 0) (at 0 0) false (at 0 0)) true true ∷
+                [];
+            waiting = [];
+            work = 0;
+            store = record { values = value 0 (at 55 0) 0 ∷ []; buckets = bucket 0 15 1 ∷ bucket 0 55 1 ∷ [] };
+          };
+    }
+unfolding dayOf
+reset-stays-zero = refl
+
+pub reset-stays-zero-asked : askedOf reset-stays-zero-image reset-stays-zero-calls ≡
+    ((nothing ∷ flag false ∷ number 0 ∷ flag true ∷ flag true ∷ flag true ∷ flag true ∷ flag false ∷ flag true ∷ flag true ∷ flag true ∷ flag true ∷ flag false ∷ []) ∷
+    (nothing ∷ flag false ∷ number 0 ∷ flag true ∷ flag true ∷ flag true ∷ flag false ∷ flag true ∷ flag true ∷ flag true ∷ flag true ∷ flag true ∷ flag true ∷ []) ∷
+    (nothing ∷ flag false ∷ number 1 ∷ flag true ∷ flag true ∷ flag true ∷ flag true ∷ flag false ∷ flag true ∷ flag true ∷ flag true ∷ flag true ∷ flag true ∷ []) ∷
+    (tag (at 55 0) ∷ flag false ∷ number 1 ∷ flag true ∷ flag true ∷ flag true ∷ flag false ∷ flag true ∷ flag true ∷ flag true ∷ flag true ∷ flag true ∷ flag true ∷ []) ∷
+    (nothing ∷ flag false ∷ number 0 ∷ flag true ∷ flag true ∷ flag true ∷ flag false ∷ flag true ∷ flag true ∷ flag true ∷ flag true ∷ flag true ∷ flag true ∷ []) ∷ [])
+unfolding askedOf
+reset-stays-zero-asked = refl
+
+-- 02, C-14: that reset, before the scope's G, is still 7 where its timer's image overruns: G stays, so the last offset lies 10 beyond the limit.
+abbrev pub reset-still-seven-image : Image
+reset-still-seven-image =
+    0 ∷ 0 ∷ 0 ∷ 86 ∷ 1 ∷ 0 ∷ 5 ∷ 0 ∷ 2 ∷ 0 ∷ 3 ∷ 0 ∷ 0 ∷ 0 ∷ 1 ∷ 0 ∷ 0 ∷ 0 ∷ 0 ∷ 0 ∷ 0 ∷ 0 ∷ 1 ∷ 255 ∷
+    255 ∷ 0 ∷ 0 ∷ 255 ∷ 255 ∷ 0 ∷ 0 ∷ 0 ∷ 0 ∷ 0 ∷ 0 ∷ 0 ∷ 1 ∷ 0 ∷ 1 ∷ 255 ∷ 255 ∷ 0 ∷ 2 ∷ 0 ∷ 1 ∷ 0 ∷
+    1 ∷ 0 ∷ 2 ∷ 0 ∷ 1 ∷ 0 ∷ 2 ∷ 0 ∷ 0 ∷ 0 ∷ 0 ∷ 0 ∷ 2 ∷ 0 ∷ 1 ∷ 0 ∷ 1 ∷ 0 ∷ 0 ∷ 0 ∷ 3 ∷ 0 ∷ 1 ∷ 0 ∷ 4 ∷
+    0 ∷ 1 ∷ 0 ∷ 4 ∷ 1 ∷ 0 ∷ 0 ∷ 63 ∷ 255 ∷ 255 ∷ 255 ∷ 255 ∷ 255 ∷ 255 ∷ 255 ∷ 0 ∷ 0 ∷ 0 ∷ 0 ∷
+    []
+
+abbrev pub reset-still-seven-calls : List Call
+reset-still-seven-calls =
+    transit 1 2 false (at 10 0) ∷
+    transit 0 0 true (at 5 0) ∷
+    pop ∷
+    []
+
+pub reset-still-seven : dayOf reset-still-seven-image reset-still-seven-calls ≡
+    record {
+      replies =
+          ok ∷
+          refusal R.MappedTag ∷
+          nothing ∷
+          [];
+      end =
+          record {
+            modes = 0 ∷ 2 ∷ [];
+            scopes =
+                scope (clock (at 0 0) (at 0 0) true (at 0 0)) true true ∷
+                scope (clock (at 0 0) (at 0 0) true (at 0 0)) true true ∷
+                scope (clock (at 0 0) (at 0 0) true (at 0 0)) true true ∷
+                scope (clock (at 0 0) (at 0 0) true (at 10 0)) false true ∷
+                scope (clock (at 10 0) (at 0 0) false (at 0 0)) true true ∷
+                [];
+            waiting = [];
+            work = 0;
+            store = record { values = []; buckets = [] };
+          };
+    }
+unfolding dayOf
+reset-still-seven = refl
+
+pub reset-still-seven-asked : askedOf reset-still-seven-image reset-still-seven-calls ≡
+    ((nothing ∷ flag false ∷ number 0 ∷ flag true ∷ flag true ∷ flag true ∷ flag true ∷ flag false ∷ flag true ∷ flag true ∷ flag true ∷ flag true ∷ flag false ∷ []) ∷
+    (nothing ∷ flag false ∷ number 0 ∷ flag true ∷ flag true ∷ flag true ∷ flag false ∷ flag true ∷ flag true ∷ flag true ∷ flag true ∷ flag true ∷ flag true ∷ []) ∷
+    (nothing ∷ flag false ∷ number 0 ∷ flag true ∷ flag true ∷ flag true ∷ flag false ∷ flag true ∷ flag true ∷ flag true ∷ flag true ∷ flag true ∷ flag true ∷ []) ∷
+    (nothing ∷ flag false ∷ number 0 ∷ flag true ∷ flag true ∷ flag true ∷ flag false ∷ flag true ∷ flag true ∷ flag true ∷ flag true ∷ flag true ∷ flag true ∷ []) ∷ [])
+unfolding askedOf
+reset-still-seven-asked = refl
+
 -- READINGS, "Transition": "strictly under": a reactor rooted in the target scope itself keeps its mode.
 abbrev pub reset-strictly-under-image : Image
 reset-strictly-under-image =
@@ -518,67 +768,82 @@ pub reset-strictly-under-asked : askedOf reset-strictly-under-image reset-strict
 unfolding askedOf
 reset-strictly-under-asked = refl
 
--- READINGS, "Transition": a scope in the reset subtree that goes inactive gets S from c by the clock as step 1 left it: the pop is at (50,1).
-abbrev pub reset-suspends-image : Image
-reset-suspends-image =
-    0 ∷ 0 ∷ 0 ∷ 86 ∷ 1 ∷ 0 ∷ 5 ∷ 0 ∷ 2 ∷ 0 ∷ 3 ∷ 0 ∷ 0 ∷ 0 ∷ 1 ∷ 0 ∷ 0 ∷ 0 ∷ 0 ∷ 0 ∷ 0 ∷ 0 ∷ 1 ∷ 255 ∷
+-- READINGS-02, C-18, what it needs C-14 for: the last two pops are at (100,9) and (100,11), by 01 at (100,7) and then (100,3).
+-- The Rust is compared up to call 9, where the S of scope 4, which a reset turned inactive, is read (02, C-14).
+abbrev pub reset-tags-rise-image : Image
+reset-tags-rise-image =
+    0 ∷ 0 ∷ 0 ∷ 100 ∷ 1 ∷ 0 ∷ 5 ∷ 0 ∷ 2 ∷ 0 ∷ 3 ∷ 0 ∷ 0 ∷ 0 ∷ 1 ∷ 0 ∷ 0 ∷ 0 ∷ 0 ∷ 0 ∷ 0 ∷ 0 ∷ 2 ∷ 255 ∷
     255 ∷ 0 ∷ 0 ∷ 255 ∷ 255 ∷ 0 ∷ 0 ∷ 0 ∷ 0 ∷ 0 ∷ 0 ∷ 0 ∷ 1 ∷ 0 ∷ 1 ∷ 255 ∷ 255 ∷ 0 ∷ 2 ∷ 0 ∷ 1 ∷ 0 ∷
     1 ∷ 0 ∷ 2 ∷ 0 ∷ 1 ∷ 0 ∷ 2 ∷ 0 ∷ 0 ∷ 0 ∷ 0 ∷ 0 ∷ 2 ∷ 0 ∷ 1 ∷ 0 ∷ 1 ∷ 0 ∷ 0 ∷ 0 ∷ 3 ∷ 0 ∷ 1 ∷ 0 ∷ 4 ∷
-    0 ∷ 1 ∷ 0 ∷ 4 ∷ 1 ∷ 0 ∷ 0 ∷ 0 ∷ 0 ∷ 0 ∷ 0 ∷ 0 ∷ 0 ∷ 0 ∷ 5 ∷ 0 ∷ 0 ∷ 0 ∷ 0 ∷
+    0 ∷ 1 ∷ 0 ∷ 4 ∷ 1 ∷ 0 ∷ 0 ∷ 0 ∷ 0 ∷ 0 ∷ 0 ∷ 0 ∷ 0 ∷ 0 ∷ 0 ∷ 0 ∷ 0 ∷ 0 ∷ 7 ∷ 0 ∷ 0 ∷ 0 ∷ 0 ∷ 0 ∷ 0 ∷
+    0 ∷ 0 ∷ 0 ∷ 0 ∷ 0 ∷ 0 ∷ 0 ∷ 9 ∷
     []
 
-abbrev pub reset-suspends-calls : List Call
-reset-suspends-calls =
+abbrev pub reset-tags-rise-calls : List Call
+reset-tags-rise-calls =
+    plain (at 10 0) false [] ∷
+    pop ∷
     transit 1 2 false (at 10 0) ∷
-    transit 0 0 true (at 30 0) ∷
-    transit 1 2 false (at 50 0) ∷
+    plain (at 10 9) false [] ∷
+    pop ∷
+    transit 0 0 true (at 10 9) ∷
+    plain (at 100 2) false [] ∷
+    pop ∷
+    transit 1 2 false (at 100 2) ∷
+    pop ∷
     pop ∷
     []
 
-pub reset-suspends : dayOf reset-suspends-image reset-suspends-calls ≡
+pub reset-tags-rise : dayOf reset-tags-rise-image reset-tags-rise-calls ≡
     record {
       replies =
           ok ∷
+          ready (record { tag = at 10 0; terminal = false; work = true; network = false; reactions = 0 ∷ 0 ∷ []; actions = [] }) ∷
           ok ∷
           ok ∷
-          ready (record { tag = at 50 1; terminal = false; work = true; network = false; reactions = 0 ∷ 0 ∷ []; actions = 0 ∷ [] }) ∷
+          ready (record { tag = at 10 9; terminal = false; work = true; network = false; reactions = 0 ∷ 0 ∷ []; actions = [] }) ∷
+          ok ∷
+          ok ∷
+          ready (record { tag = at 100 2; terminal = false; work = true; network = false; reactions = 0 ∷ 0 ∷ []; actions = [] }) ∷
+          ok ∷
+          ready (record { tag = at 100 9; terminal = false; work = true; network = false; reactions = 0 ∷ 0 ∷ []; actions = 0 ∷ [] }) ∷
+          ready (record { tag = at 100 11; terminal = false; work = true; network = false; reactions = 0 ∷ 0 ∷ []; actions = 0 ∷ [] }) ∷
           [];
       end =
           record {
             modes = 0 ∷ 2 ∷ [];
             scopes =
                 scope (clock (at 0 0) (at 0 0) true (at 0 0)) true true ∷
-                scope (clock (at 30 0) (at 0 0) false (at 0 0)) true true ∷
-                scope (clock (at 30 0) (at 0 0) false (at 0 0)) true true ∷
-                scope (clock (at 30 0) (at 0 0) false (at 20 0)) false true ∷
-                scope (clock (at 50 0) (at 20 0) false (at 20 0)) true true ∷
+                scope (clock (at 10 9) (at 0 0) false (at 0 0)) true true ∷
+                scope (clock (at 10 9) (at 0 0) false (at 0 0)) true true ∷
+                scope (clock (at 10 9) (at 0 0) false (at 90 2)) false true ∷
+                scope (clock (at 100 2) (at 0 0) false (at 0 0)) true true ∷
                 [];
             waiting = [];
             work = 0;
-            store = record { values = value 0 (at 50 1) 0 ∷ []; buckets = bucket 0 15 1 ∷ bucket 0 50 2 ∷ [] };
+            store = record { values = value 0 (at 100 11) 0 ∷ value 0 (at 100 9) 0 ∷ []; buckets = bucket 0 10 10 ∷ bucket 0 100 12 ∷ [] };
           };
     }
 unfolding dayOf
-reset-suspends = refl
+reset-tags-rise = refl
 
-pub reset-suspends-asked : askedOf reset-suspends-image reset-suspends-calls ≡
+pub reset-tags-rise-asked : askedOf reset-tags-rise-image reset-tags-rise-calls ≡
     ((nothing ∷ flag false ∷ number 0 ∷ flag true ∷ flag true ∷ flag true ∷ flag true ∷ flag false ∷ flag true ∷ flag true ∷ flag true ∷ flag true ∷ flag false ∷ []) ∷
+    (tag (at 10 0) ∷ flag false ∷ number 1 ∷ flag true ∷ flag true ∷ flag true ∷ flag true ∷ flag false ∷ flag true ∷ flag true ∷ flag true ∷ flag true ∷ flag false ∷ []) ∷
+    (nothing ∷ flag false ∷ number 0 ∷ flag true ∷ flag true ∷ flag true ∷ flag true ∷ flag false ∷ flag true ∷ flag true ∷ flag true ∷ flag true ∷ flag false ∷ []) ∷
     (nothing ∷ flag false ∷ number 0 ∷ flag true ∷ flag true ∷ flag true ∷ flag false ∷ flag true ∷ flag true ∷ flag true ∷ flag true ∷ flag true ∷ flag true ∷ []) ∷
-    (nothing ∷ flag false ∷ number 1 ∷ flag true ∷ flag true ∷ flag true ∷ flag true ∷ flag false ∷ flag true ∷ flag true ∷ flag true ∷ flag true ∷ flag true ∷ []) ∷
-    (tag (at 50 1) ∷ flag false ∷ number 1 ∷ flag true ∷ flag true ∷ flag true ∷ flag false ∷ flag true ∷ flag true ∷ flag true ∷ flag true ∷ flag true ∷ flag true ∷ []) ∷
+    (tag (at 10 9) ∷ flag false ∷ number 1 ∷ flag true ∷ flag true ∷ flag true ∷ flag false ∷ flag true ∷ flag true ∷ flag true ∷ flag true ∷ flag true ∷ flag true ∷ []) ∷
+    (nothing ∷ flag false ∷ number 0 ∷ flag true ∷ flag true ∷ flag true ∷ flag false ∷ flag true ∷ flag true ∷ flag true ∷ flag true ∷ flag true ∷ flag true ∷ []) ∷
+    (nothing ∷ flag false ∷ number 2 ∷ flag true ∷ flag true ∷ flag true ∷ flag true ∷ flag false ∷ flag true ∷ flag true ∷ flag true ∷ flag true ∷ flag true ∷ []) ∷
+    (tag (at 100 2) ∷ flag false ∷ number 3 ∷ flag true ∷ flag true ∷ flag true ∷ flag true ∷ flag false ∷ flag true ∷ flag true ∷ flag true ∷ flag true ∷ flag true ∷ []) ∷
+    (nothing ∷ flag false ∷ number 2 ∷ flag true ∷ flag true ∷ flag true ∷ flag true ∷ flag false ∷ flag true ∷ flag true ∷ flag true ∷ flag true ∷ flag true ∷ []) ∷
+    (tag (at 100 9) ∷ flag false ∷ number 2 ∷ flag true ∷ flag true ∷ flag true ∷ flag false ∷ flag true ∷ flag true ∷ flag true ∷ flag true ∷ flag true ∷ flag true ∷ []) ∷
+    (tag (at 100 11) ∷ flag false ∷ number 1 ∷ flag true ∷ flag true ∷ flag true ∷ flag false ∷ flag true ∷ flag true ∷ flag true ∷ flag true ∷ flag true ∷ flag true ∷ []) ∷
     (nothing ∷ flag false ∷ number 0 ∷ flag true ∷ flag true ∷ flag true ∷ flag false ∷ flag true ∷ flag true ∷ flag true ∷ flag true ∷ flag true ∷ flag true ∷ []) ∷ [])
 unfolding askedOf
-reset-suspends-asked = refl
+reset-tags-rise-asked = refl
 
 -- READINGS, "Transition": the image of an inactive scope's timer that overruns is 7.
-abbrev pub reset-timer-overruns-image : Image
-reset-timer-overruns-image =
-    0 ∷ 0 ∷ 0 ∷ 86 ∷ 1 ∷ 0 ∷ 5 ∷ 0 ∷ 2 ∷ 0 ∷ 3 ∷ 0 ∷ 0 ∷ 0 ∷ 1 ∷ 0 ∷ 0 ∷ 0 ∷ 0 ∷ 0 ∷ 0 ∷ 0 ∷ 1 ∷ 255 ∷
-    255 ∷ 0 ∷ 0 ∷ 255 ∷ 255 ∷ 0 ∷ 0 ∷ 0 ∷ 0 ∷ 0 ∷ 0 ∷ 0 ∷ 1 ∷ 0 ∷ 1 ∷ 255 ∷ 255 ∷ 0 ∷ 2 ∷ 0 ∷ 1 ∷ 0 ∷
-    1 ∷ 0 ∷ 2 ∷ 0 ∷ 1 ∷ 0 ∷ 2 ∷ 0 ∷ 0 ∷ 0 ∷ 0 ∷ 0 ∷ 2 ∷ 0 ∷ 1 ∷ 0 ∷ 1 ∷ 0 ∷ 0 ∷ 0 ∷ 3 ∷ 0 ∷ 1 ∷ 0 ∷ 4 ∷
-    0 ∷ 1 ∷ 0 ∷ 4 ∷ 1 ∷ 0 ∷ 0 ∷ 63 ∷ 255 ∷ 255 ∷ 255 ∷ 255 ∷ 255 ∷ 255 ∷ 255 ∷ 0 ∷ 0 ∷ 0 ∷ 0 ∷
-    []
-
 abbrev pub reset-timer-overruns-calls : List Call
 reset-timer-overruns-calls =
     transit 1 2 false (at 100 0) ∷
@@ -586,7 +851,7 @@ reset-timer-overruns-calls =
     transit 0 0 true (at 300 0) ∷
     []
 
-pub reset-timer-overruns : dayOf reset-timer-overruns-image reset-timer-overruns-calls ≡
+pub reset-timer-overruns : dayOf reset-still-seven-image reset-timer-overruns-calls ≡
     record {
       replies =
           ok ∷
@@ -611,7 +876,7 @@ pub reset-timer-overruns : dayOf reset-timer-overruns-image reset-timer-overruns
 unfolding dayOf
 reset-timer-overruns = refl
 
-pub reset-timer-overruns-asked : askedOf reset-timer-overruns-image reset-timer-overruns-calls ≡
+pub reset-timer-overruns-asked : askedOf reset-still-seven-image reset-timer-overruns-calls ≡
     ((nothing ∷ flag false ∷ number 0 ∷ flag true ∷ flag true ∷ flag true ∷ flag true ∷ flag false ∷ flag true ∷ flag true ∷ flag true ∷ flag true ∷ flag false ∷ []) ∷
     (nothing ∷ flag false ∷ number 0 ∷ flag true ∷ flag true ∷ flag true ∷ flag false ∷ flag true ∷ flag true ∷ flag true ∷ flag true ∷ flag true ∷ flag true ∷ []) ∷
     (nothing ∷ flag false ∷ number 0 ∷ flag true ∷ flag true ∷ flag true ∷ flag true ∷ flag false ∷ flag true ∷ flag true ∷ flag true ∷ flag true ∷ flag true ∷ []) ∷
@@ -667,7 +932,55 @@ pub reset-timers-asked : askedOf reset-timers-image reset-timers-calls ≡
 unfolding askedOf
 reset-timers-asked = refl
 
--- Step 1: L and S are zero over the whole subtree: for a scope that goes inactive, whose S then is c - G, and for one that stays inactive.
+-- 02, C-14: a second reset makes S zero in the Rust too, so that the Rust is compared to the end.
+abbrev pub reset-twice-calls : List Call
+reset-twice-calls =
+    transit 1 2 false (at 10 0) ∷
+    transit 0 0 true (at 30 0) ∷
+    transit 0 0 true (at 40 0) ∷
+    transit 1 2 false (at 50 0) ∷
+    pop ∷
+    []
+
+pub reset-twice : dayOf reset-stays-zero-image reset-twice-calls ≡
+    record {
+      replies =
+          ok ∷
+          ok ∷
+          ok ∷
+          ok ∷
+          ready (record { tag = at 55 0; terminal = false; work = true; network = false; reactions = 0 ∷ 0 ∷ []; actions = 0 ∷ [] }) ∷
+          [];
+      end =
+          record {
+            modes = 0 ∷ 2 ∷ [];
+            scopes =
+                scope (clock (at 0 0) (at 0 0) true (at 0 0)) true true ∷
+                scope (clock (at 40 0) (at 0 0) false (at 0 0)) true true ∷
+                scope (clock (at 40 0) (at 0 0) false (at 0 0)) true true ∷
+                scope (clock (at 40 0) (at 0 0) false (at 10 0)) false true ∷
+                scope (clock (at 50 0) (at 0 0) false (at 0 0)) true true ∷
+                [];
+            waiting = [];
+            work = 0;
+            store = record { values = value 0 (at 55 0) 0 ∷ []; buckets = bucket 0 15 1 ∷ bucket 0 55 1 ∷ [] };
+          };
+    }
+unfolding dayOf
+reset-twice = refl
+
+pub reset-twice-asked : askedOf reset-stays-zero-image reset-twice-calls ≡
+    ((nothing ∷ flag false ∷ number 0 ∷ flag true ∷ flag true ∷ flag true ∷ flag true ∷ flag false ∷ flag true ∷ flag true ∷ flag true ∷ flag true ∷ flag false ∷ []) ∷
+    (nothing ∷ flag false ∷ number 0 ∷ flag true ∷ flag true ∷ flag true ∷ flag false ∷ flag true ∷ flag true ∷ flag true ∷ flag true ∷ flag true ∷ flag true ∷ []) ∷
+    (nothing ∷ flag false ∷ number 1 ∷ flag true ∷ flag true ∷ flag true ∷ flag true ∷ flag false ∷ flag true ∷ flag true ∷ flag true ∷ flag true ∷ flag true ∷ []) ∷
+    (nothing ∷ flag false ∷ number 1 ∷ flag true ∷ flag true ∷ flag true ∷ flag true ∷ flag false ∷ flag true ∷ flag true ∷ flag true ∷ flag true ∷ flag true ∷ []) ∷
+    (tag (at 55 0) ∷ flag false ∷ number 1 ∷ flag true ∷ flag true ∷ flag true ∷ flag false ∷ flag true ∷ flag true ∷ flag true ∷ flag true ∷ flag true ∷ flag true ∷ []) ∷
+    (nothing ∷ flag false ∷ number 0 ∷ flag true ∷ flag true ∷ flag true ∷ flag false ∷ flag true ∷ flag true ∷ flag true ∷ flag true ∷ flag true ∷ flag true ∷ []) ∷ [])
+unfolding askedOf
+reset-twice-asked = refl
+
+-- Step 1: L and S are zero over the whole subtree: for a scope that goes inactive, whose S stays so (02, C-14), and for one that stays inactive.
+-- The Rust is compared up to call 6, where the S of scope 4, which a reset turned inactive, is read (02, C-14).
 abbrev pub reset-zeroes-local-calls : List Call
 reset-zeroes-local-calls =
     transit 1 2 false (at 10 0) ∷
@@ -682,7 +995,7 @@ reset-zeroes-local-calls =
     action 0 (at 63 0) false [] ∷
     []
 
-pub reset-zeroes-local : dayOf reset-keeps-clock-image reset-zeroes-local-calls ≡
+pub reset-zeroes-local : dayOf reset-from-nothing-push-image reset-zeroes-local-calls ≡
     record {
       replies =
           ok ∷
@@ -691,7 +1004,7 @@ pub reset-zeroes-local : dayOf reset-keeps-clock-image reset-zeroes-local-calls 
           ok ∷
           ok ∷
           ok ∷
-          ready (record { tag = at 60 1; terminal = false; work = true; network = false; reactions = 0 ∷ 0 ∷ []; actions = 0 ∷ [] }) ∷
+          ready (record { tag = at 75 0; terminal = false; work = true; network = false; reactions = 0 ∷ 0 ∷ []; actions = 0 ∷ [] }) ∷
           ok ∷
           ok ∷
           ok ∷
@@ -716,14 +1029,14 @@ pub reset-zeroes-local : dayOf reset-keeps-clock-image reset-zeroes-local-calls 
 unfolding dayOf
 reset-zeroes-local = refl
 
-pub reset-zeroes-local-asked : askedOf reset-keeps-clock-image reset-zeroes-local-calls ≡
+pub reset-zeroes-local-asked : askedOf reset-from-nothing-push-image reset-zeroes-local-calls ≡
     ((nothing ∷ flag false ∷ number 0 ∷ flag true ∷ flag true ∷ flag true ∷ flag true ∷ flag false ∷ flag true ∷ flag true ∷ flag true ∷ flag true ∷ flag false ∷ []) ∷
     (nothing ∷ flag false ∷ number 0 ∷ flag true ∷ flag true ∷ flag true ∷ flag false ∷ flag true ∷ flag true ∷ flag true ∷ flag true ∷ flag true ∷ flag true ∷ []) ∷
     (nothing ∷ flag false ∷ number 0 ∷ flag true ∷ flag true ∷ flag true ∷ flag true ∷ flag false ∷ flag true ∷ flag true ∷ flag true ∷ flag true ∷ flag true ∷ []) ∷
     (nothing ∷ flag false ∷ number 0 ∷ flag true ∷ flag true ∷ flag true ∷ flag false ∷ flag true ∷ flag true ∷ flag true ∷ flag true ∷ flag true ∷ flag true ∷ []) ∷
     (nothing ∷ flag false ∷ number 0 ∷ flag true ∷ flag true ∷ flag true ∷ flag true ∷ flag false ∷ flag true ∷ flag true ∷ flag true ∷ flag true ∷ flag true ∷ []) ∷
     (nothing ∷ flag false ∷ number 1 ∷ flag true ∷ flag true ∷ flag true ∷ flag true ∷ flag false ∷ flag true ∷ flag true ∷ flag true ∷ flag true ∷ flag true ∷ []) ∷
-    (tag (at 60 1) ∷ flag false ∷ number 1 ∷ flag true ∷ flag true ∷ flag true ∷ flag false ∷ flag true ∷ flag true ∷ flag true ∷ flag true ∷ flag true ∷ flag true ∷ []) ∷
+    (tag (at 75 0) ∷ flag false ∷ number 1 ∷ flag true ∷ flag true ∷ flag true ∷ flag false ∷ flag true ∷ flag true ∷ flag true ∷ flag true ∷ flag true ∷ flag true ∷ []) ∷
     (nothing ∷ flag false ∷ number 0 ∷ flag true ∷ flag true ∷ flag true ∷ flag false ∷ flag true ∷ flag true ∷ flag true ∷ flag true ∷ flag true ∷ flag true ∷ []) ∷
     (nothing ∷ flag false ∷ number 0 ∷ flag true ∷ flag true ∷ flag true ∷ flag true ∷ flag false ∷ flag true ∷ flag true ∷ flag true ∷ flag true ∷ flag true ∷ []) ∷
     (nothing ∷ flag false ∷ number 0 ∷ flag true ∷ flag true ∷ flag true ∷ flag true ∷ flag false ∷ flag true ∷ flag true ∷ flag true ∷ flag true ∷ flag true ∷ []) ∷

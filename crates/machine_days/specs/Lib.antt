@@ -8,3 +8,4 @@ pub mod DaysHour
 pub mod Values
 pub mod Limits
 pub mod Broken
+pub mod Before

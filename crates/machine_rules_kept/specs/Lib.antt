@@ -5,6 +5,7 @@ pub mod Events
 pub mod Turns
 pub mod Prepared
 pub mod Timers
+pub mod FromNothing
 pub mod Steps
 pub mod Calls
 pub mod Kept

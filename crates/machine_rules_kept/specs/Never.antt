@@ -25,7 +25,7 @@ use Rattle.machine.specs.Table.{scopes, reactors, modes, actions}
 use Rattle.machine.specs.State.{Event, State, clockAt, activeAt, everAt, withStore, accepted, fresh}
 use Rattle.machine.specs.Heads as H
 use Rattle.machine.specs.Heads.{Head, peek}
-use Rattle.machine.specs.Transition.{Plan, Step, isNow, isTag, insideOf, prepared, leaving, clockAfter, maps, stamp, movers, moveOne, entering, turnBy, oneTurn, turned, held, plainEvent}
+use Rattle.machine.specs.Transition.{Plan, Step, isNow, isInside, isTag, insideOf, prepared, leaving, clockAfter, maps, stamp, movers, moveOne, entering, turnBy, oneTurn, turned, held, plainEvent}
 use Rattle.machine.specs.Transition.{firsts, startupRows, startups, ifSome, step4, timerScope, timerImage, timerEvent, timer, timerRows, resetRows, resetEvent, step5, planOf, turnsOn}
 use Rattle.machine.specs.Transition.{transition}
 use Rattle.machine.specs.Machine as M
@@ -128,7 +128,7 @@ unfolding turned oneTurn clockAfter leaving turnBy
 turned-mild img p s i =
     mild-then
     (mild-then
-    (mild-either (activeAt s i) (mild-either (isNow p i) fine (mild-then (local-mild (clockAt s i) (p .c)) (λ t. fine))) fine)
+    (mild-either (activeAt s i) (mild-either (isNow p i) fine (mild-either (isInside p i) fine (mild-then (local-mild (clockAt s i) (p .c)) (λ t. fine)))) fine)
     (λ k. mild-either (isNow p i && not (activeAt s i)) (mild-then (entering-mild (limits img .held) i k (s .waiting) (s .store)) (λ u. fine)) fine))
     (λ t. fine)
 

@@ -66,15 +66,19 @@ module _ (img : Image) (p : Plan) (w : within (p .c) ≡ true) (s : State) (i : 
   turns : (k : Clock) (b : Bool) → withinClock k ≡ true → every (λ e. not b || maps i k e) (s .waiting) ≡ true → Turned img p s i b (after (standing b k (s .waiting) (s .store)))
   turns k b f m = record { sound = sound-turn img s i k b l h f m; outside = o; modes = refl; own = own k b; others = others k b }
 
-  -- "Going inactive": its events need not map
-  leaves : (k : Clock) → leaving (p .c) (clockAt s i) ≡ done k → Turned img p s i false (after (standing false k (s .waiting) (s .store)))
+  -- its events need not map
+  inactive : (k : Clock) → withinClock k ≡ true → Turned img p s i false (after (standing false k (s .waiting) (s .store)))
+  inactive k f = turns k false f (every-all _ (λ e. refl) (s .waiting))
+
+  -- "Going inactive": in a reset subtree the clock stays
+  leaves : (k : Clock) → leaving (p .c) (isInside p i) (clockAt s i) ≡ done k → Turned img p s i false (after (standing false k (s .waiting) (s .store)))
   unfolding leaving
   leaves k d =
-      bind-done (toLocal (clockAt s i) (p .c)) _ d λ x y z.
+      either-is (isInside p i) d (λ e r. rw (← (done-is r)) (inactive (clockAt s i) clock-fits))
+      (λ e r. bind-done (toLocal (clockAt s i) (p .c)) _ r λ x y z.
       rw (← (done-is z))
-      (turns (suspended (clockAt s i) x) false
-      (clock-within _ (clock-G (clockAt s i) clock-fits) (clock-L (clockAt s i) clock-fits) (local-within (clockAt s i) (p .c) x w y))
-      (every-all _ (λ e. refl) (s .waiting)))
+      (inactive (suspended (clockAt s i) x)
+      (clock-within _ (clock-G (clockAt s i) clock-fits) (clock-L (clockAt s i) clock-fits) (local-within (clockAt s i) (p .c) x w y))))
 
   -- "Staying active in a reset subtree": no event is there
   restarts : isInside p i ≡ true → Turned img p s i true (after (standing true (restarted (p .c)) (s .waiting) (s .store)))

@@ -1,4 +1,4 @@
-//! Days of an inner mode left by resets of the outer one: S by the clock as the reset left it, pushes before a G that stayed, and
+//! Days of an inner mode left by resets of the outer one: S that stays zero, resets before its G, pushes before a G that stayed, and
 //! timers whose image overruns in a scope asleep.
 
 use crate::image::{RawTag, Table, MAX_LEVEL, MAX_MICROSTEP, MAX_OFFSET};
@@ -80,7 +80,8 @@ fn falling_asleep(day: &mut Day<'_>) {
     day.drain(4);
 }
 
-/// Into an inner mode by history, then a reset of the outer one; mostly into the inner one again.
+/// Into an inner mode by history, then a reset of the outer one, now and then at an earlier tag; mostly into the inner one again, by
+/// history, which reads its S, or by reset.
 fn left_by_reset(day: &mut Day<'_>) {
     let Some(outer) = day.table.scopes[1].mode else {
         return;
@@ -91,11 +92,15 @@ fn left_by_reset(day: &mut Day<'_>) {
     let first = day.now().ahead(day.rng.range(1, 20), 0);
     day.put(day.to_mode(outer, false, first));
     day.put(day.to_mode(inner, false, first));
-    let second = first.ahead(day.rng.below(5), 1);
+    let second = match day.rng.chance(15) {
+        true => first.before(day.rng.range(1, 5), 1),
+        false => first.ahead(day.rng.below(5), 1),
+    };
     day.put(day.to_mode(outer, true, second));
     if day.rng.chance(60) {
         let third = second.ahead(day.rng.range(1, 20), 0);
-        day.put(day.to_mode(inner, false, third));
+        let again = day.rng.chance(50);
+        day.put(day.to_mode(inner, again, third));
         day.drain(2);
     }
 }
