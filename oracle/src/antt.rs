@@ -144,7 +144,7 @@ fn agreed(day: &[u8]) -> Result<Option<String>, String> {
     deep::agree(day)?;
     match compare(day, answers.as_bytes())? {
         Outcome::Agree { .. } => Ok(None),
-        Outcome::LeftDomain { record, why } => match why {
+        Outcome::LeftDomain { record, why, .. } => match why {
             Why::ResetScope(_) => Ok(Some(format!(
                 "The Rust is compared up to call {record}, where {why}."
             ))),

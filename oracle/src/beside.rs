@@ -167,17 +167,18 @@ struct Counts {
 
 impl Counts {
     fn add(&mut self, day: &[u8], (outcome, sevens): &Compared) {
-        let opened = crate::image::open(day);
-        self.refused_tables += usize::from(opened.is_err());
-        let count = opened.map_or(0, |(_, records)| crate::records::split(records).len());
-        self.records += count;
+        let records =
+            crate::image::open(day).map(|(_, records)| crate::records::split(records).len());
+        self.refused_tables += usize::from(records.is_err());
+        self.records += records.unwrap_or(0);
         self.sevens += sevens;
         match outcome {
-            Outcome::LeftDomain { record, why } => {
+            Outcome::LeftDomain { record, why, left } => {
                 self.left += 1;
                 self.compared += record - 1;
                 if let Why::ResetScope(_) = why {
-                    self.apart = (self.apart.0 + 1, self.apart.1 + count + 1 - record);
+                    self.apart.0 += 1;
+                    self.apart.1 += left;
                 }
             }
             Outcome::Agree { records } => self.compared += records,

@@ -14,8 +14,12 @@ use crate::sched::rust_side::{outside_domain, RustSide};
 pub enum Outcome {
     /// Agreed over this many records.
     Agree { records: usize },
-    /// Agreed up to a record that leaves 01's domain of comparison; counted from 1.
-    LeftDomain { record: usize, why: Why },
+    /// Agreed up to a record that leaves 01's domain of comparison, counted from 1; and how many are left out, that one included.
+    LeftDomain {
+        record: usize,
+        why: Why,
+        left: usize,
+    },
     /// The first difference, in words.
     Differ(String),
 }
@@ -117,7 +121,13 @@ fn each_record(
             }
             None => match one_call(rust, &record.op, got) {
                 Ok(answered) => answered,
-                Err(why) => return Outcome::LeftDomain { record: at, why },
+                Err(why) => {
+                    return Outcome::LeftDomain {
+                        record: at,
+                        why,
+                        left: records.len() - index,
+                    }
+                }
             },
         };
         seen(at, record, got, &expected);
@@ -180,8 +190,8 @@ pub fn table(rows: &[Row], outcome: &Outcome) -> String {
         Outcome::Differ(words) => format!("they differ first at {words}"),
         Outcome::Agree { records: 0 } => "the same: the table's line is the only one".to_string(),
         Outcome::Agree { records } => format!("the same, over {records} records"),
-        Outcome::LeftDomain { record, why } => format!(
-            "the same up to record {record}, where the Rust can no longer be compared: {why}"
+        Outcome::LeftDomain { record, why, left } => format!(
+            "the same up to record {record}, where the Rust can no longer be compared: {why}; {left} of the records left out"
         ),
     };
     let head = ["", "record", "ours", "the Rust"].map(str::to_string);

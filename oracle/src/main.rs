@@ -113,12 +113,12 @@ fn answers(words: &[&str], out: &mut Out) -> Result<bool, Failure> {
     match *words {
         ["help"] => writeln!(out, "{USAGE}")?,
         ["compare", day, answers] => {
-            let outcome = compare::compare(&read(day)?, &read(answers)?);
-            report(out, day, outcome)?;
+            let compared = compare::compare_counting(&read(day)?, &read(answers)?);
+            report(out, day, compared)?;
         }
         ["judge", day, answers] => {
             let outcome = judge::judge(&read(day)?, &read(answers)?);
-            report(out, day, outcome)?;
+            report(out, day, outcome.map(|outcome| (outcome, 0)))?;
         }
         ["aside", day, answers] => {
             let (rows, outcome) = compare::aside(&read(day)?, &read(answers)?).map_err(Fault)?;
@@ -383,19 +383,24 @@ fn images(seed: u64, count: u64, folder: &Path) -> Result<String, Failure> {
     ))
 }
 
-/// Says how a comparison ended.
+/// Says how a comparison ended, and how many transitions in it 01 would have refused with 7 before C-14, if any.
 fn report(
     out: &mut impl Write,
     day: &str,
-    outcome: Result<Outcome, String>,
+    compared: Result<(Outcome, usize), String>,
 ) -> Result<(), Failure> {
-    match outcome.map_err(|words| Difference(format!("{day}: {words}")))? {
-        Outcome::Agree { records } => writeln!(out, "{day}: agrees, {records} records")?,
-        Outcome::LeftDomain { record, why } => writeln!(
+    let (outcome, sevens) = compared.map_err(|words| Difference(format!("{day}: {words}")))?;
+    match outcome {
+        Outcome::Agree { records } => write!(out, "{day}: agrees, {records} records")?,
+        Outcome::LeftDomain { record, why, left } => write!(
             out,
-            "{day}: agrees up to record {record}, which leaves the domain: {why}"
+            "{day}: agrees up to record {record}, which leaves the domain: {why}; {left} of the records left out"
         )?,
         Outcome::Differ(words) => return Err(Difference(format!("{day}: {words}"))),
+    }
+    match sevens {
+        0 => writeln!(out)?,
+        _ => writeln!(out, "; transitions refused with 7 before C-14: {sevens}")?,
     }
     Ok(())
 }

@@ -73,11 +73,11 @@ fn one(day: &[u8], counts: &mut Counts) -> Result<(), String> {
     counts.sevens += sevens;
     match outcome {
         Outcome::Agree { records } => counts.compared += records,
-        Outcome::LeftDomain { record, why } => {
+        Outcome::LeftDomain { record, why, left } => {
             counts.compared += record - 1;
-            let left = counts.left.entry(why.kind().to_string()).or_default();
-            left.0 += 1;
-            left.1 += answers.lines().count() - record;
+            let (days, records) = counts.left.entry(why.kind().to_string()).or_default();
+            *days += 1;
+            *records += left;
         }
         Outcome::Differ(words) => return Err(format!("compare: {words}")),
     }

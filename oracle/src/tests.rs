@@ -66,9 +66,9 @@ fn parted(day: &[u8]) -> (Vec<String>, Result<(Outcome, usize), String>) {
     (answers.lines().map(str::to_string).collect(), compared)
 }
 
-fn apart_at(record: usize, sevens: usize) -> Result<(Outcome, usize), String> {
+fn apart_at(record: usize, left: usize, sevens: usize) -> Result<(Outcome, usize), String> {
     let why = Why::ResetScope(4);
-    Ok((Outcome::LeftDomain { record, why }, sevens))
+    Ok((Outcome::LeftDomain { record, why, left }, sevens))
 }
 
 #[test]
@@ -78,7 +78,7 @@ fn a_reset_scope_that_goes_inactive_keeps_s_at_zero() {
          transition 1 2 history 50 0; pop"
     )));
     assert!(answers[4].starts_with("ready 55 0 "));
-    assert_eq!(compared, apart_at(3, 0));
+    assert_eq!(compared, apart_at(3, 2, 0));
 }
 
 #[test]
@@ -114,7 +114,7 @@ fn a_seven_that_is_no_longer_given_is_told_apart_and_judged() {
     assert_eq!(answers[2], "ok");
     assert_eq!(compared, Ok((Outcome::Agree { records: 3 }, 1)));
     let (_, compared) = parted(&text("transition 1 2 history 20 0;"));
-    assert_eq!(compared, apart_at(3, 1));
+    assert_eq!(compared, apart_at(3, 2, 1));
     let as_before = "table ok\nok\nrefused 7\nnothing\n";
     match judge(&text(""), as_before.as_bytes()) {
         Ok(Outcome::Differ(words)) => assert!(words.starts_with("record 2 "), "{words}"),
@@ -146,7 +146,7 @@ fn moves_of_one_value_to_unlike_tags_leave_the_domain() {
     let day = two_moves("timer 0 0 3; transition 0 1 reset 10 0;");
     let answers = plain::answer(&day);
     match compare(&day, answers.as_bytes()) {
-        Ok(Outcome::LeftDomain { record: 6, why }) => assert!(matches!(why, Why::Moves(0, _))),
+        Ok(Outcome::LeftDomain { record: 6, why, .. }) => assert!(matches!(why, Why::Moves(0, _))),
         other => panic!("{other:?}"),
     }
 }

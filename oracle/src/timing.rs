@@ -194,7 +194,7 @@ fn agree(day: &[u8], ours: &[u8], rust: &[u8]) -> Result<(), String> {
     }
     match compare(day, ours)? {
         Outcome::Agree { .. } => {}
-        Outcome::LeftDomain { record, why } => {
+        Outcome::LeftDomain { record, why, .. } => {
             return Err(format!("record {record} leaves the domain: {why}"))
         }
         Outcome::Differ(words) => return Err(words),
@@ -306,6 +306,7 @@ mod tests {
                 Ok(Outcome::LeftDomain {
                     record,
                     why: Why::ResetScope(_),
+                    ..
                 }) => record,
                 _ => usize::MAX,
             };
