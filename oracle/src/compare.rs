@@ -191,7 +191,9 @@ pub fn table(rows: &[Row], outcome: &Outcome) -> String {
         Outcome::Agree { records: 0 } => "the same: the table's line is the only one".to_string(),
         Outcome::Agree { records } => format!("the same, over {records} records"),
         Outcome::LeftDomain { record, why, left } => format!(
-            "the same up to record {record}, where the Rust can no longer be compared: {why}; {left} of the records left out"
+            "the same up to record {record}, where the Rust can no longer be compared: {why}; \
+             {left} of the records left out (docs/DIFFERENCES.md, point {})",
+            why.point()
         ),
     };
     let head = ["", "record", "ours", "the Rust"].map(str::to_string);

@@ -28,6 +28,15 @@ impl Why {
             }
         }
     }
+
+    /// The point of docs/DIFFERENCES.md that tells of it.
+    pub fn point(&self) -> u8 {
+        match self {
+            Why::MicrostepLimit => 9,
+            Why::Moves(..) => 13,
+            Why::ResetScope(_) => 22,
+        }
+    }
 }
 
 impl fmt::Display for Why {
