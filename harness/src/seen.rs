@@ -68,17 +68,17 @@ pub fn line(at: usize, state: &State, table: &Table) -> String {
     )
 }
 
-/// Whether two words are the same, or clocks that are the same but for an S that is not compared (`?`).
+/// Whether two words are the same, or clocks that are the same but for an S that is apart in the Rust (`?`): ours is zero there.
 fn same_word(ours: &str, rust: &str) -> bool {
     let same_clock = |(ours, rust): (&str, &str)| match rust.strip_suffix('?') {
-        Some(rust) => ours.rsplit_once(':').map(|(front, _)| front) == rust.strip_suffix(':'),
+        Some(rust) => ours.strip_suffix("0.0") == Some(rust),
         None => ours == rust,
     };
     let count = |word: &str| word.split(',').count();
     count(ours) == count(rust) && ours.split(',').zip(rust.split(',')).all(same_clock)
 }
 
-/// Whether our line says what the Rust's does, buckets, the values that the Rust gave up (`ACTION:?`) and an S that is apart aside.
+/// Whether our line says what the Rust's does, buckets and the values that the Rust gave up (`ACTION:?`) aside.
 pub fn same_as_rust(ours: &str, rust: &str) -> bool {
     let parts = |line: &str| {
         let (front, values) = line.split_once(" values ").unwrap_or((line, ""));
@@ -149,5 +149,25 @@ pub fn same(ours: &State, plain: &plain::State) -> Result<(), String> {
             events.len(),
             ours.events.len()
         )),
+    }
+}
+
+#[cfg(test)]
+mod tests {
+    use super::same_as_rust;
+
+    #[test]
+    fn an_s_that_is_apart_in_the_rust_is_zero_in_ours() {
+        let line = |clocks: &str| format!("1 peek - clocks {clocks} heads - values - buckets -");
+        let rust = line("0.0:0.0:1:0.0,10.0:0.0:0:?");
+        assert!(same_as_rust(&line("0.0:0.0:1:0.0,10.0:0.0:0:0.0"), &rust));
+        for wrong in [
+            "0.0:0.0:1:0.0,10.0:0.0:0:20.0",
+            "0.0:0.0:1:0.0,10.0:5.0:0:0.0",
+            "0.0:0.0:1:5.0,10.0:0.0:0:0.0",
+            "0.0:0.0:1:0.0",
+        ] {
+            assert!(!same_as_rust(&line(wrong), &rust), "{wrong}");
+        }
     }
 }

@@ -2,8 +2,8 @@
 //!
 //! A file is a day, or a text (.txt) whose comments at the top say what it shows. The answers and the end state are
 //! the plain machine's, written only after the published Rust has agreed on every pop, on refusal 7 and on the states
-//! after every record as far as deep.rs compares them, to the end or to where 02's C-14 parts the two: a day's comment says so. Refusals 8 and 9, buckets, stored tags and the order of events
-//! and values are the plain machine's alone.
+//! after every record as far as deep.rs compares them, to the end or to where 02's C-14 parts the two: a day's comment
+//! says so. Refusals 8 and 9, buckets, stored tags and the order of events and values are the plain machine's alone.
 
 use std::collections::BTreeMap;
 use std::fmt::Write;

@@ -12,7 +12,7 @@
 //! - C: 1 if what comes next is control only, else 0. W: ordinary events waiting.
 //! - BITS: one 0 or 1 a scope, scope 0 first.
 //! - CLOCKS: one a scope, joined by commas, each `G:L:ALLOWED:S` with tags as above and allowed 0 or 1. `?` in the place of S: a reset
-//!   turned the scope inactive, and the Rust has S from c where 02's C-14 has zero (domain.rs). deep-plain never prints it.
+//!   turned the scope inactive, and the Rust has S from c where zero is due by 02's C-14 (domain.rs). deep-plain never prints it.
 //! - HEADS: least tag of each queue, joined by commas: the root's, then each scope's own local tag, active or not.
 //! - VALUES: `ACTION:OFFSET.MICROSTEP:VALUE`, ascending by action then tag, joined by commas, `-` if there are none.
 //!   `ACTION:?` in the place of an action's values: the Rust's padded store would have grown too large, so that
@@ -69,15 +69,15 @@ struct Clock {
     global: WideTag,
     local: WideTag,
     allowed: bool,
-    /// None where it is not compared.
+    /// None where the Rust's is apart: ours must be zero there.
     suspended: Option<WideTag>,
 }
 
 impl Clock {
     fn same(&self, other: &Self) -> bool {
-        let compared = self.suspended.is_some() && other.suspended.is_some();
+        let due = |clock: &Self| clock.suspended.unwrap_or(RawTag::ZERO.into());
         (self.global, self.local, self.allowed) == (other.global, other.local, other.allowed)
-            && (!compared || self.suspended == other.suspended)
+            && due(self) == due(other)
     }
 }
 
@@ -212,7 +212,7 @@ impl Snapshot {
         }
     }
 
-    /// Name of the first field in which two states differ; buckets, values given up and an S that is apart aside.
+    /// Name of the first field in which two states differ; buckets and values given up aside. Where the Rust's S is apart, zero is due.
     fn first_difference(&self, other: &Self) -> Option<&'static str> {
         let same_held = |(one, two): (&Held, &Held)| {
             *one == Held::GivenUp || *two == Held::GivenUp || one == two
@@ -422,5 +422,23 @@ fn same_state(
             plain.line(at),
             rust.line(at)
         )),
+    }
+}
+
+#[cfg(test)]
+mod tests {
+    use super::*;
+
+    #[test]
+    fn where_the_rust_s_s_is_apart_zero_is_due() {
+        let clock = |suspended: Option<u64>| Clock {
+            global: RawTag::new(10, 0).into(),
+            local: RawTag::ZERO.into(),
+            allowed: false,
+            suspended: suspended.map(|offset| RawTag::new(offset, 0).into()),
+        };
+        assert!(clock(Some(0)).same(&clock(None)));
+        assert!(!clock(Some(20)).same(&clock(None)));
+        assert!(!clock(Some(20)).same(&clock(Some(0))));
     }
 }
