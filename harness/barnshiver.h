@@ -28,6 +28,8 @@ extern "C" {
 #define BARNSHIVER_NO_ROOM 255
 /* Bytes of a tag, as in a record: offset 8, microstep 4. */
 #define BARNSHIVER_TAG_BYTES 12
+/* Bytes of a local tag on the global scale: a tag 12, held back 1 (0 or 1). */
+#define BARNSHIVER_MAPPED_BYTES 13
 /* Bytes of a scope clock: G 12 (a tag), L 12, allowed 1 (0 or 1), S 12. */
 #define BARNSHIVER_CLOCK_BYTES 37
 /* Bytes of a place. */
@@ -46,17 +48,18 @@ extern "C" {
 #define BARNSHIVER_NONE 65535
 
 /*
- * A global tag on the scope's local scale, and a local one on the global scale (01, "Tags").
+ * A global tag on the scope's local scale, and a local one on the global scale (01, "Tags"; 02, C-20).
  *
  *   clock   BARNSHIVER_CLOCK_BYTES
  *   offset, microstep   the tag given
- *   tag     room for BARNSHIVER_TAG_BYTES
+ *   tag     room for BARNSHIVER_TAG_BYTES; from local to global, for BARNSHIVER_MAPPED_BYTES
  *
- *   0    `tag` begins with the answer's 12 bytes
+ *   0    `tag` begins with the answer's 12 bytes. From local to global a 13th follows: 1 if the tag was held back, that is,
+ *        would have come earlier than G, or at G and not allowed, and was moved to G's next microstep; else 0
  *   6    the tag given is beyond the limits
  *   7    the answer would be
  *   11   the clock is none: not 37 bytes, a tag beyond the limits, or allowed neither 0 nor 1
- *   255  `tag` has fewer than 12 bytes
+ *   255  `tag` has fewer than 12 bytes; from local to global, fewer than 13
  *
  * With any answer but 0 `tag` stays as it was. 11 comes before 6.
  */

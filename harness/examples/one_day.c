@@ -32,7 +32,7 @@ static unsigned long long number(const uint8_t *bytes, int width) {
 int main(void) {
     static uint8_t lines[4 * BARNSHIVER_LINE_ROOM];
     static uint8_t state[BARNSHIVER_STATE_BYTES];
-    uint8_t tag[BARNSHIVER_TAG_BYTES];
+    uint8_t tag[BARNSHIVER_MAPPED_BYTES];
     uint8_t place[BARNSHIVER_PLACE_BYTES];
     uint8_t image[BARNSHIVER_LARGEST_IMAGE];
     uint8_t rows[11];
@@ -58,7 +58,7 @@ int main(void) {
     printf("after the push: peek %llu, %llu waits\n", number(state + 8 * 1, 8), number(state + 8 * 5, 8));
     if (barnshiver_local_to_global(scope_clock, sizeof scope_clock, 40, 1, tag, sizeof tag) != 0)
         return 1;
-    printf("local (40,1) is global (%llu,%llu)\n", number(tag, 8), number(tag + 8, 4));
+    printf("local (40,1) is global (%llu,%llu)%s\n", number(tag, 8), number(tag + 8, 4), tag[12] ? ", held back" : "");
     /* the day without the push's last byte: the push takes the next record's first, and what is left of that is dropped */
     memcpy(damaged, day, 56);
     memcpy(damaged + 56, day + 57, sizeof day - 57);
@@ -68,6 +68,6 @@ int main(void) {
            number(report + 32, 8));
     /* the same image cut short, and a tag into too few bytes */
     printf("cut short: refused %u\n", barnshiver_state_after(day, 33, state, sizeof state));
-    printf("no room: %u\n", barnshiver_local_to_global(scope_clock, sizeof scope_clock, 40, 1, tag, 11));
+    printf("no room: %u\n", barnshiver_local_to_global(scope_clock, sizeof scope_clock, 40, 1, tag, BARNSHIVER_TAG_BYTES));
     return 0;
 }

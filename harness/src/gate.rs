@@ -19,6 +19,8 @@ pub struct Ready {
     /// Whether some ordinary event was taken.
     pub work: bool,
     pub network: bool,
+    /// Whether some event was moved to its scope's activation's next microstep, by the clock at the pop (02, C-20).
+    pub held: bool,
     /// (level, reaction), ascending
     pub reactions: Vec<(u8, u16)>,
     /// In order of taking, each once.
@@ -171,7 +173,7 @@ fn keys(reactions: &[u16]) -> Vec<u8> {
 /// Takes a pop's line apart.
 fn ready(line: &str) -> Option<Ready> {
     let words: Vec<&str> = line.split(' ').collect();
-    let ["ready", offset, microstep, "terminal", terminal, "work", work, "network", network, "reactions", reactions, "actions", actions] =
+    let ["ready", offset, microstep, "terminal", terminal, "work", work, "network", network, "held", held, "reactions", reactions, "actions", actions] =
         words[..]
     else {
         return None;
@@ -181,6 +183,7 @@ fn ready(line: &str) -> Option<Ready> {
         terminal: terminal == "1",
         work: work == "1",
         network: network == "1",
+        held: held == "1",
         reactions: listed(reactions, |item| {
             let (level, key) = item.split_once(':')?;
             Some((level.parse().ok()?, key.parse().ok()?))
@@ -200,7 +203,7 @@ fn listed<T>(list: &str, item: impl Fn(&str) -> Option<T>) -> Option<Vec<T>> {
 #[cfg(test)]
 mod tests {
     use super::*;
-    use crate::{run_day, ImageRefused, Table, NONE};
+    use crate::{run_day, ImageRefused, Mapped, Table, NONE};
 
     /// A root with two modes, a reaction, and an action in the second mode.
     fn gate() -> Gate {
@@ -263,6 +266,25 @@ mod tests {
         );
         assert!(state.events[1].network && state.events[2].control);
         assert!(!state.scopes[1].active && state.scopes[1].ever && state.scopes[2].active);
+    }
+
+    #[test]
+    fn an_event_at_the_entry_is_held_back_and_one_a_step_later_is_not() {
+        for (microstep, held) in [(0, true), (1, false)] {
+            let mut gate = gate();
+            gate.apply_transition(0, 1, Kind::History, Tag::new(7, 0))
+                .unwrap();
+            gate.push_action_event(0, Tag::new(7, microstep), &[0], false)
+                .unwrap();
+            let (clock, local) = {
+                let state = gate.state();
+                (state.scopes[2].clock, state.events[0].tag)
+            };
+            let tag = Tag::new(7, 1);
+            assert_eq!(clock.local_to_global(local), Ok(Mapped { tag, held }));
+            let ready = gate.pop_next_event().unwrap();
+            assert_eq!((ready.tag, ready.held), (tag, held));
+        }
     }
 
     #[test]

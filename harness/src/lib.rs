@@ -194,24 +194,40 @@ pub struct ScopeClock {
 impl ScopeClock {
     /// A global tag on the local scale.
     pub fn global_to_local(&self, tag: Tag) -> Result<Tag, Refused> {
-        self.map(true, tag)
+        let mut local = [0; slices::TAG_BYTES];
+        self.map(true, tag, &mut local)?;
+        Ok(Tag::from(local))
     }
 
-    /// A local tag on the global scale.
-    pub fn local_to_global(&self, tag: Tag) -> Result<Tag, Refused> {
-        self.map(false, tag)
+    /// A local tag on the global scale, and whether it was held back.
+    pub fn local_to_global(&self, tag: Tag) -> Result<Mapped, Refused> {
+        let mut mapped = [0; slices::MAPPED_BYTES];
+        self.map(false, tag, &mut mapped)?;
+        let [front @ .., held] = mapped;
+        Ok(Mapped {
+            tag: Tag::from(front),
+            held: held == 1,
+        })
     }
 
-    fn map(&self, to_local: bool, tag: Tag) -> Result<Tag, Refused> {
+    fn map(&self, to_local: bool, tag: Tag, answer: &mut [u8]) -> Result<(), Refused> {
         let [global, local, suspended] =
             [self.global, self.local, self.suspended].map(<[u8; slices::TAG_BYTES]>::from);
         let clock = [&global[..], &local, &[u8::from(self.allowed)], &suspended].concat();
-        let mut mapped = [0; slices::TAG_BYTES];
-        match slices::map(to_local, &clock, tag.offset, tag.microstep, &mut mapped) {
-            0 => Ok(Tag::from(mapped)),
+        match slices::map(to_local, &clock, tag.offset, tag.microstep, answer) {
+            0 => Ok(()),
             number => Err(Refused(number)),
         }
     }
+}
+
+/// A local tag on the global scale.
+#[derive(Debug, Clone, Copy, PartialEq, Eq)]
+pub struct Mapped {
+    pub tag: Tag,
+    /// Whether it was moved to the activation's next microstep: it would have come earlier than the activation, or just at it where that is
+    /// not allowed (02, C-20).
+    pub held: bool,
 }
 
 /// All lines of a day's answers, as the bench program writes them.

@@ -5,7 +5,7 @@ use std::io::Write;
 use std::path::{Path, PathBuf};
 use std::process::ExitCode;
 
-use barnshiver::slices::{CLOCK_BYTES, NO_ROOM, PLACE_BYTES, TAG_BYTES};
+use barnshiver::slices::{NO_ROOM, PLACE_BYTES};
 use barnshiver::state::STATE_BYTES;
 use barnshiver::{slices, ImageRefused, State, LINE_ROOM};
 use oracle::image::{self, number};
@@ -16,11 +16,13 @@ use oracle::several::several;
 use oracle::{deep, scripts, shrink};
 
 mod beside;
+mod maps;
 mod rescues;
 mod seen;
 mod selftest;
 mod writes;
 mod wrong;
+mod wrong_maps;
 mod wrong_rescues;
 
 const USAGE: &str = "\
@@ -39,7 +41,7 @@ harness beside FROM TO DAMAGED FOLDER [SEEDS PROGRAM [WORD..]]
 harness rescues SEED COUNT FOLDER
                              the rescue of so many damaged days, recorded and made ones: the answer, output and report, in rooms that fit
                              and that don't; what was rescued is run, and rescued again. It says how many days show what (as with writes)
-harness selftest             wrong answers, states, writers and rescuers in the library's place, each of which must be found
+harness selftest             wrong answers, states, maps, writers and rescuers in the library's place, each of which must be found
 harness help                 these lines
 
 Exit status: 0 all agrees, 1 a difference, 2 the arguments are at fault.";
@@ -74,7 +76,7 @@ fn main() -> ExitCode {
         ["selftest"] => selftest::selftest(),
         ["help"] => Ok(USAGE.to_string()),
         [what, first, second] => match (what, first.parse(), second.parse()) {
-            ("maps", Ok(seed), Ok(count)) => maps(seed, count),
+            ("maps", Ok(seed), Ok(count)) => maps::maps(&slices::map, seed, count),
             ("tables", Ok(seed), Ok(count)) => {
                 scripts::table::write(seed, count as usize).and_then(tables)
             }
@@ -103,77 +105,6 @@ fn usage() -> ExitCode {
 
 /// What stands in lent bytes before a call, to see which of them it leaves.
 const FILL: u8 = 0xa5;
-
-/// A clock's bytes, a tag, and what must come out: the number, and the tag's bytes if it is 0. In a room too short for a tag
-/// and in one too long.
-fn one_map(
-    case: usize,
-    to_local: bool,
-    clock: &[u8],
-    tag: (u64, u32),
-    expected: (u8, &[u8]),
-) -> Result<(), String> {
-    let mut short = vec![FILL; case % TAG_BYTES];
-    let number = slices::map(to_local, clock, tag.0, tag.1, &mut short);
-    if number != NO_ROOM || short.iter().any(|&byte| byte != FILL) {
-        let room = short.len();
-        return Err(format!(
-            "map {case}: a tag into {room} bytes: {number}, {short:?}"
-        ));
-    }
-    let mut mapped = [FILL; TAG_BYTES + 3];
-    let number = slices::map(to_local, clock, tag.0, tag.1, &mut mapped);
-    let told = if number == 0 { TAG_BYTES } else { 0 };
-    let (answer, rest) = mapped.split_at(told);
-    if (number, answer) == expected && rest.iter().all(|&byte| byte == FILL) {
-        return Ok(());
-    }
-    let way = if to_local {
-        "global to local"
-    } else {
-        "local to global"
-    };
-    Err(format!(
-        "map {case}: clock {clock:?} (G, L, allowed, S), {way} of {tag:?}: expected {expected:?}, got {:?}",
-        (number, mapped)
-    ))
-}
-
-/// Case bytes as scripts/map.rs lays them out: way 1, G 12, L 12, allowed 1, S 12, tag 12.
-const MAP_CASE: usize = 50;
-const MAP_ANSWER: usize = 13;
-
-fn maps(seed: u64, count: u64) -> Result<String, String> {
-    let written = scripts::map::write(seed, count as usize)?;
-    let cases = written
-        .script
-        .chunks(MAP_CASE)
-        .zip(written.answers.chunks(MAP_ANSWER));
-    let (mut calls, mut refused) = (0, [0usize; 12]);
-    for (index, (case, answer)) in cases.enumerate() {
-        let (to_local, clock) = (case[0] == 1, &case[1..1 + CLOCK_BYTES]);
-        let given = (number(&case[38..46]), number(&case[46..]) as u32);
-        let expected = match answer[0] {
-            0 => (0, &answer[1..]),
-            number => (number, &[][..]),
-        };
-        one_map(index + 1, to_local, clock, given, expected)?;
-        refused[usize::from(expected.0)] += 1;
-        // The same clock in a form that is none: other lengths, an allowed that is no flag.
-        let mut wrong = clock.to_vec();
-        match index % 3 {
-            0 => wrong.truncate(index / 3 % CLOCK_BYTES),
-            1 => wrong.push(0),
-            _ => wrong[24] = 2 + (index / 3 % 254) as u8,
-        }
-        one_map(index + 1, to_local, &wrong, given, (11, &[]))?;
-        calls += 2;
-    }
-    Ok(format!(
-        "{calls} maps, {} of them mapped, {} refused 6, {} refused 7, {} with clocks that are none: no difference",
-        refused[0], refused[6], refused[7], refused[11] + calls / 2
-    ))
-}
 
 /// The images of a script, each with what 01 answers of it.
 fn images(written: &scripts::Written) -> Result<Vec<(&[u8], (u8, u64))>, String> {

@@ -1,4 +1,4 @@
-//! Wrong answers and wrong states in the library's place, on a few days, and wrong writers and rescuers: each must be found.
+//! Wrong answers and wrong states in the library's place, on a few days, and wrong maps, writers and rescuers: each must be found.
 
 use std::path::Path;
 use std::time::Duration;
@@ -8,15 +8,31 @@ use oracle::beside::{beside, Runner, Side};
 use oracle::make::make;
 
 use crate::beside::answered;
-use crate::{states, wrong, wrong_rescues};
+use crate::{states, wrong, wrong_maps, wrong_rescues};
 
 /// The days of a run here.
 const SEEDS: (u64, u64) = (0, 5);
 const DAMAGED: usize = 20;
 
-/// The day that a lost flag comes down to.
-const SMALLEST: &str =
-    "\nscope - 0 -\nreactor 0 -\nplain 0 0 1 -\npop\nthere: compare: record 2 (pop): expected";
+/// Flags of the lines that are turned, and the day that this comes down to.
+const TURNED: [(&str, &str, &str); 3] = [
+    (
+        "terminal 1",
+        "terminal 0",
+        "scope - 0 -\nreactor 0 -\nplain 0 0 1 -\npop",
+    ),
+    (
+        "held 0",
+        "held 1",
+        "scope - 0 -\nreactor 0 -\nplain 0 0 0 -\npop",
+    ),
+    (
+        "held 1",
+        "held 0",
+        "scope - 0 -\nscope 0 0 0\nscope 0 0 1\nreactor 0 0\nmode 1 0\nmode 2 0\naction 1 1\n\
+         transition 0 1 history 0 0\nact 0 0 0 0 -\ntransition 0 0 history 0 0\npop",
+    ),
+];
 
 /// What is made wrong in each state of a day.
 type Change = fn(&mut State);
@@ -48,33 +64,39 @@ fn run(folder: &Path, first: &Runner<'_>, second: &Runner<'_>) -> Result<String,
     beside(SEEDS, DAMAGED, folder, &sides)?
 }
 
-pub fn selftest() -> Result<String, String> {
-    let wrong = |day: &[u8], limit: Duration| {
-        let lines = answered(day, limit)?;
-        let lines = String::from_utf8_lossy(&lines).replace("terminal 1", "terminal 0");
-        Ok(lines.into_bytes())
-    };
-    let empty = std::env::temp_dir().join(format!("harness-selftest-{}", std::process::id()));
-    std::fs::create_dir_all(&empty).map_err(|error| format!("{}: {error}", empty.display()))?;
-    let right = run(&empty, &answered, &answered);
-    let reports = [
-        ("first: ", run(&empty, &wrong, &answered)),
-        ("second: ", run(&empty, &answered, &wrong)),
-    ];
-    let rescuers = wrong_rescues::found(&empty);
-    // Nothing is left to be done if it stays.
-    let _ = std::fs::remove_dir(&empty);
-    right?;
-    for (name, report) in &reports {
+/// Lines with a flag turned, on the one side and the other in turn, are found and shown on the smallest day.
+fn turned(folder: &Path) -> Result<(), String> {
+    run(folder, &answered, &answered)?;
+    for (at, (from, to, smallest)) in TURNED.into_iter().enumerate() {
+        let wrong = |day: &[u8], limit: Duration| {
+            let lines = answered(day, limit)?;
+            let lines = String::from_utf8_lossy(&lines).replace(from, to);
+            Ok(lines.into_bytes())
+        };
+        let (name, report) = match at % 2 {
+            0 => ("first: ", run(folder, &wrong, &answered)),
+            _ => ("second: ", run(folder, &answered, &wrong)),
+        };
+        let shown = format!("\n{smallest}\nthere: compare: record ");
         match report {
-            Err(words) if words.starts_with(name) && words.contains(SMALLEST) => {}
+            Err(words) if words.starts_with(name) && words.contains(&shown) => {}
             Err(words) | Ok(words) => {
                 return Err(format!(
-                    "a lost flag is not shown as it should be:\n{words}"
+                    "\"{to}\" in the place of \"{from}\" is not shown as it should be:\n{words}"
                 ))
             }
         }
     }
+    Ok(())
+}
+
+pub fn selftest() -> Result<String, String> {
+    let empty = std::env::temp_dir().join(format!("harness-selftest-{}", std::process::id()));
+    std::fs::create_dir_all(&empty).map_err(|error| format!("{}: {error}", empty.display()))?;
+    let (flags, rescuers) = (turned(&empty), wrong_rescues::found(&empty));
+    // Nothing is left to be done if it stays.
+    let _ = std::fs::remove_dir(&empty);
+    flags?;
     let day = make(0, "valid").unwrap_or_default();
     states(&day, &barnshiver::state_after)?;
     for (what, change) in WRONG_STATES {
@@ -88,9 +110,10 @@ pub fn selftest() -> Result<String, String> {
         }
     }
     Ok(format!(
-        "{} sides with a lost flag found, each on a day of four lines; {} kinds of wrong states found\n{}\n{}",
-        reports.len(),
+        "{} sides with a flag turned found, each on the smallest day; {} kinds of wrong states found\n{}\n{}\n{}",
+        TURNED.len(),
         WRONG_STATES.len(),
+        wrong_maps::found()?,
         wrong::found()?,
         rescuers?
     ))

@@ -7,6 +7,8 @@ use crate::raw;
 pub const NO_ROOM: u8 = 255;
 /// Bytes of a tag: offset 8, microstep 4.
 pub const TAG_BYTES: usize = 12;
+/// Bytes of a local tag on the global scale: the tag, and whether it was held back 1 (0 or 1).
+pub const MAPPED_BYTES: usize = 13;
 /// Bytes of a clock: G, L, allowed 1, S.
 pub const CLOCK_BYTES: usize = 37;
 /// Bytes of a place.
@@ -24,7 +26,7 @@ pub const fn report_room(day: usize) -> usize {
     REPORT_HEAD + RUN_BYTES + 3 * day
 }
 
-/// Global to local, or local to global, on a clock's bytes: 0, or the refusal and `tag` as it was.
+/// Global to local, or local to global, on a clock's bytes: 0, or the refusal and `tag` as it was. To global it takes `MAPPED_BYTES`.
 pub fn map(to_local: bool, clock: &[u8], offset: u64, microstep: u32, tag: &mut [u8]) -> u8 {
     let function = if to_local {
         raw::barnshiver_global_to_local

@@ -8,13 +8,13 @@ use oracle::plain::{self, Clock, Plain};
 use oracle::records::split;
 use oracle::rescue::rescue_into;
 
-use crate::slices::{CLOCK_BYTES, NO_ROOM, PLACE_BYTES, TAG_BYTES};
+use crate::slices::{CLOCK_BYTES, MAPPED_BYTES, NO_ROOM, PLACE_BYTES, TAG_BYTES};
 use crate::state::STATE_BYTES;
 use crate::{Tag, LINE_ROOM};
 
-/// A map on a clock's bytes, and the tag that it answers over the front of `tag`.
+/// A map on a clock's bytes, and what it answers over the front of `tag`.
 fn map(to_local: bool, clock: &[u8], given: RawTag, tag: &mut [u8]) -> u8 {
-    if tag.len() < TAG_BYTES {
+    if tag.len() < if to_local { TAG_BYTES } else { MAPPED_BYTES } {
         return NO_ROOM;
     }
     if clock.len() != CLOCK_BYTES || clock[24] > 1 {
@@ -41,15 +41,17 @@ fn map(to_local: bool, clock: &[u8], given: RawTag, tag: &mut [u8]) -> u8 {
     if !given.within_limits() {
         return 6;
     }
-    let mapped = if to_local {
-        clock.to_local(given)
-    } else {
-        clock.to_global(given)
+    let mapped = match to_local {
+        true => clock.to_local(given).map(|mapped| (mapped, None)),
+        false => clock.to_global(given).map(|to| (to.tag, Some(to.held))),
     };
     match mapped {
-        Ok(mapped) => {
+        Ok((mapped, held)) => {
             let bytes: [u8; TAG_BYTES] = Tag::new(mapped.offset, mapped.microstep).into();
             tag[..TAG_BYTES].copy_from_slice(&bytes);
+            if let Some(held) = held {
+                tag[TAG_BYTES] = u8::from(held);
+            }
             0
         }
         Err(number) => number,

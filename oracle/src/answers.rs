@@ -13,6 +13,8 @@ pub struct Ready {
     pub terminal: bool,
     pub work: bool,
     pub network: bool,
+    /// Whether some event was held back (02, C-20).
+    pub held: bool,
     /// (level, key), ascending
     pub reactions: Vec<(usize, usize)>,
     pub actions: Vec<usize>,
@@ -26,6 +28,7 @@ impl Ready {
             terminal: false,
             work: false,
             network: false,
+            held: false,
             reactions: Vec::new(),
             actions: Vec::new(),
         }
@@ -57,15 +60,27 @@ pub fn pop_line(ready: Option<&Ready>) -> String {
         .map(|(level, key)| format!("{level}:{key}"))
         .collect();
     format!(
-        "ready {} {} terminal {} work {} network {} reactions {} actions {}",
+        "ready {} {} terminal {} work {} network {} held {} reactions {} actions {}",
         ready.offset,
         ready.microstep,
         u8::from(ready.terminal),
         u8::from(ready.work),
         u8::from(ready.network),
+        u8::from(ready.held),
         joined(&reactions),
         joined(&ready.actions)
     )
+}
+
+/// A ready line of ours as the Rust's bench writes it, which has no "held"; any other line as it is.
+pub fn without_held(line: &str) -> String {
+    match line.split_once(" held ") {
+        Some((front, rest)) => {
+            let (_, behind) = rest.split_once(' ').unwrap_or((rest, ""));
+            format!("{front} {behind}")
+        }
+        None => line.to_string(),
+    }
 }
 
 /// The line of a call that answers "ok" or a number.

@@ -294,12 +294,13 @@ fn refusal(number: u8) -> &'static str {
 
 fn ready(told: &Ready) -> String {
     format!(
-        "tag = at {} {}; terminal = {}; work = {}; network = {}; reactions = {}; actions = {}",
+        "tag = at {} {}; terminal = {}; work = {}; network = {}; held = {}; reactions = {}; actions = {}",
         told.offset,
         told.microstep,
         told.terminal,
         told.work,
         told.network,
+        told.held,
         set(told.reactions.iter().map(|&(_, key)| key)),
         inline(&told.actions)
     )

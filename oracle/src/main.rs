@@ -34,7 +34,7 @@ oracle walk SEED COUNT SCRIPT ANSWERS           level walks
 oracle table SEED COUNT SCRIPT ANSWERS          images with 01's answers
 oracle table days FOLDER SCRIPT ANSWERS         images of recorded days with the recorded answers
 oracle time DAY REPEAT [ANSWERS]    the day in the Rust alone, nanoseconds a record
-oracle rust-bench                   a day on standard input through the Rust alone; its lines to standard output
+oracle rust-bench                   a day on standard input through the Rust alone; its lines to standard output, without \"held\"
 oracle rust-usual                   the same, with buffers and formatting as they are usually written
 oracle race REPEAT FOLDER PROGRAM [WORD..]
                                     another program beside rust-bench on long days, as a table; FOLDER for two files

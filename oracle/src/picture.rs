@@ -238,13 +238,14 @@ impl Drawing<'_> {
             let (active, clock) = (state.active[scope], state.clocks[scope]);
             let track = &mut self.tracks[at];
             let asked = event.action.filter(|_| pushed && track.due.is_empty());
+            let mapped = clock.to_global(event.tag).ok().filter(|_| active);
             let due = match active {
-                true => clock.to_global(event.tag).ok(),
+                true => mapped.map(|mapped| mapped.tag),
                 false => asked.map(|(_, stored)| stored),
             };
             if due.is_some() && due != track.due.last().copied() {
                 track.due.extend(due);
-                if active && event.tag <= clock.local {
+                if mapped.is_some_and(|mapped| mapped.held) {
                     track.would =
                         Some(minutes(clock.global) + minutes(event.tag) - minutes(clock.local));
                 }

@@ -71,20 +71,30 @@ impl Clock {
         tag_within(offset, microstep)
     }
 
-    pub fn to_global(self, tag: RawTag) -> Answer<RawTag> {
+    /// 02, C-20: held where the result was earlier than G, or equal to G and not allowed.
+    pub fn to_global(self, tag: RawTag) -> Answer<Mapped> {
         if self.global == self.local && self.allowed {
-            return Ok(tag);
+            return Ok(Mapped { tag, held: false });
         }
-        let mapped = Self::carried(tag, self.local, self.global);
+        let carried = Self::carried(tag, self.local, self.global);
         let start = (
             i128::from(self.global.offset),
             i128::from(self.global.microstep),
         );
-        if mapped < start || (mapped == start && !self.allowed) {
-            return delayed(self.global);
-        }
-        tag_within(mapped.0, mapped.1)
+        let held = carried < start || (carried == start && !self.allowed);
+        let tag = match held {
+            true => delayed(self.global)?,
+            false => tag_within(carried.0, carried.1)?,
+        };
+        Ok(Mapped { tag, held })
     }
+}
+
+/// A local tag on the global scale, and whether it was held back.
+#[derive(Debug, Clone, Copy, PartialEq, Eq)]
+pub struct Mapped {
+    pub tag: RawTag,
+    pub held: bool,
 }
 
 /// A value under action and tag.
@@ -395,8 +405,8 @@ impl<'t> Plain<'t> {
             .filter_map(|scope| {
                 let local = self.queue_head(Some(scope))?;
                 // Events in active scopes map within the limits: every accepted call keeps that.
-                let global = self.state.clocks[scope].to_global(local).ok()?;
-                Some((global, scope))
+                let mapped = self.state.clocks[scope].to_global(local).ok()?;
+                Some((mapped.tag, scope))
             })
             .min()
     }
@@ -447,6 +457,9 @@ impl<'t> Plain<'t> {
             .partition(|event| event.scope == scope && event.tag == tag);
         self.state.events = left;
         for event in taken {
+            // 02, C-20: by the clock at the pop; root events never are.
+            let mapped = scope.map(|scope| self.state.clocks[scope].to_global(event.tag));
+            ready.held |= matches!(mapped, Some(Ok(Mapped { held: true, .. })));
             self.state.work -= usize::from(event.is_ordinary());
             ready.terminal |= event.terminal;
             ready.work |= event.is_ordinary();
@@ -560,7 +573,7 @@ impl<'t> Plain<'t> {
             if event.scope != Some(scope) {
                 continue;
             }
-            let image = clock.to_global(event.tag)?;
+            let image = clock.to_global(event.tag)?.tag;
             if let Some((action, stored)) = &mut event.action {
                 moves.push((*action, *stored, image));
                 *stored = image;
@@ -599,7 +612,7 @@ impl<'t> Plain<'t> {
             if !table.in_subtree(scope, target_scope) {
                 continue;
             }
-            let image = self.state.clocks[scope].to_global(row.tag)?;
+            let image = self.state.clocks[scope].to_global(row.tag)?.tag;
             self.state.store.push(row.action, image, 0)?;
             let reactions = table
                 .triggers

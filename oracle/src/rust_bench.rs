@@ -4,7 +4,7 @@
 //!
 //! It refuses by itself what the Rust would panic at or take for something else: 1, 5, 10 and 6. Of 7, 8 and 9 the Rust knows nothing, and to tell
 //! them would take a second machine beside it: on a day that has one of them its lines are wrong, and such a day is not raced. A line's actions stand
-//! in the order of the Rust's heap, each once.
+//! in the order of the Rust's heap, each once, and it has no "held" (02, C-20), of which the Rust knows nothing either.
 
 use std::io::{self, Read, Write};
 

@@ -6,7 +6,9 @@ use crate::answers::Ready;
 use crate::domain::{Apart, Turn, Why};
 use crate::image::{RawTag, Table, MAX_MICROSTEP, MAX_OFFSET};
 use crate::records::Op;
-use crate::schedule::{rust_tag, ActionKey, ModeKey, ReactionKey, ReactorKey, TableSchedule};
+use crate::schedule::{
+    rust_tag, ActionKey, ModeKey, ReactionKey, ReactorKey, ScopeKey, TableSchedule,
+};
 use crate::storage::Stores;
 use crate::{Level, Tag, TransitionKind};
 
@@ -166,7 +168,7 @@ impl RustSide {
         }
     }
 
-    /// Pops into `ready`, which keeps its vectors, and gives the sets back as the scheduler would.
+    /// Pops into `ready`, which keeps its vectors, and gives the sets back as the scheduler would. Of "held" it says nothing: this is timed.
     #[inline]
     pub fn pop_into(&mut self, ready: &mut Ready) -> bool {
         let Some(mut event) = self.manager.pop_next_event() else {
@@ -191,15 +193,30 @@ impl RustSide {
         true
     }
 
-    /// Pops; each action once, ascending (the Rust gives them in the order of its heap and may repeat one).
+    /// Pops; each action once, ascending (the Rust gives them in the order of its heap and may repeat one). "Held" (02, C-20), a word that
+    /// the Rust lacks, is worked out from its own queues and its clocks, which a pop leaves as they are.
     pub fn pop(&mut self) -> Option<Ready> {
+        let waited = self.manager.scope_tags();
         let mut ready = Ready::at(RawTag::ZERO);
         if !self.pop_into(&mut ready) {
             return None;
         }
+        ready.held = waited
+            .into_iter()
+            .any(|(scope, tag)| self.is_taken(scope, tag) && self.is_held(scope, tag));
         ready.actions.sort_unstable();
         ready.actions.dedup();
         Some(ready)
+    }
+
+    /// Whether the pop took what waited in a scope at a local tag: a queue gives its least tags first.
+    fn is_taken(&self, scope: ScopeKey, tag: Tag) -> bool {
+        let head = self.manager.scope_head(scope);
+        head.map_or(true, |head| tag < head)
+    }
+
+    fn is_held(&self, scope: ScopeKey, tag: Tag) -> bool {
+        holds_back(self.manager.clock_view(scope), tag)
     }
 
     /// Why the transition just applied left 01's domain, if it did.
@@ -272,7 +289,24 @@ pub fn outside_domain(op: &Op) -> Option<Why> {
     }
 }
 
-/// A scope clock's map in the published Rust, tags given within 01's limits: G, L, allowed, S, the argument.
+/// Whether a clock moves a local tag to its activation's next microstep, worked out from its numbers: what they come to is earlier than G, or
+/// equal to G and not allowed.
+fn holds_back(clock: ClockView, tag: Tag) -> bool {
+    if clock.global == clock.local && clock.allowed {
+        return false;
+    }
+    let wide = |tag: Tag| (tag.offset().whole_nanoseconds(), tag.microstep() as i128);
+    let (global, local, tag) = (wide(clock.global), wide(clock.local), wide(tag));
+    let microstep = match tag.0 == local.0 && tag.1 >= local.1 {
+        true => global.1 + (tag.1 - local.1),
+        false => tag.1,
+    };
+    let shifted = (global.0 + (tag.0 - local.0), microstep);
+    shifted < global || (shifted == global && !clock.allowed)
+}
+
+/// A scope clock's map in the published Rust, tags given within 01's limits: G, L, allowed, S, the argument. Offset, microstep, and whether
+/// the tag was held back, which from global to local it never is.
 pub fn map(
     to_local: bool,
     global: RawTag,
@@ -280,7 +314,7 @@ pub fn map(
     allowed: bool,
     suspended: RawTag,
     tag: RawTag,
-) -> (i128, u64) {
+) -> (i128, u64, bool) {
     let clock = ClockView {
         global: rust_tag(global),
         local: rust_tag(local),
@@ -291,5 +325,6 @@ pub fn map(
     (
         mapped.offset().whole_nanoseconds(),
         mapped.microstep() as u64,
+        !to_local && holds_back(clock, rust_tag(tag)),
     )
 }

@@ -8,7 +8,7 @@
 use std::collections::BTreeMap;
 use std::path::{Path, PathBuf};
 
-use crate::answers::joined;
+use crate::answers::{joined, without_held};
 use crate::compare::{compare, Outcome};
 use crate::image::{ACTION, KINDS, MAX_LEVEL, REACTION};
 use crate::judge::judge;
@@ -142,6 +142,9 @@ const ALL_KINDS: &[&str] = &[
     "ready terminal",
     "ready work",
     "ready network",
+    "ready held to 1",
+    "ready held to 0",
+    "ready held left out",
     "ready reaction key",
     "ready reaction level",
     "ready reaction dropped",
@@ -166,7 +169,7 @@ fn wrong_lines(line: &str) -> Vec<Wrong> {
         return wrong;
     }
     if line == "nothing" {
-        let ready = "ready 0 0 terminal 0 work 0 network 0 reactions - actions -";
+        let ready = "ready 0 0 terminal 0 work 0 network 0 held 0 reactions - actions -";
         return vec![
             ("nothing to ready", ready.to_string()),
             ("nothing to ok", "ok".to_string()),
@@ -213,11 +216,16 @@ fn list(word: &str) -> Vec<String> {
 
 fn wrong_ready(line: &str) -> Vec<Wrong> {
     let words: Vec<&str> = line.split(' ').collect();
-    if words.len() != 13 {
+    if words.len() != 15 {
         return Vec::new();
     }
     let more = |at: usize| with_word(&words, at, &plus_one(words[at]));
     let flipped = |at: usize| with_word(&words, at, if words[at] == "0" { "1" } else { "0" });
+    // A kind each, as few lines have a 1.
+    let held = |word: &str| match word {
+        "0" => "ready held to 1",
+        _ => "ready held to 0",
+    };
     let mut wrong = vec![
         ("ready to nothing", "nothing".to_string()),
         ("ready offset", more(1)),
@@ -225,9 +233,11 @@ fn wrong_ready(line: &str) -> Vec<Wrong> {
         ("ready terminal", flipped(4)),
         ("ready work", flipped(6)),
         ("ready network", flipped(8)),
+        (held(words[10]), flipped(10)),
+        ("ready held left out", without_held(line)),
     ];
-    wrong.extend(wrong_reactions(&words, 10));
-    wrong.extend(wrong_actions(&words, 12));
+    wrong.extend(wrong_reactions(&words, 12));
+    wrong.extend(wrong_actions(&words, 14));
     wrong
 }
 

@@ -17,6 +17,8 @@ struct Counts {
     refused_tables: usize,
     records: usize,
     ready: usize,
+    /// Ready events that say "held".
+    held: usize,
     nothing: usize,
     transitions: usize,
     /// By line, as "refused 7".
@@ -51,13 +53,14 @@ pub fn sweep(from: u64, to: u64, kind: Option<&str>) -> Result<String, String> {
     };
     Ok(format!(
         "{} days ({} refused tables), {} records, {} of them compared with the Rust; \
-         {} ready, {} nothing, {} transitions accepted, {} of them refused with 7 before C-14; refusals: {}; \
+         {} ready ({} of them held), {} nothing, {} transitions accepted, {} of them refused with 7 before C-14; refusals: {}; \
          days that left the domain: {}\nno difference",
         counts.days,
         counts.refused_tables,
         counts.records,
         counts.compared,
         counts.ready,
+        counts.held,
         counts.nothing,
         counts.transitions,
         counts.sevens,
@@ -96,7 +99,10 @@ fn one(day: &[u8], counts: &mut Counts) -> Result<(), String> {
                 counts.transitions += usize::from(matches!(record.op, Op::Transition { .. }));
             }
             "nothing" => counts.nothing += 1,
-            _ if line.starts_with("ready") => counts.ready += 1,
+            _ if line.starts_with("ready") => {
+                counts.ready += 1;
+                counts.held += usize::from(line.contains(" held 1 "));
+            }
             _ => *counts.refusals.entry(line.to_string()).or_default() += 1,
         }
     }

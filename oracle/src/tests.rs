@@ -37,7 +37,7 @@ fn the_paper_s_example() {
     let expected = [
         "table ok",
         "ok",
-        "ready 5 0 terminal 0 work 1 network 0 reactions 0:0 actions -",
+        "ready 5 0 terminal 0 work 1 network 0 held 0 reactions 0:0 actions -",
         "nothing",
     ];
     assert_eq!(answers(&day), expected);
@@ -52,6 +52,55 @@ fn a_pop_stops_where_the_least_scope_head_falls_below_its_tag() {
     let answers = answers(&day);
     let heads: Vec<&str> = answers[6..].iter().map(|line| &line[..11]).collect();
     assert_eq!(heads, ["ready 100 7", "ready 100 3", "ready 100 7"]);
+}
+
+/// The ready lines of a day over T2, with an action in its first mode and one in its second, up to their reactions.
+fn ready_over_t2(records: &str) -> Vec<String> {
+    let day = day(&format!("{T2} action 1 1; action 2 1; {records}"));
+    let ready = answers(&day).into_iter();
+    let front = |line: String| Some(line.split_once(" reactions ")?.0.to_string());
+    ready.filter_map(front).collect()
+}
+
+#[test]
+fn held_is_what_the_clock_moved_at_the_pop() {
+    for (records, ready, held) in [
+        ("act 1 100 2 0 -", "100 3", 1),
+        ("act 1 100 3 0 -", "100 3", 0),
+        ("act 1 100 3 0 -; act 1 100 2 0 -", "100 3", 1),
+        ("act 1 100 3 0 -; plain 100 3 0 -", "100 3", 0),
+        ("plain 100 3 0 -; act 1 100 2 0 -", "100 3", 1),
+        ("plain 100 2 0 -", "100 2", 0),
+        // Later than G when it was pushed, and earlier than the next G.
+        (
+            "act 1 150 0 0 -; transition 0 0 history 200 0; transition 0 1 history 300 0",
+            "300 1",
+            1,
+        ),
+    ] {
+        // The second mode is entered with G = (100, 2) and L zero.
+        let told = ready_over_t2(&format!("transition 0 1 history 100 2; {records}; pop"));
+        let expected = format!("ready {ready} terminal 0 work 1 network 0 held {held}");
+        assert_eq!(told, [expected], "{records}");
+    }
+    // The first is active from the beginning: G = L, and allowed.
+    let told = ready_over_t2("act 0 0 0 0 -; pop");
+    assert_eq!(told, ["ready 0 0 terminal 0 work 1 network 0 held 0"]);
+}
+
+#[test]
+fn a_held_event_that_a_pop_leaves_is_not_told() {
+    let day = day(
+        "scope - 0 -; scope 0 0 0; scope 0 0 1; scope 0 1 2; scope 0 1 3; reactor 0 0; reactor 0 2;
+         mode 1 0; mode 2 0; mode 3 1; mode 4 1; action 1 1; action 4 1; transition 0 1 history 40 9;
+         act 0 40 7 0 -; act 0 40 9 0 -; transition 1 3 history 100 6; act 1 100 6 0 -;
+         transition 0 0 history 100 2; pop; pop; pop",
+    );
+    let expected = [(7, 0, 0), (3, 1, 0), (7, 1, 1)].map(|(microstep, held, action)| {
+        let front = format!("ready 100 {microstep} terminal 0 work 1 network 0");
+        format!("{front} held {held} reactions - actions {action}")
+    });
+    assert_eq!(answers(&day)[7..], expected);
 }
 
 /// The plain machine's answers, and where the comparison with the Rust leaves off; judge and the states agree.

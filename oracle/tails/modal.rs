@@ -30,6 +30,15 @@ impl<S: Schedule> EventManager<S> {
         self.scope_queues[scope].peek_tag()
     }
 
+    /// Scope and local tag of every event in a scope's queue.
+    pub(crate) fn scope_tags(&self) -> Vec<(S::Scope, Tag)> {
+        let of = |&scope: &S::Scope| {
+            let tags = self.scope_queues[scope].tags();
+            tags.map(move |(tag, _)| (scope, tag))
+        };
+        self.scopes.iter().flat_map(of).collect()
+    }
+
     pub(crate) fn work_count(&self) -> usize {
         self.nonterminal_work_count
     }

@@ -1,5 +1,5 @@
 //! The fact lines of the proved program `explained`, read as they come: the table, then one record after another. Nothing is computed here but the
-//! place of a record in the file, by adding up the bytes before it.
+//! place of a record in the file, by adding up the bytes before it. An answer at odds with its sources is not taken.
 
 use std::io::BufRead;
 
@@ -200,6 +200,24 @@ impl Record {
         self.answer == "ok"
     }
 
+    /// The word behind a name in the answer.
+    pub fn said(&self, name: &str) -> Option<&str> {
+        self.answer
+            .split(' ')
+            .skip_while(|word| *word != name)
+            .nth(1)
+    }
+
+    /// Whether an event in the ready one was held back, by the answer's own word.
+    pub fn held_back(&self) -> bool {
+        self.said("held") == Some("1")
+    }
+
+    /// The answer's word and the places that it took from say the same, or the program that finds the facts is wrong.
+    fn agrees(&self) -> bool {
+        self.held_back() == self.takes.iter().any(|place| place.held)
+    }
+
     /// An accepted transition: what stands now is other than before.
     pub fn turns(&self) -> bool {
         self.call[0] == 5 && self.accepted()
@@ -339,6 +357,14 @@ impl<R: BufRead> Facts<R> {
         std::io::Error::new(std::io::ErrorKind::UnexpectedEof, "they break off")
     }
 
+    /// The facts of one record contradict each other.
+    fn at_odds(place: u64) -> std::io::Error {
+        let words = format!(
+            "of the record at byte {place} they do not agree on whether an event was held back"
+        );
+        std::io::Error::new(std::io::ErrorKind::InvalidData, words)
+    }
+
     pub fn table(&mut self) -> std::io::Result<Table> {
         let mut table = Table::default();
         while self.next()? {
@@ -383,6 +409,9 @@ impl<R: BufRead> Facts<R> {
         self.begin(&mut record);
         while self.next()? {
             if self.name() == b"end" {
+                if !record.agrees() {
+                    return Err(Self::at_odds(record.place));
+                }
                 return Ok(Some(record));
             }
             self.take(&mut record);
@@ -447,5 +476,64 @@ pub trait Buffered {
 impl<T: std::io::Read> Buffered for std::io::BufReader<T> {
     fn holds(&self) -> bool {
         !self.buffer().is_empty()
+    }
+}
+
+#[cfg(test)]
+pub mod tests {
+    use super::*;
+
+    /// What a pop at 30 minutes, step 1, takes: a root event, and events of scope 1, which was entered at 30 minutes: one due at the entry itself, so
+    /// moved to its next step, and one due at that step by itself.
+    pub const ROOT: &str = "take 65535 1800000000000 1 1 1 1800000000000 1 0";
+    pub const MOVED: &str = "take 1 0 0 1 1 1800000000000 1 1";
+    pub const DUE: &str = "take 1 0 1 1 1 1800000000000 1 0";
+
+    /// A day of one pop that takes these, with this word on held in its answer.
+    pub fn popped(takes: &[&str], held: &str) -> std::io::Result<(Table, Record)> {
+        let text = format!(
+            "answer table ok\nscope 0 1 1 1 0 0 0 0 0 0\nscope 1 1 1 0 1800000000000 0 0 0 0 0\ntime 1800000000000 0 0 30 0 0\nrecords\n\
+             record 6 1 6\ncall 6 0 0 0 0 0\n{}\n\
+             answer ready 1800000000000 1 terminal 0 work 1 network 0 held {held} reactions 0:3 actions 3\nheld 0 0 0 0\nend\n",
+            takes.join("\n")
+        );
+        let mut facts = Facts::new(text.as_bytes());
+        let table = facts.table()?;
+        let record = facts.record()?;
+        Ok((table, record.expect("a record")))
+    }
+
+    #[test]
+    fn held_is_the_answer_s_word() {
+        for (takes, held) in [
+            (&[MOVED][..], "1"),
+            (&[DUE], "0"),
+            (&[ROOT], "0"),
+            (&[ROOT, MOVED], "1"),
+            (&[ROOT, DUE], "0"),
+            (&[MOVED, DUE], "1"),
+        ] {
+            let (_, record) = popped(takes, held).unwrap();
+            assert_eq!(record.held_back(), held == "1", "{takes:?}");
+            assert_eq!(record.said("network"), Some("0"));
+            assert_eq!(record.said("reactions"), Some("0:3"));
+        }
+    }
+
+    #[test]
+    fn an_answer_at_odds_with_its_places_is_no_fact() {
+        for (takes, held) in [
+            (&[MOVED][..], "0"),
+            (&[DUE], "1"),
+            (&[ROOT], "1"),
+            (&[ROOT, MOVED], "0"),
+            (&[ROOT, DUE], "1"),
+        ] {
+            let error = popped(takes, held).err().expect("refused facts");
+            assert!(
+                error.to_string().contains("held back"),
+                "{takes:?}: {error}"
+            );
+        }
     }
 }

@@ -290,8 +290,10 @@ impl Picture<'_> {
                     self.start(Row::Scope(scope), x, &title);
                 }
             } else if record.call[0] == 6 {
+                // red where the answer says held, in the rows of what was moved
+                let held = record.held_back();
                 for place in &record.takes {
-                    let edge = if place.held { ALARM } else { INK };
+                    let edge = if held && place.held { ALARM } else { INK };
                     self.dot(
                         queue_row(place.queue),
                         x,
@@ -399,4 +401,50 @@ pub fn drawn(shown: &Shown, head: &[String], left_out: Option<String>) -> String
     }
     picture.out.push_str("</svg>\n");
     picture.out
+}
+
+#[cfg(test)]
+mod tests {
+    use super::*;
+    use crate::facts::tests::{popped, DUE, MOVED, ROOT};
+
+    /// The colours of a pop's dots, in the order of taking.
+    fn coloured((table, record): (Table, Record)) -> Vec<String> {
+        let table = &table;
+        let shown = Shown {
+            table,
+            before: &State::of(table),
+            records: &[(record, String::new())],
+        };
+        let picture = drawn(&shown, &[], None);
+        let circles = picture.lines().filter(|line| line.starts_with("<circle"));
+        circles
+            .map(|line| {
+                line.split('"')
+                    .skip_while(|word| !word.ends_with("fill="))
+                    .nth(1)
+                    .unwrap_or("")
+                    .to_string()
+            })
+            .collect()
+    }
+
+    #[test]
+    fn what_was_held_back_is_red() {
+        for (takes, held, colours) in [
+            (&[MOVED][..], "1", &[ALARM][..]),
+            (&[DUE], "0", &[INK]),
+            (&[ROOT, MOVED], "1", &[INK, ALARM]),
+            (&[ROOT, DUE], "0", &[INK, INK]),
+        ] {
+            assert_eq!(coloured(popped(takes, held).unwrap()), colours);
+        }
+    }
+
+    #[test]
+    fn no_dot_is_red_where_the_answer_says_not_held() {
+        let (table, mut record) = popped(&[MOVED], "1").unwrap();
+        record.answer = record.answer.replace("held 1", "held 0");
+        assert_eq!(coloured((table, record)), [INK]);
+    }
 }

@@ -456,14 +456,7 @@ impl Telling<'_> {
     }
 
     fn ready_words(&self, record: &Record, answer: &[&str]) -> String {
-        let after = |name: &str| {
-            answer
-                .iter()
-                .position(|word| *word == name)
-                .and_then(|at| answer.get(at + 1))
-                .copied()
-                .unwrap_or("-")
-        };
+        let after = |name: &str| record.said(name).unwrap_or("-");
         let tag = Tag {
             offset: answer.get(1).and_then(|n| n.parse().ok()).unwrap_or(0),
             microstep: answer.get(2).and_then(|n| n.parse().ok()).unwrap_or(0),
@@ -488,6 +481,7 @@ impl Telling<'_> {
             ("terminal", "terminal"),
             ("work", "ordinary work"),
             ("network", "network"),
+            ("held", "held back"),
         ] {
             if after(name) == "1" {
                 let _ = write!(words, "; {yes}");
@@ -741,4 +735,54 @@ fn cut_words(record: &Record, said: u64, there: u64) -> String {
         record.place,
         plural(record.unread, "byte")
     )
+}
+
+#[cfg(test)]
+mod tests {
+    use super::*;
+    use crate::facts::tests::{popped, DUE, MOVED, ROOT};
+
+    const ROOT_WORDS: &str = "the root queue, at its own tag";
+    const MOVED_WORDS: &str = "scope 1 at local 0h 00m, held back: its own moment is not later than the scope's activation, 0h 30m";
+    const DUE_WORDS: &str = "scope 1 at local 0h 00m +1, not held back";
+
+    /// The words of a pop, from its sources on.
+    fn words(table: &Table, record: &Record) -> String {
+        let words = Teller::new(table).record_words(1, record);
+        let from = words.strip_prefix("1. pop: ready at 0h 30m +1: from ");
+        from.expect("a ready event").to_string()
+    }
+
+    #[test]
+    fn a_ready_event_says_whether_it_was_held_back() {
+        let held = "; reactions 0:3; actions 3; ordinary work; held back; no modes";
+        let due = "; reactions 0:3; actions 3; ordinary work; no modes";
+        for (takes, flag, sources, rest) in [
+            (&[MOVED][..], "1", MOVED_WORDS.to_string(), held),
+            (&[DUE], "0", DUE_WORDS.to_string(), due),
+            (&[ROOT], "0", ROOT_WORDS.to_string(), due),
+            (
+                &[ROOT, MOVED],
+                "1",
+                format!("{ROOT_WORDS}; then from {MOVED_WORDS}"),
+                held,
+            ),
+            (
+                &[ROOT, DUE],
+                "0",
+                format!("{ROOT_WORDS}; then from {DUE_WORDS}"),
+                due,
+            ),
+        ] {
+            let (table, record) = popped(takes, flag).unwrap();
+            assert_eq!(words(&table, &record), sources + rest);
+        }
+    }
+
+    #[test]
+    fn the_ready_event_s_word_is_the_answer_s() {
+        let (table, mut record) = popped(&[MOVED], "1").unwrap();
+        record.answer = record.answer.replace("held 1", "held 0");
+        assert!(!words(&table, &record).contains("; held back"));
+    }
 }

@@ -7,7 +7,9 @@ use Prim.Native.Nat.{ℕ, zero, suc, _+_, _-_, _<_, _≤_}
 use native.Mathlib.Omega.{arith}
 use lib.ListN.{length, take, drop, getD, set, length-take}
 use lib.Seq.{getD-take}
-use Rattle.lists.specs.Tests.{flag, lt-eqb, and-yes, and-no, below?, yes-no}
+use lib.Dec.{eqb}
+use borrow.Author.Tests.{eqb-true}
+use Rattle.lists.specs.Tests.{flag, lt-eqb, and-yes, and-no, and-left, and-right, below?, yes-no}
 use Rattle.lists.specs.Lists.{keep, lose, count, every, foldl, from}
 use Rattle.lists.specs.Lay.{lay}
 use Rattle.lists.specs.Held.{thing-past}
@@ -15,13 +17,14 @@ use Rattle.lists.specs.Rows.{tab-at}
 use Rattle.lists.specs.Every.{count-split}
 use Rattle.lists.specs.Steps.{every-pass, every-fail, every-end}
 use Rattle.table_rows.specs.Bytes.{Image}
-use Rattle.tags.specs.Tags.{Tag, zeroTag, sameTag, earlier}
+use Rattle.tags.specs.Tags.{Tag, zeroTag, sameTag, earlier, toGlobal, heldIn}
 use Rattle.tags.specs.Views.{ofGlobal, ofQueue}
 use Rattle.tags.specs.declared.GlobalTag.{GlobalTag}
+use Rattle.tags.proofs.Laws.{same-tag}
 use Rattle.machine.specs.Table.{scopes}
-use Rattle.machine.specs.State.{Event, State, root, ordinary, atHead, withQueue}
+use Rattle.machine.specs.State.{Event, State, root, ordinary, inQueue, atHead, withQueue}
 use Rattle.machine.specs.Heads.{Head, Least, noTag, least, empty, head, leastOf, rootOf, scopeHeadOf, rootHead, headAt, sooner, scopeHead, peek, isAt, controlled, controlAt, controlOnly}
-use Rattle.machine.specs.Heads.{Taking, untaken, taken, takeAt, takeScopes, taking, readyOf}
+use Rattle.machine.specs.Heads.{Taking, untaken, taken, takeAt, takeScopes, taking, heldAt, readyOf}
 use Rattle.machine.specs.Machine as M
 use Rattle.machine.specs.Machine.{Reply, nothing, ready, tag, answer, popAt, peekAt, perform}
 use Rattle.state_events.specs.Slots as slot
@@ -36,7 +39,7 @@ use Rattle.state_heads.specs.Found.{headOf, headIn, leastHead}
 use Rattle.state_heads.specs.declared.HeadAt.{HeadAt}
 use Rattle.state_heads.specs.declared.Head as code
 use Rattle.state_heads.specs.declared.Head.the-variants as C
-use Rattle.call_pop_ready.specs.Gathering.{nothingYet, noneYet, addedTo, readyAt, gatheringOf, Grown}
+use Rattle.call_pop_ready.specs.Gathering.{Gathering, nothingYet, noneYet, addedTo, addedBy, readyAt, gatheringOf, Grown}
 use Rattle.call_pop_ready.specs.declared.Gathered.{Gathered}
 use Rattle.call_pop_ready.proofs.GatherLaws.{foldl-append, gathered, ready-nothing, grown-none, grown-then}
 use Rattle.state_room.specs.declared.Counts.{Counts}
@@ -246,11 +249,30 @@ both-lengths p (a ∷ l) = go (p a) (both-lengths p l)
     go true h = omega arith
     go false h = omega arith
 
-module _ (ws : List ℕ) (given : T.Taking) (w : Waits ws (given .counts)) where
+-- the events at one head are all held back, or none is
+module _ (ss : List Scope) (q : ℕ) (x : Tag) (held : Bool) (r : held ≡ heldAt ss q x) where
+  one-held : (g : Gathering) (e : Event) → atHead q x e ≡ true → addedTo held g e ≡ addedBy ss g e
+  unfolding atHead inQueue
+  one-held g e y =
+      let i = eqb-true (e .queue) q (and-left (eqb (e .queue) q) _ y) in
+      let j = same-tag (e .tag) x (and-right (eqb (e .queue) q) _ y) in
+      ap (λ b. addedTo b g e) (r ∙ rw (i, j))
+
+  all-held : (es : List Event) (g : Gathering) → foldl (addedTo held) g (keep (atHead q x) es) ≡ foldl (addedBy ss) g (keep (atHead q x) es)
+  unfolding keep foldl
+  all-held [] g = refl
+  all-held (e ∷ es) g = go (atHead q x e) refl (all-held es)
+    where
+      go : (b : Bool) → atHead q x e ≡ b → ((h : Gathering) → foldl (addedTo held) h (keep (atHead q x) es) ≡ foldl (addedBy ss) h (keep (atHead q x) es)) →
+          foldl (addedTo held) g (cond b (e ∷ keep (atHead q x) es) (keep (atHead q x) es)) ≡ foldl (addedBy ss) g (cond b (e ∷ keep (atHead q x) es) (keep (atHead q x) es))
+      go true y rest = rest (addedTo held g e) ∙ ap (λ h. foldl (addedBy ss) h (keep (atHead q x) es)) (one-held g e y)
+      go false y rest = rest g
+
+module _ (ss : List Scope) (ws : List ℕ) (given : T.Taking) (w : Waits ws (given .counts)) where
   abbrev old : List Event
   old = take (given .counts .waiting) (eventsOf ws)
 
-  pub takes-none : (keys : List ℕ) → given .gathered .actions + given .counts .waiting ≤ roomForEvents → Takes (lent ws (given .counts)) given given keys ws keys
+  pub takes-none : (keys : List ℕ) → given .gathered .actions + given .counts .waiting ≤ roomForEvents → Takes ss (lent ws (given .counts)) given given keys ws keys
   unfolding foldl
   takes-none keys r = record { queued = waits-queued ws (given .counts) w; waits = w; gathered = refl; grown = grown-none (given .gathered .actions) keys; room = r }
 
@@ -259,13 +281,13 @@ module _ (ws : List ℕ) (given : T.Taking) (w : Waits ws (given .counts)) where
     went-few = omega (arith, w .counted, count-split ordinary (atHead q x) old)
 
     pub takes-some :
-        (g : Gathered) (keys next out : List ℕ) → slot.Held out (lay slot.blank (eventsOf ws) (lose (atHead q x) old) (given .counts .waiting)) →
-        gatheringOf g next ≡ foldl addedTo (gatheringOf (given .gathered) keys) (keep (atHead q x) old) →
+        (held : Bool) (g : Gathered) (keys next out : List ℕ) → held ≡ heldAt ss q x → slot.Held out (lay slot.blank (eventsOf ws) (lose (atHead q x) old) (given .counts .waiting)) →
+        gatheringOf g next ≡ foldl (addedTo held) (gatheringOf (given .gathered) keys) (keep (atHead q x) old) →
         g .actions ≤ given .gathered .actions + length (keep (atHead q x) old) → Grown (given .gathered .actions) (g .actions) keys next →
         given .gathered .actions + given .counts .waiting ≤ roomForEvents →
-        Takes (taken q x (lent ws (given .counts))) given (record { gathered = g; counts = record { waiting = m; work = given .counts .work - o } }) keys out next
+        Takes ss (taken q x (lent ws (given .counts))) given (record { gathered = g; counts = record { waiting = m; work = given .counts .work - o } }) keys out next
     unfolding taken
-    takes-some g keys next out k s a b r =
+    takes-some held g keys next out h k s a b r =
         let c = given .counts in
         let was = waits-queued ws c w in
         let few : length old ≤ roomForEvents = rw (← was .waiting) (w .few) in
@@ -276,7 +298,7 @@ module _ (ws : List ℕ) (given : T.Taking) (w : Waits ws (given .counts)) where
         record {
           queued = new;
           waits = queued-waits _ _ out _ new left (omega (arith, w .counted, count-split ordinary (atHead q x) old));
-          gathered = s;
+          gathered = s ∙ all-held ss q x held h old (gatheringOf (given .gathered) keys);
           grown = b;
           room = omega (arith, was .waiting);
         }
@@ -331,7 +353,7 @@ module _ (img : Image) (ss : List Scope) (t : Tag) where
   take-other zero k h e y = refl
   take-other (suc m) k h e y = let z : isAt t (scopeHead img ss (k .waiting)) ≡ false = rw e at y in simp z
 
-module _ {k : Taking} {given g : T.Taking} {was ws keys : List ℕ} (w : Takes k given g was ws keys) where
+module _ {ss : List Scope} {k : Taking} {given g : T.Taking} {was ws keys : List ℕ} (w : Takes ss k given g was ws keys) where
   takes-waiting : take (g .counts .waiting) (eventsOf ws) ≡ k .waiting
   takes-waiting = queued-is (k .waiting) (k .work) ws (g .counts) (w .queued) (rw (← w .queued .waiting) (w .waits .few))
 
@@ -344,16 +366,16 @@ module _ {k : Taking} {given g : T.Taking} {was ws keys : List ℕ} (w : Takes k
 
   -- the scopes' after these
   pub takes-then :
-      (img : Image) (ss : List Scope) (t : Tag) (m : ℕ) {r : T.Taking} {out next : List ℕ} → Takes (takeScopes m img ss t (lent ws (g .counts))) g r keys out next →
-      Takes (takeScopes m img ss t k) given r was out next
-  takes-then img ss t m v =
+      (img : Image) (t : Tag) (m : ℕ) {r : T.Taking} {out next : List ℕ} → Takes ss (takeScopes m img ss t (lent ws (g .counts))) g r keys out next →
+      Takes ss (takeScopes m img ss t k) given r was out next
+  takes-then img t m v =
       let j = takeScopes m img ss t (lent ws (g .counts)) in
       let here : k ≡ after (k .events) (lent ws (g .counts)) = rw (takes-waiting, w .queued .work, append-nil (k .events)) in
       rw (ap (takeScopes m img ss t) here ∙ scopes-after img ss t (k .events) m (lent ws (g .counts)))
       (record {
         queued = v .queued;
         waits = v .waits;
-        gathered = v .gathered ∙ rw (foldl-append addedTo (gatheringOf (given .gathered) was) (k .events) (j .events), w .gathered);
+        gathered = v .gathered ∙ rw (foldl-append (addedBy ss) (gatheringOf (given .gathered) was) (k .events) (j .events), w .gathered);
         grown = grown-then (w .grown) (v .grown);
         room = v .room;
       })
@@ -361,14 +383,14 @@ module _ {k : Taking} {given g : T.Taking} {was ws keys : List ℕ} (w : Takes k
 -- the root's are taken: the least scope head is as it was
 pub local-still :
     (img : Image) (ev ws : List ℕ) (c : Counts) (t : Tag) {a : Head} {given g : T.Taking} {was mid keys : List ℕ} {b : Head} →
-    a ≡ rootHead (take (c .waiting) (eventsOf ev)) → Takes (takeAt t (lent ev c) a) given g was mid keys → b ≡ scopeHead img (scopesOf ws) (take (c .waiting) (eventsOf ev)) →
+    a ≡ rootHead (take (c .waiting) (eventsOf ev)) → Takes (scopesOf ws) (takeAt t (lent ev c) a) given g was mid keys → b ≡ scopeHead img (scopesOf ws) (take (c .waiting) (eventsOf ev)) →
     b ≡ scopeHead img (scopesOf ws) (take (g .counts .waiting) (eventsOf mid))
 local-still img ev ws c t r v e = e ∙ (sym (root-leaves img ws t (take (c .waiting) (eventsOf ev)) (c .work)) ∙ rw (takes-waiting v, r))
 
 -- the loop's state: what is left to take from here makes the whole
 module _ (img : Image) (ss : List Scope) (t : Tag) where
   pub record Going (end : Taking) (given : T.Taking) (was : List ℕ) (turns : ℕ) (ws keys : List ℕ) (g : T.Taking) (h : Head) : Type 0 where
-    pub rest : (r : T.Taking) (out next : List ℕ) → Takes (takeScopes turns img ss t (lent ws (g .counts))) g r keys out next → Takes end given r was out next
+    pub rest : (r : T.Taking) (out next : List ℕ) → Takes ss (takeScopes turns img ss t (lent ws (g .counts))) g r keys out next → Takes ss end given r was out next
     pub local : h ≡ scopeHead img ss (take (g .counts .waiting) (eventsOf ws))
     pub waits : Waits ws (g .counts)
     pub long : length keys ≡ length was
@@ -382,14 +404,14 @@ module _ (img : Image) (ss : List Scope) (t : Tag) where
 module _ {img : Image} {ss : List Scope} {t : Tag} {end : Taking} {given g : T.Taking} {was ws keys : List ℕ} {turns : ℕ} {h : Head}
     (w : Going img ss t end given was turns ws keys g h) where
   pub going-next :
-      {out next : List ℕ} {i : T.Taking} {j : Head} → 0 < turns → isAt t h ≡ true → Takes (takeAt t (lent ws (g .counts)) h) g i keys out next →
+      {out next : List ℕ} {i : T.Taking} {j : Head} → 0 < turns → isAt t h ≡ true → Takes ss (takeAt t (lent ws (g .counts)) h) g i keys out next →
       j ≡ scopeHead img ss (take (i .counts .waiting) (eventsOf out)) → Going img ss t end given was (turns - 1) out next i j
   going-next z y v e =
       let s : turns ≡ suc (turns - 1) = omega arith in
       let q : takeScopes turns img ss t (lent ws (g .counts)) ≡ takeScopes (turns - 1) img ss t (takeAt t (lent ws (g .counts)) h) =
       ap (λ m. takeScopes m img ss t (lent ws (g .counts))) s ∙ take-more img ss t (turns - 1) (lent ws (g .counts)) h (w .local) y in
       record {
-        rest = λ r o n x. w .rest r o n (rw q (takes-then v img ss t (turns - 1) x));
+        rest = λ r o n x. w .rest r o n (rw q (takes-then v img t (turns - 1) x));
         local = e;
         waits = v .waits;
         long = v .grown .long ∙ w .long;
@@ -397,22 +419,30 @@ module _ {img : Image} {ss : List Scope} {t : Tag} {end : Taking} {given g : T.T
       }
 
   -- the end, where no turn is left or the least head is another
-  over : takeScopes turns img ss t (lent ws (g .counts)) ≡ lent ws (g .counts) → Takes end given g was ws keys
-  over q = w .rest g ws keys (rw q (takes-none ws g (w .waits) keys (w .room)))
+  over : takeScopes turns img ss t (lent ws (g .counts)) ≡ lent ws (g .counts) → Takes ss end given g was ws keys
+  over q = w .rest g ws keys (rw q (takes-none ss ws g (w .waits) keys (w .room)))
 
-  pub going-end : turns ≤ 0 → Takes end given g was ws keys
+  pub going-end : turns ≤ 0 → Takes ss end given g was ws keys
   unfolding takeScopes
   going-end z = let e : turns ≡ 0 = omega arith in over (rw e)
 
-  pub going-stop : isAt t h ≡ false → Takes end given g was ws keys
+  pub going-stop : isAt t h ≡ false → Takes ss end given g was ws keys
   going-stop y = over (take-other img ss t turns (lent ws (g .counts)) h (w .local) y)
 
 -- ---- the whole pop
 
 -- what is gathered is the machine's ready event
-ready-is : (t : Tag) (es : List Event) → readyAt t (foldl addedTo nothingYet es) ≡ readyOf t es
+ready-is : (ss : List Scope) (t : Tag) (es : List Event) → readyAt t (foldl (addedBy ss) nothingYet es) ≡ readyOf ss t es
 unfolding foldl readyOf
-ready-is t es = ap (readyAt t) (rw (← ready-nothing t) (gathered t [] es))
+ready-is ss t es = ap (readyAt t) (rw (← ready-nothing ss t) (gathered ss t [] es))
+
+-- held by the clocks in the rows, and so by the state's
+held-shown : (s : State) (ws : List ℕ) → Shows s ws → (es : List Event) (g : Gathering) → foldl (addedBy (scopesOf ws)) g es ≡ foldl (addedBy (s .scopes)) g es
+unfolding foldl heldAt
+held-shown s ws h [] g = refl
+held-shown s ws h (e ∷ es) g =
+    held-shown s ws h es (addedBy (scopesOf ws) g e) ∙
+    ap (λ x. foldl (addedBy (s .scopes)) (addedTo (not (eqb (e .queue) root) && heldIn (toGlobal (x .clock) (e .tag))) g e) es) (h (e .queue))
 
 module _ (ev : List ℕ) (c : Counts) (g : Gathered) (o : g ≡ noneYet) (w : Waits ev c) where
   pub start-room : g .actions + c .waiting ≤ roomForEvents
@@ -429,7 +459,7 @@ module _ (ev : List ℕ) (c : Counts) (g : Gathered) (o : g ≡ noneYet) (w : Wa
 
     pub pops-found :
         {t : GlobalTag} → p ≡ P.At t → (ws : List ℕ) → Shows s ws → (all : T.Taking) {keys out next : List ℕ} →
-        Takes (takeScopes (c .waiting) img (scopesOf ws) (ofGlobal t) (takeAt (ofGlobal t) (lent ev c) (headOf a))) (record { gathered = g; counts = c }) all keys out next →
+        Takes (scopesOf ws) (takeScopes (c .waiting) img (scopesOf ws) (ofGlobal t) (takeAt (ofGlobal t) (lent ev c) (headOf a))) (record { gathered = g; counts = c }) all keys out next →
         Pops (perform img s M.pop) (record { found = true; tag = t; gathered = all .gathered; counts = all .counts }) keys out next
     unfolding perform
     pops-found {t} d ws h all v =
@@ -437,7 +467,7 @@ module _ (ev : List ℕ) (c : Counts) (g : Gathered) (o : g ≡ noneYet) (w : Wa
         let u = rw (n .root, taking-is img s ev ws c (w .few) q h (ofGlobal t), o) at v in
         rw (pop-found img s (peek img (s .scopes) (s .waiting)) (ofGlobal t) (sym (ap replyOf d) ∙ seen-peek n e))
         (record {
-          reply = ap ready (ap (readyAt (ofGlobal t)) (u .gathered) ∙ ready-is (ofGlobal t) (k .events));
+          reply = ap ready (ap (readyAt (ofGlobal t)) (u .gathered ∙ held-shown s ws h (k .events) nothingYet) ∙ ready-is (s .scopes) (ofGlobal t) (k .events));
           queued = u .queued;
           waits = u .waits;
           grown = u .grown;

@@ -7,10 +7,11 @@ use lib.ListN.{take}
 use Rattle.lists.specs.Lists.{foldl}
 use Rattle.tags.specs.Tags.{zeroTag}
 use Rattle.tags.specs.Views.{ofGlobal}
+use Rattle.machine.specs.State.{Scope}
 use Rattle.machine.specs.Heads.{Taking, Ready, untaken}
 use Rattle.machine.specs.Machine.{Reply, Outcome, nothing, ready, tag}
 use Rattle.state_events.specs.Slots.{eventsOf, roomForEvents}
-use Rattle.call_pop_ready.specs.Gathering.{noneYet, addedTo, readyAt, gatheringOf, Grown}
+use Rattle.call_pop_ready.specs.Gathering.{noneYet, addedBy, readyAt, gatheringOf, Grown}
 use Rattle.state_room.specs.declared.Counts.{Counts}
 use Rattle.state_room.specs.PartRows.{Queued, Waits}
 use Rattle.call_pop.specs.declared.Taking as code
@@ -30,11 +31,11 @@ replyOf (P.At t) = tag (ofGlobal t)
 abbrev pub lent : List ℕ → Counts → Taking
 lent ws c = untaken (take (c .waiting) (eventsOf ws)) (c .work)
 
--- rows and counts hold what waits, and what was taken is gathered behind what was before, its keys in the array as it was
-pub record Takes (k : Taking) (given r : code.Taking) (was ws keys : List ℕ) : Type 0 where
+-- rows and counts hold what waits, and what was taken is gathered behind what was before, by the scopes' clocks, its keys in the array as it was
+pub record Takes (ss : List Scope) (k : Taking) (given r : code.Taking) (was ws keys : List ℕ) : Type 0 where
   pub queued : Queued (k .waiting) (k .work) ws (r .counts)
   pub waits : Waits ws (r .counts)
-  pub gathered : gatheringOf (r .gathered) keys ≡ foldl addedTo (gatheringOf (given .gathered) was) (k .events)
+  pub gathered : gatheringOf (r .gathered) keys ≡ foldl (addedBy ss) (gatheringOf (given .gathered) was) (k .events)
   pub grown : Grown (given .gathered .actions) (r .gathered .actions) was keys
   pub room : r .gathered .actions + r .counts .waiting ≤ roomForEvents
 

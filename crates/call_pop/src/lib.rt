@@ -98,6 +98,7 @@ fn peek_of(root: Head, local: Head) -> Peeked
 
 // All events at a head.
 fn take_at(
+    scopes: &[u64; state_scopes::ROOM],
     events: &mut [u64; state_events::ROOM],
     keys: &mut [u16; state_events::ROOM_FOR_EVENTS],
     heads: &mut [u64; state_queues::HEADS],
@@ -107,7 +108,7 @@ fn take_at(
     requires { ⌜ Waits (now events) (given .counts) ⌝ }
     requires { ⌜ (length (now keys) ≡ roomForEvents) × (given .gathered .actions + given .counts .waiting ≤ roomForEvents) ⌝ }
     requires { ⌜ Headed (now heads) (now events) (given .counts) ⌝ }
-    ensures { λ r. ⌜ Takes (taken (h .queue) (ofQueue (h .stamp)) (lent (was events) (given .counts))) given r (was keys) (is events) (is keys) ⌝ }
+    ensures { λ r. ⌜ Takes (scopesOf (was scopes)) (taken (h .queue) (ofQueue (h .stamp)) (lent (was events) (given .counts))) given r (was keys) (is events) (is keys) ⌝ }
     ensures { λ r. ⌜ Headed (is heads) (is events) (r .counts) ⌝ }
 {
     let none = KeySet::empty();
@@ -118,9 +119,10 @@ fn take_at(
         stamp,
         inside: none,
     };
+    let held = state_heads::is_held(scopes, h);
     let counts = given.counts;
     let before = given.gathered;
-    let gone = call_pop_ready::take_out(events, counts.waiting, which, keys, before);
+    let gone = call_pop_ready::take_out(events, counts.waiting, which, keys, before, held);
     let lowest = gone.lowest;
     state_queues::renew(heads, h.queue, lowest);
     let gathered = gone.gathered;
@@ -136,6 +138,7 @@ fn take_at(
 
 // All events at a head, if the head is t.
 fn take_head(
+    scopes: &[u64; state_scopes::ROOM],
     events: &mut [u64; state_events::ROOM],
     keys: &mut [u16; state_events::ROOM_FOR_EVENTS],
     heads: &mut [u64; state_queues::HEADS],
@@ -146,7 +149,7 @@ fn take_head(
     requires { ⌜ Waits (now events) (given .counts) ⌝ }
     requires { ⌜ (length (now keys) ≡ roomForEvents) × (given .gathered .actions + given .counts .waiting ≤ roomForEvents) ⌝ }
     requires { ⌜ Headed (now heads) (now events) (given .counts) ⌝ }
-    ensures { λ r. ⌜ Takes (takeAt (ofGlobal t) (lent (was events) (given .counts)) (headOf h)) given r (was keys) (is events) (is keys) ⌝ }
+    ensures { λ r. ⌜ Takes (scopesOf (was scopes)) (takeAt (ofGlobal t) (lent (was events) (given .counts)) (headOf h)) given r (was keys) (is events) (is keys) ⌝ }
     ensures { λ r. ⌜ Headed (is heads) (is events) (r .counts) ⌝ }
 {
     match h {
@@ -154,7 +157,7 @@ fn take_head(
         Head::At(x) => {
             let g = x.tag;
             if g.same(t) {
-                take_at(events, keys, heads, given, x)
+                take_at(scopes, events, keys, heads, given, x)
             } else {
                 given
             }
@@ -176,7 +179,7 @@ fn take_scopes(
     requires { ⌜ (length (now keys) ≡ roomForEvents) × (given .gathered .actions + given .counts .waiting ≤ roomForEvents) ⌝ }
     requires { ⌜ Headed (now heads) (now events) (given .counts) ⌝ }
     requires { ⌜ headOf (turn .local) ≡ scopeHead (now image) (scopesOf (now scopes)) (waitingIn (now events) (given .counts)) ⌝ }
-    ensures { λ r. ⌜ Takes (takeScopes (turn .turns) (was image) (scopesOf (was scopes)) (ofGlobal (turn .tag)) (lent (was events) (given .counts))) given r (was keys) (is events) (is keys) ⌝ }
+    ensures { λ r. ⌜ Takes (scopesOf (was scopes)) (takeScopes (turn .turns) (was image) (scopesOf (was scopes)) (ofGlobal (turn .tag)) (lent (was events) (given .counts))) given r (was keys) (is events) (is keys) ⌝ }
     ensures { λ r. ⌜ Headed (is heads) (is events) (r .counts) ⌝ }
 {
     let t = turn.tag;
@@ -187,7 +190,7 @@ fn take_scopes(
     while 0 < turns {
         turns -= 1;
         if is_at(local, t) {
-            out = take_head(events, keys, heads, out, local, t);
+            out = take_head(scopes, events, keys, heads, out, local, t);
             local = state_heads::scope_head(heads, scopes, n);
         } else {
             return out;
@@ -228,7 +231,7 @@ pub fn pop_next_event(
                 gathered: none,
                 counts,
             };
-            let first = take_head(events, keys, heads, start, root, t);
+            let first = take_head(scopes, events, keys, heads, start, root, t);
             let turn = Turn {
                 tag: t,
                 local,

@@ -10,8 +10,8 @@ use Rattle.lists.specs.Lists.{any, foldl, keep, lose, count}
 use Rattle.key_set.specs.Sets.{unionOf, noKeys, wordCount}
 use Rattle.tags.specs.Tags.{Tag}
 use Rattle.table_rows.specs.Rows.{none}
-use Rattle.machine.specs.State.{Event, ordinary}
-use Rattle.machine.specs.Heads.{Ready, addAction, leastOf}
+use Rattle.machine.specs.State.{Event, Scope, ordinary}
+use Rattle.machine.specs.Heads.{Ready, addAction, heldAt, leastOf}
 use Rattle.state_queues.specs.Queue.{ofEarliest}
 use Rattle.call_pop_ready.specs.declared.Gathered.{Gathered}
 use Rattle.call_pop_ready.specs.declared.Taken.{Taken}
@@ -21,26 +21,32 @@ pub record Gathering : Type 0 where
   pub terminal : Bool
   pub work : Bool
   pub network : Bool
+  pub held : Bool
   pub reactions : List ℕ
   pub actions : List ℕ
 
 abbrev pub nothingYet : Gathering
-nothingYet = record { terminal = false; work = false; network = false; reactions = noKeys wordCount; actions = [] }
+nothingYet = record { terminal = false; work = false; network = false; held = false; reactions = noKeys wordCount; actions = [] }
 
--- one event more
-unfoldable pub addedTo : Gathering → Event → Gathering
-addedTo g e =
+-- one event more, held back or not
+unfoldable pub addedTo : Bool → Gathering → Event → Gathering
+addedTo held g e =
     record {
       terminal = g .terminal || e .terminal;
       work = g .work || ordinary e;
       network = g .network || e .network;
+      held = g .held || held;
       reactions = unionOf (g .reactions) (e .reactions);
       actions = addAction (g .actions) e;
     }
 
+-- .. by the scopes' clocks
+abbrev pub addedBy : List Scope → Gathering → Event → Gathering
+addedBy ss g e = addedTo (heldAt ss (e .queue) (e .tag)) g e
+
 abbrev pub readyAt : Tag → Gathering → Ready
 readyAt t g =
-    record { tag = t; terminal = g .terminal; work = g .work; network = g .network; reactions = g .reactions; actions = g .actions }
+    record { tag = t; terminal = g .terminal; work = g .work; network = g .network; held = g .held; reactions = g .reactions; actions = g .actions }
 
 -- the code's: flags, reactions, and how many action keys stand in the array beside it
 abbrev pub gatheringOf : Gathered → List ℕ → Gathering
@@ -49,12 +55,13 @@ gatheringOf g actions =
       terminal = g .terminal;
       work = g .work;
       network = g .network;
+      held = g .held;
       reactions = g .reactions .words;
       actions = take (g .actions) actions;
     }
 
 abbrev pub noneYet : Gathered
-noneYet = record { terminal = false; work = false; network = false; reactions = record { words = noKeys wordCount }; actions = 0 }
+noneYet = record { terminal = false; work = false; network = false; held = false; reactions = record { words = noKeys wordCount }; actions = 0 }
 
 -- how many keys there are after an action, and where it stands
 abbrev pub isNew : List ℕ → ℕ → Bool
@@ -72,10 +79,10 @@ pub record Grown (n m : ℕ) (was keys : List ℕ) : Type 0 where
   pub long : length keys ≡ length was
   pub behind : drop m keys ≡ drop m was
 
--- what taking out comes to: the events that go are gathered behind what there was, with no more keys than there may be;
+-- what taking out comes to: the events that go, all held back or none, are gathered behind what there was, with no more keys than there may be;
 -- how many stay, how many ordinary ones went, and the least tag that queue q has left
-pub record Sifted (q : ℕ) (p : Event → Bool) (es : List Event) (g : Gathered) (was : List ℕ) (r : Taken) (keys : List ℕ) : Type 0 where
-  pub folds : gatheringOf (r .gathered) keys ≡ foldl addedTo (gatheringOf g was) (keep p es)
+pub record Sifted (held : Bool) (q : ℕ) (p : Event → Bool) (es : List Event) (g : Gathered) (was : List ℕ) (r : Taken) (keys : List ℕ) : Type 0 where
+  pub folds : gatheringOf (r .gathered) keys ≡ foldl (addedTo held) (gatheringOf g was) (keep p es)
   pub near : r .gathered .actions ≤ g .actions + length (keep p es)
   pub grown : Grown (g .actions) (r .gathered .actions) was keys
   pub left : r .count ≡ length (lose p es)

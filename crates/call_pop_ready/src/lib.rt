@@ -1,5 +1,5 @@
 // What a pop gathers from the events that it takes: document 01, "union of reactions, terminal, some ordinary work, network by "or", and each action key
-// once, in order of taking". A new part of a ready event comes in here: in `Gathered`, in `add`, and in `Gathering` of specs/.
+// once, in order of taking"; 02, C-20, "held". A new part of a ready event comes in here: in `Gathered`, in `add`, and in `Gathering` of specs/.
 ghost use mathlib.Core.Path.{_≡_};
 ghost use mathlib.Core.Bool.{_||_};
 ghost use Prim.Native.Nat.{_+_, _≤_, _<_};
@@ -22,6 +22,7 @@ pub struct Gathered {
     pub terminal: bool,
     pub work: bool,
     pub network: bool,
+    pub held: bool,
     pub reactions: KeySet,
     pub actions: usize,
 }
@@ -35,6 +36,7 @@ impl Gathered {
             terminal: false,
             work: false,
             network: false,
+            held: false,
             reactions: none,
             actions: 0,
         }
@@ -73,10 +75,15 @@ fn add_key(keys: &mut [u16; state_events::ROOM_FOR_EVENTS], n: usize, a: u16) ->
     n + 1
 }
 
-// One event more.
-fn add(keys: &mut [u16; state_events::ROOM_FOR_EVENTS], g: Gathered, s: Slot) -> Gathered
+// One event more, held back or not.
+fn add(
+    keys: &mut [u16; state_events::ROOM_FOR_EVENTS],
+    g: Gathered,
+    s: Slot,
+    held: bool,
+) -> Gathered
     requires { ⌜ (length (now keys) ≡ roomForEvents) × (g .actions < roomForEvents) ⌝ }
-    ensures { λ r. ⌜ gatheringOf r (now (keys .exit)) ≡ addedTo (gatheringOf g (now (keys .entry))) (eventOf s) ⌝ }
+    ensures { λ r. ⌜ gatheringOf r (now (keys .exit)) ≡ addedTo held (gatheringOf g (now (keys .entry))) (eventOf s) ⌝ }
     ensures { λ r. ⌜ (r .actions ≤ g .actions + 1) × Grown (g .actions) (r .actions) (now (keys .entry)) (now (keys .exit)) ⌝ }
 {
     let n = g.actions;
@@ -89,6 +96,7 @@ fn add(keys: &mut [u16; state_events::ROOM_FOR_EVENTS], g: Gathered, s: Slot) ->
         terminal: either(g.terminal, s.terminal),
         work: either(g.work, ordinary),
         network: either(g.network, s.network),
+        held: either(g.held, held),
         reactions: both,
         actions: count,
     }
@@ -111,17 +119,18 @@ pub struct Taken {
     pub lowest: Earliest,
 }
 
-// The events that go are gathered, in order of acceptance; those that stay, over the front.
+// The events that go are gathered, in order of acceptance, held back or not; those that stay, over the front.
 fn sift(
     rows: &mut [u64; state_events::ROOM],
     n: usize,
     which: Which,
     keys: &mut [u16; state_events::ROOM_FOR_EVENTS],
     g: Gathered,
+    held: bool,
 ) -> Taken
     requires { ⌜ Whole (now rows) × (n ≤ roomForEvents) ⌝ }
     requires { ⌜ (length (now keys) ≡ roomForEvents) × (g .actions + n ≤ roomForEvents) ⌝ }
-    ensures { λ r. ⌜ Sifted (which .queue) (goesOf which) (take n (eventsOf (now (rows .entry)))) g (now (keys .entry)) r (now (keys .exit)) ⌝ }
+    ensures { λ r. ⌜ Sifted held (which .queue) (goesOf which) (take n (eventsOf (now (rows .entry)))) g (now (keys .entry)) r (now (keys .exit)) ⌝ }
     ensures { λ _. ⌜ Held (now (rows .exit)) (over (lose (goesOf which) (take n (eventsOf (now (rows .entry))))) (eventsOf (now (rows .entry)))) ⌝ }
 {
     let mut out = g;
@@ -135,7 +144,7 @@ fn sift(
         i += 1;
         if which.goes(d) {
             let s = state_events::slot_at(rows, at);
-            out = add(keys, out, s);
+            out = add(keys, out, s, held);
             ordinary += state_queues::one_if(s.is_ordinary());
         } else {
             state_queues::stay(rows, at, w);
@@ -161,13 +170,14 @@ pub fn take_out(
     which: Which,
     keys: &mut [u16; state_events::ROOM_FOR_EVENTS],
     g: Gathered,
+    held: bool,
 ) -> Taken
     requires { ⌜ Whole (now rows) × (n ≤ roomForEvents) ⌝ }
     requires { ⌜ (length (now keys) ≡ roomForEvents) × (g .actions + n ≤ roomForEvents) ⌝ }
-    ensures { λ r. ⌜ Sifted (which .queue) (goesOf which) (take n (eventsOf (now (rows .entry)))) g (now (keys .entry)) r (now (keys .exit)) ⌝ }
+    ensures { λ r. ⌜ Sifted held (which .queue) (goesOf which) (take n (eventsOf (now (rows .entry)))) g (now (keys .entry)) r (now (keys .exit)) ⌝ }
     ensures { λ _. ⌜ Held (now (rows .exit)) (lay blank (eventsOf (now (rows .entry))) (lose (goesOf which) (take n (eventsOf (now (rows .entry))))) n) ⌝ }
 {
-    let r = sift(rows, n, which, keys, g);
+    let r = sift(rows, n, which, keys, g, held);
     state_queues::clear(rows, r.count, n);
     r
 }

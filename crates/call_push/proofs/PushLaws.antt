@@ -19,7 +19,7 @@ use Rattle.refusals.specs.declared.Refusal.the-variants as R
 use Rattle.table_rows.specs.Bytes.{Image}
 use Rattle.table_rows.specs.Limits.{limits}
 use Rattle.table_rows.specs.Rows.{none, parent, actionScope, isLogical}
-use Rattle.tags.specs.Tags.{Tag, Answer, within, toLocal, toGlobal}
+use Rattle.tags.specs.Tags.{Tag, MappedAnswer, within, toLocal, imageOf, tagOnly}
 use Rattle.tags.specs.Views.{ofLocal, mappedGlobal, mappedLocal}
 use Rattle.tags.specs.declared.GlobalTag.{GlobalTag}
 use Rattle.tags.specs.declared.LocalTag.{LocalTag}
@@ -102,12 +102,12 @@ module _ (known : Bool) (t : Tag) (ws : List ℕ) (a b c : Bool) {r : Result Ref
 
 -- ---- an action's event
 
-module _ (a : Answer) (m : MappedGlobal) (h : mappedGlobal m ≡ a) where
-  pub maps-tag : {g : GlobalTag} → m ≡ MG.Tag g → true ≡ isTag a
-  maps-tag e = ap isTag (sym (ap mappedGlobal e) ∙ h)
+module _ (a : MappedAnswer) (m : MappedGlobal) (h : mappedGlobal m ≡ a) where
+  pub maps-tag : {g : GlobalTag} {b : Bool} → m ≡ MG.Tag g b → true ≡ isTag (tagOnly a)
+  maps-tag e = ap (λ r. isTag (tagOnly r)) (sym (ap mappedGlobal e) ∙ h)
 
-  pub maps-over : {n : Refusal} → m ≡ MG.Refused n → false ≡ isTag a
-  maps-over e = ap isTag (sym (ap mappedGlobal e) ∙ h)
+  pub maps-over : {n : Refusal} → m ≡ MG.Refused n → false ≡ isTag (tagOnly a)
+  maps-over e = ap (λ r. isTag (tagOnly r)) (sym (ap mappedGlobal e) ∙ h)
 
 pub ruleset mapped = (maps-tag, maps-over)
 
@@ -124,11 +124,11 @@ module _ (ss : List Scope) (i : ℕ) (t : Tag) (s : Scope) (g : s ≡ getD ss i 
     unfolding localTag
     local-idle a = rw (← g, there, a)
 
-    pub local-maps : s .active ≡ true → isTag (toGlobal (s .clock) (ofLocal x)) ≡ true → done (ofLocal x) ≡ localTag (getD ss i blank) t
+    pub local-maps : s .active ≡ true → isTag (imageOf (s .clock) (ofLocal x)) ≡ true → done (ofLocal x) ≡ localTag (getD ss i blank) t
     unfolding localTag
     local-maps a b = rw (← g, there, a, b)
 
-    pub local-image : s .active ≡ true → isTag (toGlobal (s .clock) (ofLocal x)) ≡ false → refused R.MappedTag ≡ localTag (getD ss i blank) t
+    pub local-image : s .active ≡ true → isTag (imageOf (s .clock) (ofLocal x)) ≡ false → refused R.MappedTag ≡ localTag (getD ss i blank) t
     unfolding localTag
     local-image a b = rw (← g, there, a, b)
 

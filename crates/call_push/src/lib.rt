@@ -8,7 +8,7 @@ ghost use lib.ListN.{getD};
 ghost use Rattle.lists.specs.Lent.{was, is};
 ghost use Rattle.lists.specs.Walk as lists;
 ghost use Rattle.tags.specs.Views.{ofGlobal, ofLocal, ofQueue, ofClock, mappedLocal};
-ghost use Rattle.tags.specs.Tags.{toGlobal};
+ghost use Rattle.tags.specs.Tags.{imageOf};
 ghost use Rattle.machine.specs.Table.{setOf};
 ghost use Rattle.machine.specs.Transition.{isTag};
 ghost use Rattle.machine.specs.State.{State};
@@ -141,10 +141,10 @@ fn root_made(p: RootPush, keyed: Keyed) -> Made
 
 // A local tag's global image is within the limits.
 fn maps(clock: ScopeClock, x: LocalTag) -> bool
-    ensures { λ r. ⌜ r ≡ isTag (toGlobal (ofClock clock) (ofLocal x)) ⌝ }
+    ensures { λ r. ⌜ r ≡ isTag (imageOf (ofClock clock) (ofLocal x)) ⌝ }
 {
     match clock.to_global(x) {
-        MappedGlobal::Tag(_) => true,
+        MappedGlobal::Tag(_, _) => true,
         MappedGlobal::Refused(_) => false,
     }
 }

@@ -25,7 +25,7 @@ use Rattle.table.specs.Check.{isTable}
 use Rattle.table.specs.Rules.{timerTag}
 use Rattle.table.proofs.TableLaws.{startup-scope, reset-scope, timer-action, action-scope}
 use Rattle.machine_rules_kept.specs.Kept.{table-is}
-use Rattle.tags.specs.Tags.{Tag, Clock, Answer, delayed, toGlobal}
+use Rattle.tags.specs.Tags.{Tag, Clock, MappedAnswer, delayed, toGlobal, tagOnly, imageOf}
 use Rattle.tags.specs.Views.{ofGlobal, delayedGlobal, mappedGlobal}
 use Rattle.tags.specs.declared.GlobalTag.{GlobalTag}
 use Rattle.tags.specs.declared.DelayedGlobal.{DelayedGlobal}
@@ -221,9 +221,9 @@ module _ (img : Image) where
 
   module _ (j : ℕ) where
     pub image-mapped :
-        (ws : List ℕ) {i : ℕ} {x : Tag} {k : Clock} {a : Answer} → i ≡ timerScope img j → x ≡ timerTag img j → k ≡ clockIn ws i → a ≡ toGlobal k x → a ≡ imageIn img ws j
+        (ws : List ℕ) {i : ℕ} {x : Tag} {k : Clock} {a : MappedAnswer} → i ≡ timerScope img j → x ≡ timerTag img j → k ≡ clockIn ws i → a ≡ toGlobal k x → tagOnly a ≡ imageIn img ws j
     unfolding imageIn
-    image-mapped ws e h q r = r ∙ rw (← e, ← h, q)
+    image-mapped ws e h q r = ap tagOnly r ∙ rw (← e, ← h, q)
 
     pub timer-event :
         (g : Tag) {q a : ℕ} {x : Tag} {ks : List ℕ} → a ≡ timerAction img j → q ≡ timerScope img j → x ≡ timerTag img j → ks ≡ triggersOf img a →
@@ -239,14 +239,14 @@ module _ (img : Image) where
       same-image : (s : State) → Holds img s a → timerImage img s j ≡ imageIn img (a .scopes) j
       unfolding timerImage imageIn
       same-image s k =
-          ap (λ x. toGlobal (x .clock) (timerTag img j)) (sym (shows img s a k (timerScope img j)))
+          ap (λ x. imageOf (x .clock) (timerTag img j)) (sym (shows img s a k (timerScope img j)))
 
-      module _ (e : has set (timerScope img j) ≡ true) {m : MappedGlobal} (h : mappedGlobal m ≡ imageIn img (a .scopes) j) (b : Rows) where
+      module _ (e : has set (timerScope img j) ≡ true) {m : MappedGlobal} (h : tagOnly (mappedGlobal m) ≡ imageIn img (a .scopes) j) (b : Rows) where
         pub timer-refused : {x : Refusal} → m ≡ M.Refused x → Steps img (λ s. timerStep img set s j) a (O.Refused x) b
         unfolding timerStep timer
         timer-refused q s k = rw (e, same-image s k, ← h, q) refl
 
-        pub timer-put : {g : GlobalTag} {x : Event} (o : Outcome) → m ≡ M.Tag g → x ≡ timerEvent img j (ofGlobal g) → Steps img (putStep img x) a o b →
+        pub timer-put : {g : GlobalTag} {held : Bool} {x : Event} (o : Outcome) → m ≡ M.Tag g held → x ≡ timerEvent img j (ofGlobal g) → Steps img (putStep img x) a o b →
             Steps img (λ s. timerStep img set s j) a o b
         unfolding timerStep timer putStep timerEvent
         timer-put o q f r s k = rw (e, same-image s k, ← h, q) (let z = r s k in rw f at z)

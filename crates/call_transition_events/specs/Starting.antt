@@ -9,7 +9,7 @@ use Rattle.table_rows.specs.Bytes.{Image}
 use Rattle.table_rows.specs.Kinds as K
 use Rattle.table_rows.specs.Kinds.{count}
 use Rattle.table_rows.specs.Rows.{field, startupScope, startupAction}
-use Rattle.tags.specs.Tags.{Clock, Answer, toGlobal}
+use Rattle.tags.specs.Tags.{Clock, Answer, imageOf}
 use Rattle.tags.specs.Views.{ofGlobal}
 use Rattle.table.specs.Rules.{timerTag}
 use Rattle.key_set.specs.Sets.{has}
@@ -76,7 +76,7 @@ abbrev pub clockIn : List ℕ → ℕ → Clock
 clockIn ws i = getD (scopesOf ws) i blank .clock
 
 unfoldable pub imageIn : Image → List ℕ → ℕ → Answer
-imageIn img ws j = toGlobal (clockIn ws (timerScope img j)) (timerTag img j)
+imageIn img ws j = imageOf (clockIn ws (timerScope img j)) (timerTag img j)
 
 -- ---- row by row
 

@@ -6,6 +6,7 @@ ghost use mathlib.Core.Bool.{true, _&&_, not};
 ghost use Prim.Native.Nat.{_≤_};
 ghost use Rattle.lists.specs.Lent.{was};
 ghost use Rattle.key_set.specs.Sets.{has};
+ghost use Rattle.tags.specs.Tags.{tagOnly};
 ghost use Rattle.tags.specs.Views.{ofGlobal, mappedGlobal};
 ghost use Rattle.table.specs.Check.{isTable};
 ghost use Rattle.machine.specs.Table.{scopes as scopesIn};
@@ -232,7 +233,7 @@ fn timer_scope(image: &[u8], j: u16) -> u16
 
 // A timer's tag on the global scale, by its scope's clock. No scope that is restarted runs on global time itself: `timer-parent` of machine_rules_kept.
 fn timer_image(image: &[u8], scopes: &[u64; state_scopes::ROOM], j: u16) -> MappedGlobal
-    ensures { λ r. ⌜ mappedGlobal r ≡ imageIn (was image) (was scopes) j ⌝ }
+    ensures { λ r. ⌜ tagOnly (mappedGlobal r) ≡ imageIn (was image) (was scopes) j ⌝ }
 {
     let i = timer_scope(image, j);
     let x = table_schedule::timer_tag(image, j);
@@ -318,7 +319,7 @@ fn start_timer(
     }
     let g = timer_image(image, scopes, j);
     match g {
-        MappedGlobal::Tag(at) => {
+        MappedGlobal::Tag(at, _) => {
             let s = timer_slot(image, j, at);
             put(image, scopes, events, values, buckets, ledger, s)
         }

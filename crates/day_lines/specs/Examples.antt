@@ -19,8 +19,8 @@ accepted = refl
 
 -- no image here: a reaction that the table lacks reads as level 0
 pub popped :
-    lineOf [] (ready (record { tag = at 5 0; terminal = false; work = true; network = false; reactions = 1 ∷ (0 ∷ []); actions = [] }))
-    ≡ text "ready 5 0 terminal 0 work 1 network 0 reactions 0:0 actions -\n"
+    lineOf [] (ready (record { tag = at 5 0; terminal = false; work = true; network = false; held = false; reactions = 1 ∷ (0 ∷ []); actions = [] }))
+    ≡ text "ready 5 0 terminal 0 work 1 network 0 held 0 reactions 0:0 actions -\n"
 unfolding readyLine headText tagText reactionList actionList byLevel entryOf listed joined decimal decimalIn keep from those has bit keysFrom be kinds kindOf countPlace count place rowPlace field
 popped = refl
 

@@ -10,7 +10,7 @@ use lib.ListN.{length, getD, take, drop, drop-of-length-le}
 use lib.Seq.{drop-cons, take-all}
 use borrow.Author.Tests.{eq-eqb, ne-eqb, lt-ltb, le-ltb}
 use Rattle.lists.specs.Tests.{bitOf}
-use Rattle.tags.specs.Tags.{Tag, Answer, at, toLocal, toGlobal, isHeld}
+use Rattle.tags.specs.Tags.{Tag, Answer, MappedAnswer, at, toLocal, toGlobal, tagOnly, heldIn}
 use Rattle.machine.specs.State.{root}
 use Rattle.state_scopes.specs.Scopes.{Scope, blank}
 use Rattle.table_rows.specs.Kinds.{reaction}
@@ -22,8 +22,8 @@ use Rattle.day_telling.specs.Facts.{found, offsetIn, microstepIn, scopeP
 -- ---- tags on the two scales
 
 pub scope-place-is :
-    (s : Scope) (q : ℕ) (t : Tag) {g : Answer} {f o m x y : ℕ} {b : Bool} → g ≡ toGlobal (s .clock) t → f ≡ found g → o ≡ offsetIn g → m ≡ microstepIn g →
-    x ≡ bitOf (s .active) → b ≡ isHeld (s .clock) t → y ≡ bitOf b → (q ∷ t .offset ∷ t .microstep ∷ x ∷ f ∷ o ∷ m ∷ y ∷ []) ≡ scopePlace s q t
+    (s : Scope) (q : ℕ) (t : Tag) {g : MappedAnswer} {f o m x y : ℕ} {b : Bool} → g ≡ toGlobal (s .clock) t → f ≡ found (tagOnly g) →
+    o ≡ offsetIn (tagOnly g) → m ≡ microstepIn (tagOnly g) → x ≡ bitOf (s .active) → b ≡ heldIn g → y ≡ bitOf b → (q ∷ t .offset ∷ t .microstep ∷ x ∷ f ∷ o ∷ m ∷ y ∷ []) ≡ scopePlace s q t
 unfolding scopePlace
 scope-place-is s q t e f g h i j k = rw (k, j, i, h, g, f, e)
 

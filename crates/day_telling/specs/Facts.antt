@@ -8,7 +8,7 @@ use Rattle.lists.specs.Tests.{bitOf}
 use Rattle.lists.specs.Walk.{done, refused}
 use Rattle.table_rows.specs.Bytes.{Image}
 use Rattle.table_rows.specs.Kinds.{count, reactor, mode, reaction, action}
-use Rattle.tags.specs.Tags.{Tag, Answer, toLocal, toGlobal, isHeld}
+use Rattle.tags.specs.Tags.{Tag, Answer, toLocal, toGlobal, tagOnly, heldIn}
 use Rattle.machine.specs.State.{root}
 use Rattle.state_scopes.specs.Scopes.{Scope, blank}
 use Rattle.day_lines.specs.Text.{text, decimal}
@@ -50,8 +50,9 @@ microstepIn (refused n) = 0
 -- queue, tag, active, image on the global scale, held back
 unfoldable pub scopePlace : Scope → ℕ → Tag → List ℕ
 scopePlace s q t =
-    let g = toGlobal (s .clock) t in
-    q ∷ t .offset ∷ t .microstep ∷ bitOf (s .active) ∷ found g ∷ offsetIn g ∷ microstepIn g ∷ bitOf (isHeld (s .clock) t) ∷ []
+    let m = toGlobal (s .clock) t in
+    let g = tagOnly m in
+    q ∷ t .offset ∷ t .microstep ∷ bitOf (s .active) ∷ found g ∷ offsetIn g ∷ microstepIn g ∷ bitOf (heldIn m) ∷ []
 
 -- the root's tags are global, and never held back
 unfoldable pub placeWords : List Scope → ℕ → Tag → List ℕ

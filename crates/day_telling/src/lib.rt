@@ -4,6 +4,7 @@ ghost use mathlib.Core.Path.{_≡_};
 ghost use Prim.Native.Nat.{_≤_};
 ghost use lib.ListN.{length, getD};
 ghost use Rattle.table_rows.specs.Kinds.{count, reaction};
+ghost use Rattle.tags.specs.Tags.{tagOnly};
 ghost use Rattle.tags.specs.Views.{ofGlobal, ofLocal, ofQueue, ofClock, mappedGlobal, mappedLocal};
 ghost use Rattle.state_scopes.specs.Scopes.{scopesOf, scopeOf, blank};
 ghost use Rattle.byte_writer.specs.Written.{Written};
@@ -56,10 +57,10 @@ struct Mapped {
 }
 
 fn of_global(m: MappedGlobal) -> Mapped
-    ensures { λ r. ⌜ (r .found ≡ found (mappedGlobal m)) × ((r .offset ≡ offsetIn (mappedGlobal m)) × (r .microstep ≡ microstepIn (mappedGlobal m))) ⌝ }
+    ensures { λ r. ⌜ (r .found ≡ found (tagOnly (mappedGlobal m))) × ((r .offset ≡ offsetIn (tagOnly (mappedGlobal m))) × (r .microstep ≡ microstepIn (tagOnly (mappedGlobal m)))) ⌝ }
 {
     match m {
-        MappedGlobal::Tag(t) => Mapped {
+        MappedGlobal::Tag(t, _) => Mapped {
             found: 1,
             offset: t.0,
             microstep: t.1 as u64,
@@ -97,7 +98,7 @@ fn scope_place(s: Scope, queue: u16, x: LocalTag) -> [u64; 8]
     let image = clock.to_global(x);
     let m = of_global(image);
     let active = lists::bit(s.active);
-    let held = lists::bit(clock.holds_back(x));
+    let held = lists::bit(image.is_held());
     [
         queue as u64,
         x.0,

@@ -5,15 +5,15 @@ use mathlib.Core.List.{List}
 use Prim.Native.Nat.{ℕ, _≤_, _<_}
 use lib.ListN.{length}
 use borrow.Author.Tests.{eq-eqb, ne-eqb}
-use Rattle.lists.specs.Walk.{done, refused}
+use Rattle.lists.specs.Walk.{Result, done, refused}
 use Rattle.refusals.specs.Refusals.{numberOf}
 use Rattle.refusals.specs.declared.Refusal.{Refusal}
 use Rattle.refusals.specs.declared.Refusal.the-variants.{StateRule}
-use Rattle.tags.specs.Tags.{Tag, Clock, Answer}
+use Rattle.tags.specs.Tags.{Tag, Clock}
 use Rattle.day_records.specs.Records.{tagAt, isBit, isOne}
 use Rattle.byte_writer.specs.Written.{Written}
 use Rattle.exports.proofs.ToldLaws.{no-room, in-room}
-use Rattle.exports.specs.Told.{told, noRoom, tagBytes}
+use Rattle.exports.specs.Told.{told, noRoom}
 use Rattle.exports.specs.Answers.{clockIn, isClock, mapped, mapBy, mapTold}
 
 abbrev clockOf : Tag → Tag → Bool → Tag → Clock
@@ -31,24 +31,25 @@ module _ (bs : List ℕ) where
   pub clock-are : {g l s : Tag} {a : Bool} → g ≡ tagAt bs 0 → l ≡ tagAt bs 12 → a ≡ isOne bs 24 → s ≡ tagAt bs 25 → clockOf g l a s ≡ clockIn bs
   clock-are eg el ea es = rw (eg, el, ea, es)
 
-module _ (f : Clock → Tag → Answer) (bs : List ℕ) (t : Tag) {b : Bool} (e : b ≡ isClock bs) where
+module _ {A : Type 0} (f : Clock → Tag → Result Refusal A) (bs : List ℕ) (t : Tag) {b : Bool} (e : b ≡ isClock bs) where
   pub no-clock : b ≡ false → refused StateRule ≡ mapped f bs t
   unfolding mapped
   no-clock h = sym (ap (λ x. cond x (f (clockIn bs) t) (refused StateRule)) (sym e ∙ h))
 
-  pub by-clock : b ≡ true → {c : Clock} → c ≡ clockIn bs → {a : Answer} → a ≡ f c t → a ≡ mapped f bs t
+  pub by-clock : b ≡ true → {c : Clock} → c ≡ clockIn bs → {a : Result Refusal A} → a ≡ f c t → a ≡ mapped f bs t
   unfolding mapped
   by-clock h k m = m ∙ (ap (λ x. f x t) k ∙ sym (ap (λ x. cond x (f (clockIn bs) t) (refused StateRule)) (sym e ∙ h)))
 
-pub short-tag : (tag : List ℕ) (a : Answer) → length tag < 12 → told noRoom tag ≡ mapTold a tag
-unfolding mapTold
-short-tag tag a h = no-room 12 tag _ h
-
-module _ {tag : List ℕ} (room : 12 ≤ length tag) {a b : Answer} (e : a ≡ b) where
-  pub tag-told : {t : Tag} → a ≡ done t → {new : List ℕ} {end : ℕ} → Written tag 0 (tagBytes t) new end → told 0 new ≡ mapTold b tag
+module _ {A : Type 0} (bytes : A → List ℕ) (n : ℕ) (tag : List ℕ) where
+  pub short-tag : (a : Result Refusal A) → length tag < n → told noRoom tag ≡ mapTold bytes n a tag
   unfolding mapTold
-  tag-told d w = in-room 12 tag _ room (ap (told 0) (w .all) ∙ ap (λ x. mapBy x tag) (sym d ∙ e))
+  short-tag a h = no-room n tag _ h
 
-  pub refusal-told : {r : Refusal} → a ≡ refused r → {n : ℕ} → n ≡ numberOf r → told n tag ≡ mapTold b tag
-  unfolding mapTold
-  refusal-told d k = in-room 12 tag _ room (ap (λ n. told n tag) k ∙ ap (λ x. mapBy x tag) (sym d ∙ e))
+  module _ (room : n ≤ length tag) {a b : Result Refusal A} (e : a ≡ b) where
+    pub tag-told : {t : A} → a ≡ done t → {new : List ℕ} {end : ℕ} → Written tag 0 (bytes t) new end → told 0 new ≡ mapTold bytes n b tag
+    unfolding mapTold
+    tag-told d w = in-room n tag _ room (ap (told 0) (w .all) ∙ ap (λ x. mapBy bytes x tag) (sym d ∙ e))
+
+    pub refusal-told : {r : Refusal} → a ≡ refused r → {m : ℕ} → m ≡ numberOf r → told m tag ≡ mapTold bytes n b tag
+    unfolding mapTold
+    refusal-told d k = in-room n tag _ room (ap (λ m. told m tag) k ∙ ap (λ x. mapBy bytes x tag) (sym d ∙ e))

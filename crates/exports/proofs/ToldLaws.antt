@@ -1,5 +1,5 @@
 -- Numbers put into lent bytes one behind the other, and lent slices that are too short. Assumes nothing.
-use mathlib.Core.Bool.{cond}
+use mathlib.Core.Bool.{Bool, cond}
 use mathlib.Core.Path.{_≡_, refl, ap, _∙_, sym}
 use mathlib.Core.List.{List, [], _∷_, _++_, append-assoc, append-nil}
 use Prim.Native.Nat.{ℕ, _+_, _-_, _≤_, _<_}
@@ -7,11 +7,12 @@ use native.Mathlib.Numerals.{add-one}
 use lib.ListN.{length, take, getD}
 use lib.Seq.{take-suc, take-all}
 use borrow.Author.Tests.{lt-ltb, le-ltb}
-use Rattle.tags.specs.Tags.{at}
+use Rattle.lists.specs.Tests.{bitOf}
+use Rattle.tags.specs.Tags.{Tag, at}
 use Rattle.byte_writer.specs.Written.{Written}
 use Rattle.byte_writer.proofs.WrittenLaws.{written-none, written-then, written-as}
 use Rattle.table_rows.specs.Bytes.{beBytes}
-use Rattle.exports.specs.Told.{Told, told, noRoom, withRoom, wordBytes, tagBytes}
+use Rattle.exports.specs.Told.{Told, told, noRoom, withRoom, wordBytes, tagBytes, mappedBytes}
 
 -- ---- room
 
@@ -29,6 +30,13 @@ module _ (n : ℕ) (room : List ℕ) (t : Told) where
 pub tag-written : (o s : ℕ) {old mid new : List ℕ} {m end : ℕ} → Written old 0 (beBytes 8 o) mid m → Written mid m (beBytes 4 s) new end → Written old 0 (tagBytes (at o s)) new end
 unfolding tagBytes
 tag-written o s v w = written-then v w
+
+-- .. and whether it was held back
+pub mapped-written :
+    (t : Tag) (held : Bool) {old mid new : List ℕ} {m end b : ℕ} → Written old 0 (tagBytes t) mid m → b ≡ bitOf held → Written mid m (beBytes 1 b) new end →
+    Written old 0 (mappedBytes (record { tag = t; held = held })) new end
+unfolding mappedBytes
+mapped-written t held v e w = written-then v (rw (← e) w)
 
 -- ---- the bytes of numbers, one behind the other
 

@@ -4,7 +4,8 @@ use mathlib.Core.Bool.{Bool, cond, _&&_}
 use mathlib.Core.List.{List, [], _∷_, _++_}
 use lib.Dec.{eqb}
 use lib.ListN.{length, take, drop}
-use Rattle.lists.specs.Walk.{done, refused}
+use Rattle.lists.specs.Walk.{Result, done, refused}
+use Rattle.refusals.specs.declared.Refusal.{Refusal}
 use Rattle.refusals.specs.Refusals.{numberOf}
 use Rattle.refusals.specs.declared.Refusal.the-variants.{StateRule}
 use Rattle.table.specs.Check as table
@@ -16,10 +17,10 @@ use Rattle.day_rescue.specs.Rescue.{Answered, answered, saved}
 use Rattle.day_rescue.specs.declared.Totals.{Totals}
 use Rattle.day_rescue.specs.declared.Rescued.{Rescued}
 use Rattle.day_rescue.specs.declared.Rescued.the-variants as answers
-use Rattle.tags.specs.Tags.{Tag, Clock, Answer}
+use Rattle.tags.specs.Tags.{Tag, Clock}
 use Rattle.day_records.specs.Records.{tagAt, isBit, isOne}
 use Rattle.table_rows.specs.Bytes.{beBytes}
-use Rattle.exports.specs.Told.{Told, told, front, withRoom, noRoom, wordBytes, tagBytes}
+use Rattle.exports.specs.Told.{Told, told, front, withRoom, noRoom, wordBytes}
 
 -- ---- the table check: 0 for a table, or the refusal's number; its place in eight bytes, 0 for a table
 
@@ -73,13 +74,13 @@ unfoldable pub isClock : List ℕ → Bool
 isClock bs = eqb (length bs) 37 && isBit bs 24
 
 -- by a map; bytes that are no clock break a state rule
-unfoldable pub mapped : (Clock → Tag → Answer) → List ℕ → Tag → Answer
+unfoldable pub mapped : {A : Type 0} → (Clock → Tag → Result Refusal A) → List ℕ → Tag → Result Refusal A
 mapped f bs t = cond (isClock bs) (f (clockIn bs) t) (refused StateRule)
 
--- 0 and the tag; or the refusal's number, and the bytes stay as they were
-abbrev pub mapBy : Answer → List ℕ → Told
-mapBy (done t) tag = told 0 (front tag (tagBytes t))
-mapBy (refused n) tag = told (numberOf n) tag
+-- 0 and what it answers, in n bytes; or the refusal's number, and the bytes stay as they were
+abbrev pub mapBy : {A : Type 0} → (A → List ℕ) → Result Refusal A → List ℕ → Told
+mapBy bytes (done t) tag = told 0 (front tag (bytes t))
+mapBy bytes (refused n) tag = told (numberOf n) tag
 
-unfoldable pub mapTold : Answer → List ℕ → Told
-mapTold a tag = withRoom 12 tag (mapBy a tag)
+unfoldable pub mapTold : {A : Type 0} → (A → List ℕ) → ℕ → Result Refusal A → List ℕ → Told
+mapTold bytes n a tag = withRoom n tag (mapBy bytes a tag)

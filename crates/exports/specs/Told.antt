@@ -6,7 +6,8 @@ use lib.Dec.{ltb}
 use lib.ListN.{length}
 use lib.Seq.{sets}
 use Rattle.table_rows.specs.Bytes.{beBytes}
-use Rattle.tags.specs.Tags.{Tag}
+use Rattle.lists.specs.Tests.{bitOf}
+use Rattle.tags.specs.Tags.{Tag, Mapped}
 
 pub record Told : Type 0 where
   pub number : ℕ
@@ -37,3 +38,7 @@ wordBytes (n ∷ ns) = beBytes 8 n ++ wordBytes ns
 -- an offset of 8 bytes, a microstep of 4
 unfoldable pub tagBytes : Tag → List ℕ
 tagBytes t = beBytes 8 (t .offset) ++ beBytes 4 (t .microstep)
+
+-- .. and whether it was held back, in one byte
+unfoldable pub mappedBytes : Mapped → List ℕ
+mappedBytes m = tagBytes (m .tag) ++ beBytes 1 (bitOf (m .held))

@@ -14,7 +14,7 @@ ghost use Rattle.state_room.specs.Holds.{rowsOf, stateIn};
 ghost use Rattle.day_run.specs.Views.{Kept};
 ghost use Rattle.tags.specs.Tags.{at, globalToLocal, localToGlobal};
 ghost use Rattle.tags.specs.Views.{ofClock, mappedLocal, mappedGlobal};
-ghost use Rattle.exports.specs.Told.{wordBytes, tagBytes, told};
+ghost use Rattle.exports.specs.Told.{wordBytes, tagBytes, mappedBytes, told};
 ghost use Rattle.exports.specs.State.{peekWords, flagWord, firstWords, stateBytes, afterAll, stateTold};
 ghost use Rattle.table_writer.specs.Writer.{writing};
 ghost use Rattle.day_rescue.specs.Rescue.{answered};
@@ -326,6 +326,9 @@ const CLOCK_BYTES: usize = 37;
 
 const TAG_BYTES: usize = 12;
 
+// A tag, and a byte that is 0 or 1.
+const MAPPED_BYTES: usize = 13;
+
 fn is_clock(clock: &[u8]) -> bool
     ensures { λ r. ⌜ r ≡ isClock (was clock) ⌝ }
 {
@@ -386,7 +389,7 @@ pub extern "C" fn barnshiver_global_to_local(
     microstep: u32,
     tag: &mut [u8],
 ) -> u8
-    ensures { λ r. ⌜ told r (is tag) ≡ mapTold (mapped globalToLocal (was clock) (at offset microstep)) (was tag) ⌝ }
+    ensures { λ r. ⌜ told r (is tag) ≡ mapTold tagBytes 12 (mapped globalToLocal (was clock) (at offset microstep)) (was tag) ⌝ }
 {
     if tag.len() < TAG_BYTES {
         return NO_ROOM;
@@ -400,7 +403,7 @@ pub extern "C" fn barnshiver_global_to_local(
     }
 }
 
-// A local tag on the global scale likewise.
+// A local tag on the global scale likewise, and behind it whether it was held back: 1, or 0.
 #[no_mangle]
 pub extern "C" fn barnshiver_local_to_global(
     clock: &[u8],
@@ -408,14 +411,16 @@ pub extern "C" fn barnshiver_local_to_global(
     microstep: u32,
     tag: &mut [u8],
 ) -> u8
-    ensures { λ r. ⌜ told r (is tag) ≡ mapTold (mapped localToGlobal (was clock) (at offset microstep)) (was tag) ⌝ }
+    ensures { λ r. ⌜ told r (is tag) ≡ mapTold mappedBytes 13 (mapped localToGlobal (was clock) (at offset microstep)) (was tag) ⌝ }
 {
-    if tag.len() < TAG_BYTES {
+    if tag.len() < MAPPED_BYTES {
         return NO_ROOM;
     }
     match mapped_global(clock, LocalTag(offset, microstep)) {
-        MappedGlobal::Tag(t) => {
-            put_tag(tag, t.0, t.1);
+        MappedGlobal::Tag(t, held) => {
+            let end = put_tag(tag, t.0, t.1);
+            let bit = lists::bit(held);
+            byte_writer::put_number(tag, end, 1, bit);
             0
         }
         MappedGlobal::Refused(refusal) => refusals::number_of(refusal),

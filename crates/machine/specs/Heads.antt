@@ -8,7 +8,7 @@ use Rattle.lists.specs.Lists.{keep, lose, any, every, from, foldl}
 use Rattle.lists.specs.Walk.{done, refused}
 use Rattle.table_rows.specs.Bytes.{Image}
 use Rattle.table_rows.specs.Rows.{none}
-use Rattle.tags.specs.Tags.{Tag, Clock, Answer, sameTag, earlier, toGlobal}
+use Rattle.tags.specs.Tags.{Tag, Clock, Answer, sameTag, earlier, toGlobal, imageOf, heldIn}
 use Rattle.key_set.specs.Sets.{unionOf, noKeys, wordCount}
 use Rattle.machine.specs.Table.{scopes}
 use Rattle.machine.specs.State.{Event, Scope, root, ordinary, inQueue, atHead, scopeIn, workLess}
@@ -45,7 +45,7 @@ mapped i t (refused n) = empty
 
 abbrev pub mappedHead : Clock → ℕ → Least → Head
 mappedHead k i noTag = empty
-mappedHead k i (least t) = mapped i t (toGlobal k t)
+mappedHead k i (least t) = mapped i t (imageOf k t)
 
 unfoldable pub scopeHeadOf : Scope → ℕ → Least → Head
 scopeHeadOf x i l = cond (x .active) (mappedHead (x .clock) i l) empty
@@ -129,19 +129,25 @@ pub record Ready : Type 0 where
   pub terminal : Bool
   pub work : Bool
   pub network : Bool
+  pub held : Bool
   pub reactions : List ℕ
   pub actions : List ℕ
 
 unfoldable pub addAction : List ℕ → Event → List ℕ
 addAction l e = cond (eqb (e .action) none || any (eqb (e .action)) l) l (l ++ (e .action ∷ []))
 
-unfoldable pub readyOf : Tag → List Event → Ready
-readyOf t es =
+-- .. "and "held": yes if any event in it was moved so, by the clock at the pop; root events never are" (02, C-20): at the tag x of queue q
+unfoldable pub heldAt : List Scope → ℕ → Tag → Bool
+heldAt ss q x = not (eqb q root) && heldIn (toGlobal (scopeIn ss q .clock) x)
+
+unfoldable pub readyOf : List Scope → Tag → List Event → Ready
+readyOf ss t es =
     record {
       tag = t;
       terminal = any (λ e. e .terminal) es;
       work = any ordinary es;
       network = any (λ e. e .network) es;
+      held = any (λ e. heldAt ss (e .queue) (e .tag)) es;
       reactions = foldl (λ ws e. unionOf ws (e .reactions)) (noKeys wordCount) es;
       actions = foldl addAction [] es;
     }

@@ -11,7 +11,7 @@ use Rattle.refusals.specs.declared.Refusal.the-variants as R
 use Rattle.table_rows.specs.Bytes.{Image}
 use Rattle.table_rows.specs.Limits.{limits}
 use Rattle.table_rows.specs.Rows.{none, modeReactor, actionScope, isLogical}
-use Rattle.tags.specs.Tags.{Tag, at, within, withinClock, toLocal, toGlobal}
+use Rattle.tags.specs.Tags.{Tag, at, within, withinClock, toLocal, imageOf}
 use Rattle.key_set.specs.Sets.{has, wordCount}
 use Rattle.store.specs.Store as S
 use Rattle.store.specs.Store.{Found, storeRules}
@@ -38,7 +38,7 @@ eventRules img e =
 
 -- "events in active scopes map within limits"
 unfoldable pub imageRules : List Scope → Event → Bool
-imageRules ss e = let x = scopeIn ss (e .queue) in eqb (e .queue) root || (not (x .active) || isTag (toGlobal (x .clock) (e .tag)))
+imageRules ss e = let x = scopeIn ss (e .queue) in eqb (e .queue) root || (not (x .active) || isTag (imageOf (x .clock) (e .tag)))
 
 -- "a scope is active exactly if it and all ancestors that name a mode find it current; an active scope counts as active before"
 unfoldable pub scopeRules : Image → List ℕ → List Scope → ℕ → Bool
@@ -136,7 +136,7 @@ toRoot img a = not (isModal img) || (not (isLogical img a) || not (hasParent img
 
 -- "Refusal 7 if that tag, or in an active scope its global image, overruns."
 unfoldable pub localTag : Scope → Tag → Result Refusal Tag
-localTag x t = toLocal (x .clock) t >>= λ u. need (not (x .active) || isTag (toGlobal (x .clock) u)) R.MappedTag (done u)
+localTag x t = toLocal (x .clock) t >>= λ u. need (not (x .active) || isTag (imageOf (x .clock) u)) R.MappedTag (done u)
 
 -- "Stored tag: the tag given, not its image."
 abbrev pub actionEvent : ℕ → ℕ → Tag → Tag → Bool → List ℕ → Event
@@ -161,7 +161,7 @@ abbrev pub popAt : Image → State → Head → Outcome
 popAt img s H.empty = answer nothing s
 popAt img s (H.head q x t) =
     let k = taking img (s .scopes) t (untaken (s .waiting) (s .work)) in
-    answer (ready (readyOf t (k .events))) (withQueue s (k .waiting) (k .work))
+    answer (ready (readyOf (s .scopes) t (k .events))) (withQueue s (k .waiting) (k .work))
 
 abbrev pub peekAt : Head → Reply
 peekAt H.empty = nothing

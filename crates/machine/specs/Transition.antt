@@ -15,7 +15,7 @@ use Rattle.table_rows.specs.Limits.{limits}
 use Rattle.table_rows.specs.Rows.{none, rootScope, initialMode, modeScope, actionScope, isLogical, startupScope, startupAction, resetScope, timerAction}
 use Rattle.table_rows.specs.Lineage.{inSubtree, under}
 use Rattle.table.specs.Rules.{timerTag}
-use Rattle.tags.specs.Tags.{Tag, Clock, Answer, zeroTag, earlier, delayed, toLocal, toGlobal}
+use Rattle.tags.specs.Tags.{Tag, Clock, Answer, zeroTag, earlier, delayed, toLocal, imageOf}
 use Rattle.store.specs.Store as S
 use Rattle.store.specs.Store.{Store}
 use Rattle.table_schedule.specs.Schedule.{isActive, triggersOf, startupsOf, resetsOf}
@@ -113,7 +113,7 @@ tagOr t (refused n) = t
 
 -- "map its events"
 unfoldable pub maps : ℕ → Clock → Event → Bool
-maps i k e = not (inQueue i e) || isTag (toGlobal k (e .tag))
+maps i k e = not (inQueue i e) || isTag (imageOf k (e .tag))
 
 -- an event of scope i with an action
 unfoldable pub owns : ℕ → Event → Bool
@@ -121,7 +121,7 @@ owns i e = inQueue i e && not (eqb (e .action) none)
 
 -- "set their stored tags": the new stored tag of an event with an action, where scope i goes active by the clock k
 unfoldable pub stamp : ℕ → Clock → Event → Tag
-stamp i k e = cond (owns i e) (tagOr (e .stored) (toGlobal k (e .tag))) (e .stored)
+stamp i k e = cond (owns i e) (tagOr (e .stored) (imageOf k (e .tag))) (e .stored)
 
 abbrev pub restamp : ℕ → Clock → Event → Event
 restamp i k e = stamped e (stamp i k e)
@@ -203,7 +203,7 @@ timerScope img j = actionScope img (timerAction img j)
 
 -- by the scope's own clock: no restarted timer's scope runs on global time (02, C-19; `timer-parent` of machine_rules_kept)
 unfoldable pub timerImage : Image → State → ℕ → Answer
-timerImage img s j = toGlobal (clockAt s (timerScope img j)) (timerTag img j)
+timerImage img s j = imageOf (clockAt s (timerScope img j)) (timerTag img j)
 
 unfoldable pub timerEvent : Image → ℕ → Tag → Event
 timerEvent img j g =

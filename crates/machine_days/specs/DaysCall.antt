@@ -42,7 +42,7 @@ pub call-actions-once : dayOf call-actions-once-image call-actions-once-calls �
           ok ∷
           ok ∷
           ok ∷
-          ready (record { tag = at 5 0; terminal = false; work = true; network = false; reactions = 0 ∷ 0 ∷ []; actions = 3 ∷ 2 ∷ 1 ∷ 0 ∷ [] }) ∷
+          ready (record { tag = at 5 0; terminal = false; work = true; network = false; held = false; reactions = 0 ∷ 0 ∷ []; actions = 3 ∷ 2 ∷ 1 ∷ 0 ∷ [] }) ∷
           nothing ∷
           [];
       end =
@@ -93,7 +93,7 @@ pub call-bench : dayOf call-bench-image call-bench-calls ≡
     record {
       replies =
           ok ∷
-          ready (record { tag = at 5 0; terminal = false; work = true; network = false; reactions = 1 ∷ 0 ∷ []; actions = [] }) ∷
+          ready (record { tag = at 5 0; terminal = false; work = true; network = false; held = false; reactions = 1 ∷ 0 ∷ []; actions = [] }) ∷
           nothing ∷
           [];
       end =
@@ -143,10 +143,10 @@ pub call-control-scope : dayOf call-control-scope-image call-control-scope-calls
           ok ∷
           ok ∷
           ok ∷
-          ready (record { tag = at 7 0; terminal = true; work = false; network = false; reactions = 0 ∷ 0 ∷ []; actions = [] }) ∷
+          ready (record { tag = at 7 0; terminal = true; work = false; network = false; held = false; reactions = 0 ∷ 0 ∷ []; actions = [] }) ∷
           ok ∷
           ok ∷
-          ready (record { tag = at 21 0; terminal = false; work = true; network = false; reactions = 0 ∷ 0 ∷ []; actions = 0 ∷ [] }) ∷
+          ready (record { tag = at 21 0; terminal = false; work = true; network = false; held = false; reactions = 0 ∷ 0 ∷ []; actions = 0 ∷ [] }) ∷
           [];
       end =
           record {
@@ -196,8 +196,8 @@ pub call-control : dayOf call-bench-image call-control-calls ≡
           ok ∷
           ok ∷
           ok ∷
-          ready (record { tag = at 7 0; terminal = false; work = false; network = false; reactions = 0 ∷ 0 ∷ []; actions = [] }) ∷
-          ready (record { tag = at 8 0; terminal = false; work = true; network = false; reactions = 1 ∷ 0 ∷ []; actions = [] }) ∷
+          ready (record { tag = at 7 0; terminal = false; work = false; network = false; held = false; reactions = 0 ∷ 0 ∷ []; actions = [] }) ∷
+          ready (record { tag = at 8 0; terminal = false; work = true; network = false; held = false; reactions = 1 ∷ 0 ∷ []; actions = [] }) ∷
           nothing ∷
           [];
       end =
@@ -256,11 +256,11 @@ pub call-flags : dayOf call-flags-image call-flags-calls ≡
           ok ∷
           ok ∷
           ok ∷
-          ready (record { tag = at 5 0; terminal = true; work = false; network = false; reactions = 1 ∷ 0 ∷ []; actions = [] }) ∷
-          ready (record { tag = at 5 1; terminal = false; work = true; network = false; reactions = 4 ∷ 0 ∷ []; actions = [] }) ∷
-          ready (record { tag = at 5 2; terminal = false; work = true; network = true; reactions = 2 ∷ 0 ∷ []; actions = [] }) ∷
-          ready (record { tag = at 5 3; terminal = false; work = false; network = false; reactions = 0 ∷ 0 ∷ []; actions = [] }) ∷
-          ready (record { tag = at 5 4; terminal = true; work = true; network = true; reactions = 3 ∷ 0 ∷ []; actions = [] }) ∷
+          ready (record { tag = at 5 0; terminal = true; work = false; network = false; held = false; reactions = 1 ∷ 0 ∷ []; actions = [] }) ∷
+          ready (record { tag = at 5 1; terminal = false; work = true; network = false; held = false; reactions = 4 ∷ 0 ∷ []; actions = [] }) ∷
+          ready (record { tag = at 5 2; terminal = false; work = true; network = true; held = false; reactions = 2 ∷ 0 ∷ []; actions = [] }) ∷
+          ready (record { tag = at 5 3; terminal = false; work = false; network = false; held = false; reactions = 0 ∷ 0 ∷ []; actions = [] }) ∷
+          ready (record { tag = at 5 4; terminal = true; work = true; network = true; held = false; reactions = 3 ∷ 0 ∷ []; actions = [] }) ∷
           nothing ∷
           [];
       end =
@@ -322,9 +322,9 @@ pub call-later-pops : dayOf call-later-pops-image call-later-pops-calls ≡
           ok ∷
           ok ∷
           ok ∷
-          ready (record { tag = at 8 0; terminal = true; work = true; network = false; reactions = 1 ∷ 0 ∷ []; actions = 1 ∷ 2 ∷ [] }) ∷
-          ready (record { tag = at 8 1; terminal = false; work = true; network = false; reactions = 0 ∷ 0 ∷ []; actions = 0 ∷ [] }) ∷
-          ready (record { tag = at 9 0; terminal = false; work = true; network = false; reactions = 1 ∷ 0 ∷ []; actions = 0 ∷ [] }) ∷
+          ready (record { tag = at 8 0; terminal = true; work = true; network = false; held = false; reactions = 1 ∷ 0 ∷ []; actions = 1 ∷ 2 ∷ [] }) ∷
+          ready (record { tag = at 8 1; terminal = false; work = true; network = false; held = false; reactions = 0 ∷ 0 ∷ []; actions = 0 ∷ [] }) ∷
+          ready (record { tag = at 9 0; terminal = false; work = true; network = false; held = false; reactions = 1 ∷ 0 ∷ []; actions = 0 ∷ [] }) ∷
           nothing ∷
           [];
       end =
@@ -385,7 +385,7 @@ pub call-odd-table : dayOf call-odd-table-image call-odd-table-calls ≡
           ok ∷
           ok ∷
           ok ∷
-          ready (record { tag = at 3 0; terminal = false; work = true; network = false; reactions = 0 ∷ 0 ∷ []; actions = 0 ∷ [] }) ∷
+          ready (record { tag = at 3 0; terminal = false; work = true; network = false; held = false; reactions = 0 ∷ 0 ∷ []; actions = 0 ∷ [] }) ∷
           nothing ∷
           [];
       end =
@@ -446,11 +446,11 @@ pub call-order-of-tags : dayOf call-order-of-tags-image call-order-of-tags-calls
           ok ∷
           ok ∷
           ok ∷
-          ready (record { tag = at 5 2; terminal = false; work = true; network = false; reactions = 4 ∷ 0 ∷ []; actions = [] }) ∷
-          ready (record { tag = at 5 9; terminal = false; work = true; network = false; reactions = 2 ∷ 0 ∷ []; actions = [] }) ∷
+          ready (record { tag = at 5 2; terminal = false; work = true; network = false; held = false; reactions = 4 ∷ 0 ∷ []; actions = [] }) ∷
+          ready (record { tag = at 5 9; terminal = false; work = true; network = false; held = false; reactions = 2 ∷ 0 ∷ []; actions = [] }) ∷
           ok ∷
-          ready (record { tag = at 0 0; terminal = false; work = true; network = false; reactions = 2 ∷ 0 ∷ []; actions = [] }) ∷
-          ready (record { tag = at 6 0; terminal = false; work = true; network = false; reactions = 9 ∷ 0 ∷ []; actions = [] }) ∷
+          ready (record { tag = at 0 0; terminal = false; work = true; network = false; held = false; reactions = 2 ∷ 0 ∷ []; actions = [] }) ∷
+          ready (record { tag = at 6 0; terminal = false; work = true; network = false; held = false; reactions = 9 ∷ 0 ∷ []; actions = [] }) ∷
           nothing ∷
           [];
       end =
@@ -506,8 +506,8 @@ pub call-reactions : dayOf call-reactions-image call-reactions-calls ≡
           ok ∷
           ok ∷
           ok ∷
-          ready (record { tag = at 5 0; terminal = false; work = true; network = false; reactions = 9223372036854775809 ∷ 33 ∷ []; actions = [] }) ∷
-          ready (record { tag = at 6 0; terminal = false; work = true; network = false; reactions = 0 ∷ 0 ∷ []; actions = [] }) ∷
+          ready (record { tag = at 5 0; terminal = false; work = true; network = false; held = false; reactions = 9223372036854775809 ∷ 33 ∷ []; actions = [] }) ∷
+          ready (record { tag = at 6 0; terminal = false; work = true; network = false; held = false; reactions = 0 ∷ 0 ∷ []; actions = [] }) ∷
           nothing ∷
           [];
       end =
@@ -621,7 +621,7 @@ pub call-to-root : dayOf call-to-root-image call-to-root-calls ≡
       replies =
           ok ∷
           ok ∷
-          ready (record { tag = at 5 0; terminal = false; work = true; network = false; reactions = 0 ∷ 0 ∷ []; actions = 0 ∷ [] }) ∷
+          ready (record { tag = at 5 0; terminal = false; work = true; network = false; held = false; reactions = 0 ∷ 0 ∷ []; actions = 0 ∷ [] }) ∷
           [];
       end =
           record {

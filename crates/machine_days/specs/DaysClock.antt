@@ -34,7 +34,7 @@ pub clock-delay-at-limit : dayOf clock-delay-at-limit-image clock-delay-at-limit
           ok ∷
           refusal R.MappedTag ∷
           ok ∷
-          ready (record { tag = at 100 4294967295; terminal = false; work = true; network = false; reactions = 0 ∷ 0 ∷ []; actions = 0 ∷ [] }) ∷
+          ready (record { tag = at 100 4294967295; terminal = false; work = true; network = false; held = true; reactions = 0 ∷ 0 ∷ []; actions = 0 ∷ [] }) ∷
           [];
       end =
           record {
@@ -84,10 +84,10 @@ pub clock-equal-not-allowed : dayOf clock-equal-not-allowed-image clock-equal-no
       replies =
           ok ∷
           ok ∷
-          ready (record { tag = at 0 1; terminal = false; work = true; network = false; reactions = 0 ∷ 0 ∷ []; actions = 0 ∷ [] }) ∷
+          ready (record { tag = at 0 1; terminal = false; work = true; network = false; held = true; reactions = 0 ∷ 0 ∷ []; actions = 0 ∷ [] }) ∷
           ok ∷
           ok ∷
-          ready (record { tag = at 0 1; terminal = false; work = true; network = false; reactions = 0 ∷ 0 ∷ []; actions = 1 ∷ [] }) ∷
+          ready (record { tag = at 0 1; terminal = false; work = true; network = false; held = true; reactions = 0 ∷ 0 ∷ []; actions = 1 ∷ [] }) ∷
           [];
       end =
           record {
@@ -145,9 +145,9 @@ pub clock-heads-fall-back : dayOf clock-heads-fall-back-image clock-heads-fall-b
           ok ∷
           ok ∷
           ok ∷
-          ready (record { tag = at 100 7; terminal = false; work = true; network = false; reactions = 0 ∷ 0 ∷ []; actions = 0 ∷ [] }) ∷
-          ready (record { tag = at 100 3; terminal = false; work = true; network = false; reactions = 0 ∷ 0 ∷ []; actions = 0 ∷ [] }) ∷
-          ready (record { tag = at 100 7; terminal = false; work = true; network = false; reactions = 0 ∷ 0 ∷ []; actions = 1 ∷ [] }) ∷
+          ready (record { tag = at 100 7; terminal = false; work = true; network = false; held = false; reactions = 0 ∷ 0 ∷ []; actions = 0 ∷ [] }) ∷
+          ready (record { tag = at 100 3; terminal = false; work = true; network = false; held = true; reactions = 0 ∷ 0 ∷ []; actions = 0 ∷ [] }) ∷
+          ready (record { tag = at 100 7; terminal = false; work = true; network = false; held = false; reactions = 0 ∷ 0 ∷ []; actions = 1 ∷ [] }) ∷
           [];
       end =
           record {
@@ -178,6 +178,73 @@ pub clock-heads-fall-back-asked : askedOf clock-heads-fall-back-image clock-head
     (nothing ∷ flag false ∷ number 0 ∷ flag true ∷ flag true ∷ flag false ∷ flag true ∷ flag true ∷ flag true ∷ flag true ∷ flag true ∷ []) ∷ [])
 unfolding askedOf
 clock-heads-fall-back-asked = refl
+
+-- READINGS-02, C-20: where G = L and allowed nothing is held back; a tag that comes out at G's next microstep by itself is not held, one
+-- that is moved there is, and one such event in a pop is enough: with a root event, and before one that is due there by itself.
+abbrev pub clock-held-or-due-image : Image
+clock-held-or-due-image =
+    0 ∷ 0 ∷ 0 ∷ 55 ∷ 1 ∷ 0 ∷ 3 ∷ 0 ∷ 1 ∷ 0 ∷ 2 ∷ 0 ∷ 0 ∷ 0 ∷ 2 ∷ 0 ∷ 0 ∷ 0 ∷ 0 ∷ 0 ∷ 0 ∷ 0 ∷ 0 ∷ 255 ∷
+    255 ∷ 0 ∷ 0 ∷ 255 ∷ 255 ∷ 0 ∷ 0 ∷ 0 ∷ 0 ∷ 0 ∷ 0 ∷ 0 ∷ 0 ∷ 0 ∷ 0 ∷ 0 ∷ 1 ∷ 0 ∷ 0 ∷ 0 ∷ 0 ∷ 0 ∷ 1 ∷
+    0 ∷ 0 ∷ 0 ∷ 2 ∷ 0 ∷ 0 ∷ 0 ∷ 2 ∷ 1 ∷ 0 ∷ 1 ∷ 1 ∷
+    []
+
+abbrev pub clock-held-or-due-calls : List Call
+clock-held-or-due-calls =
+    action 1 (at 0 0) false [] ∷
+    pop ∷
+    transit 0 1 false (at 10 0) ∷
+    action 0 (at 10 1) false [] ∷
+    pop ∷
+    transit 0 0 false (at 20 0) ∷
+    transit 0 1 false (at 30 0) ∷
+    action 0 (at 30 0) false [] ∷
+    plain (at 30 1) false [] ∷
+    pop ∷
+    transit 0 0 false (at 40 0) ∷
+    transit 0 1 false (at 50 0) ∷
+    action 0 (at 50 0) false [] ∷
+    action 0 (at 50 1) false [] ∷
+    pop ∷
+    plain (at 60 0) false [] ∷
+    pop ∷
+    []
+
+pub clock-held-or-due : longDayOf clock-held-or-due-image clock-held-or-due-calls ≡
+    record {
+      replies =
+          ok ∷
+          ready (record { tag = at 0 0; terminal = false; work = true; network = false; held = false; reactions = 0 ∷ 0 ∷ []; actions = 1 ∷ [] }) ∷
+          ok ∷
+          ok ∷
+          ready (record { tag = at 10 1; terminal = false; work = true; network = false; held = false; reactions = 0 ∷ 0 ∷ []; actions = 0 ∷ [] }) ∷
+          ok ∷
+          ok ∷
+          ok ∷
+          ok ∷
+          ready (record { tag = at 30 1; terminal = false; work = true; network = false; held = true; reactions = 0 ∷ 0 ∷ []; actions = 0 ∷ [] }) ∷
+          ok ∷
+          ok ∷
+          ok ∷
+          ok ∷
+          ready (record { tag = at 50 1; terminal = false; work = true; network = false; held = true; reactions = 0 ∷ 0 ∷ []; actions = 0 ∷ [] }) ∷
+          ok ∷
+          ready (record { tag = at 60 0; terminal = false; work = true; network = false; held = false; reactions = 0 ∷ 0 ∷ []; actions = [] }) ∷
+          [];
+      end =
+          record {
+            modes = 1 ∷ [];
+            scopes =
+                scope (clock (at 0 0) (at 0 0) true (at 0 0)) true true ∷
+                scope (clock (at 40 0) (at 20 0) false (at 30 0)) false true ∷
+                scope (clock (at 50 0) (at 20 0) false (at 20 0)) true true ∷
+                [];
+            waiting = [];
+            work = 0;
+            store = record { values = []; buckets = [] };
+          };
+    }
+unfolding longDayOf
+clock-held-or-due = refl
 
 -- m1 to m7 through a manager: G (100,2), L (40,1); three heads map to (100,3), one to (100,4).
 abbrev pub clock-maps-image : Image
@@ -215,9 +282,9 @@ pub clock-maps : dayOf clock-maps-image clock-maps-calls ≡
           refusal R.MappedTag ∷
           ok ∷
           ok ∷
-          ready (record { tag = at 100 3; terminal = false; work = true; network = false; reactions = 0 ∷ 0 ∷ []; actions = 0 ∷ [] }) ∷
-          ready (record { tag = at 100 4; terminal = false; work = true; network = false; reactions = 0 ∷ 0 ∷ []; actions = 0 ∷ [] }) ∷
-          ready (record { tag = at 115 0; terminal = false; work = true; network = false; reactions = 0 ∷ 0 ∷ []; actions = 0 ∷ [] }) ∷
+          ready (record { tag = at 100 3; terminal = false; work = true; network = false; held = true; reactions = 0 ∷ 0 ∷ []; actions = 0 ∷ [] }) ∷
+          ready (record { tag = at 100 4; terminal = false; work = true; network = false; held = false; reactions = 0 ∷ 0 ∷ []; actions = 0 ∷ [] }) ∷
+          ready (record { tag = at 115 0; terminal = false; work = true; network = false; held = false; reactions = 0 ∷ 0 ∷ []; actions = 0 ∷ [] }) ∷
           [];
       end =
           record {
@@ -275,7 +342,7 @@ pub clock-moves-earlier : dayOf clock-moves-earlier-image clock-moves-earlier-ca
           ok ∷
           ok ∷
           ok ∷
-          ready (record { tag = at 597 0; terminal = false; work = true; network = false; reactions = 0 ∷ 0 ∷ []; actions = 0 ∷ [] }) ∷
+          ready (record { tag = at 597 0; terminal = false; work = true; network = false; held = false; reactions = 0 ∷ 0 ∷ []; actions = 0 ∷ [] }) ∷
           [];
       end =
           record {
@@ -476,9 +543,9 @@ pub clock-suspended : dayOf clock-suspended-image clock-suspended-calls ≡
           ok ∷
           nothing ∷
           ok ∷
-          ready (record { tag = at 4 0; terminal = false; work = true; network = false; reactions = 0 ∷ 0 ∷ []; actions = [] }) ∷
+          ready (record { tag = at 4 0; terminal = false; work = true; network = false; held = false; reactions = 0 ∷ 0 ∷ []; actions = [] }) ∷
           ok ∷
-          ready (record { tag = at 22 0; terminal = false; work = true; network = false; reactions = 1 ∷ 0 ∷ []; actions = 0 ∷ [] }) ∷
+          ready (record { tag = at 22 0; terminal = false; work = true; network = false; held = false; reactions = 1 ∷ 0 ∷ []; actions = 0 ∷ [] }) ∷
           [];
       end =
           record {
@@ -539,11 +606,11 @@ pub clock-two-scopes : dayOf clock-two-scopes-image clock-two-scopes-calls ≡
           ok ∷
           ok ∷
           ok ∷
-          ready (record { tag = at 130 0; terminal = false; work = true; network = false; reactions = 0 ∷ 0 ∷ []; actions = 1 ∷ 0 ∷ [] }) ∷
+          ready (record { tag = at 130 0; terminal = false; work = true; network = false; held = false; reactions = 0 ∷ 0 ∷ []; actions = 1 ∷ 0 ∷ [] }) ∷
           ok ∷
           ok ∷
           ok ∷
-          ready (record { tag = at 145 0; terminal = false; work = true; network = false; reactions = 0 ∷ 0 ∷ []; actions = 1 ∷ 0 ∷ [] }) ∷
+          ready (record { tag = at 145 0; terminal = false; work = true; network = false; held = false; reactions = 0 ∷ 0 ∷ []; actions = 1 ∷ 0 ∷ [] }) ∷
           [];
       end =
           record {
@@ -599,7 +666,7 @@ pub clock-value-moves : dayOf clock-value-moves-image clock-value-moves-calls �
           ok ∷
           ok ∷
           ok ∷
-          ready (record { tag = at 33 0; terminal = false; work = true; network = false; reactions = 1 ∷ 0 ∷ []; actions = 0 ∷ [] }) ∷
+          ready (record { tag = at 33 0; terminal = false; work = true; network = false; held = false; reactions = 1 ∷ 0 ∷ []; actions = 0 ∷ [] }) ∷
           [];
       end =
           record {

@@ -43,7 +43,7 @@ pub full-events : longDayOf full-events-image full-events-calls ≡
           refusal R.ArgumentTag ∷
           refusal R.MappedTag ∷
           refusal R.Waiting ∷
-          ready (record { tag = at 150 0; terminal = false; work = false; network = false; reactions = 0 ∷ 0 ∷ []; actions = [] }) ∷
+          ready (record { tag = at 150 0; terminal = false; work = false; network = false; held = false; reactions = 0 ∷ 0 ∷ []; actions = [] }) ∷
           ok ∷
           refusal R.Waiting ∷
           [];

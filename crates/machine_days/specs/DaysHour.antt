@@ -65,23 +65,23 @@ pub hour : longDayOf hour-image hour-calls ≡
           ok ∷
           nothing ∷
           ok ∷
-          ready (record { tag = at 1800000000000 1; terminal = false; work = true; network = false; reactions = 8 ∷ 0 ∷ []; actions = 3 ∷ [] }) ∷
-          ready (record { tag = at 2220000000000 0; terminal = false; work = true; network = false; reactions = 4 ∷ 0 ∷ []; actions = 2 ∷ [] }) ∷
+          ready (record { tag = at 1800000000000 1; terminal = false; work = true; network = false; held = true; reactions = 8 ∷ 0 ∷ []; actions = 3 ∷ [] }) ∷
+          ready (record { tag = at 2220000000000 0; terminal = false; work = true; network = false; held = false; reactions = 4 ∷ 0 ∷ []; actions = 2 ∷ [] }) ∷
           ok ∷
-          ready (record { tag = at 2400000000000 0; terminal = false; work = true; network = false; reactions = 1 ∷ 0 ∷ []; actions = 0 ∷ [] }) ∷
+          ready (record { tag = at 2400000000000 0; terminal = false; work = true; network = false; held = false; reactions = 1 ∷ 0 ∷ []; actions = 0 ∷ [] }) ∷
           ok ∷
-          ready (record { tag = at 4800000000000 0; terminal = false; work = true; network = false; reactions = 2 ∷ 0 ∷ []; actions = 1 ∷ [] }) ∷
+          ready (record { tag = at 4800000000000 0; terminal = false; work = true; network = false; held = false; reactions = 2 ∷ 0 ∷ []; actions = 1 ∷ [] }) ∷
           ok ∷
           nothing ∷
           ok ∷
           ok ∷
-          ready (record { tag = at 7020000000000 0; terminal = false; work = true; network = false; reactions = 4 ∷ 0 ∷ []; actions = 2 ∷ [] }) ∷
-          ready (record { tag = at 7200000000000 0; terminal = false; work = true; network = false; reactions = 1 ∷ 0 ∷ []; actions = 0 ∷ [] }) ∷
+          ready (record { tag = at 7020000000000 0; terminal = false; work = true; network = false; held = false; reactions = 4 ∷ 0 ∷ []; actions = 2 ∷ [] }) ∷
+          ready (record { tag = at 7200000000000 0; terminal = false; work = true; network = false; held = false; reactions = 1 ∷ 0 ∷ []; actions = 0 ∷ [] }) ∷
           ok ∷
           ok ∷
-          ready (record { tag = at 8520000000000 0; terminal = false; work = true; network = false; reactions = 4 ∷ 0 ∷ []; actions = 2 ∷ [] }) ∷
-          ready (record { tag = at 8700000000000 0; terminal = false; work = true; network = false; reactions = 1 ∷ 0 ∷ []; actions = 0 ∷ [] }) ∷
-          ready (record { tag = at 11100000000000 0; terminal = false; work = true; network = false; reactions = 2 ∷ 0 ∷ []; actions = 1 ∷ [] }) ∷
+          ready (record { tag = at 8520000000000 0; terminal = false; work = true; network = false; held = false; reactions = 4 ∷ 0 ∷ []; actions = 2 ∷ [] }) ∷
+          ready (record { tag = at 8700000000000 0; terminal = false; work = true; network = false; held = false; reactions = 1 ∷ 0 ∷ []; actions = 0 ∷ [] }) ∷
+          ready (record { tag = at 11100000000000 0; terminal = false; work = true; network = false; held = false; reactions = 2 ∷ 0 ∷ []; actions = 1 ∷ [] }) ∷
           nothing ∷
           [];
       end =

@@ -40,8 +40,8 @@ pub reset-drops : dayOf reset-drops-image reset-drops-calls ≡
           ok ∷
           ok ∷
           ok ∷
-          ready (record { tag = at 7 0; terminal = false; work = true; network = false; reactions = 0 ∷ 0 ∷ []; actions = 1 ∷ [] }) ∷
-          ready (record { tag = at 8 0; terminal = false; work = true; network = false; reactions = 0 ∷ 0 ∷ []; actions = 2 ∷ [] }) ∷
+          ready (record { tag = at 7 0; terminal = false; work = true; network = false; held = false; reactions = 0 ∷ 0 ∷ []; actions = 1 ∷ [] }) ∷
+          ready (record { tag = at 8 0; terminal = false; work = true; network = false; held = false; reactions = 0 ∷ 0 ∷ []; actions = 2 ∷ [] }) ∷
           nothing ∷
           [];
       end =
@@ -102,7 +102,7 @@ pub reset-from-nothing-push : dayOf reset-from-nothing-push-image reset-from-not
           ok ∷
           refusal R.MappedTag ∷
           ok ∷
-          ready (record { tag = at 60 0; terminal = false; work = true; network = false; reactions = 0 ∷ 0 ∷ []; actions = 0 ∷ [] }) ∷
+          ready (record { tag = at 60 0; terminal = false; work = true; network = false; held = false; reactions = 0 ∷ 0 ∷ []; actions = 0 ∷ [] }) ∷
           [];
       end =
           record {
@@ -151,7 +151,7 @@ pub reset-from-nothing : dayOf reset-from-nothing-push-image reset-from-nothing-
           ok ∷
           ok ∷
           ok ∷
-          ready (record { tag = at 75 0; terminal = false; work = true; network = false; reactions = 0 ∷ 0 ∷ []; actions = 0 ∷ [] }) ∷
+          ready (record { tag = at 75 0; terminal = false; work = true; network = false; held = false; reactions = 0 ∷ 0 ∷ []; actions = 0 ∷ [] }) ∷
           [];
       end =
           record {
@@ -203,9 +203,9 @@ pub reset-inactive-rows : dayOf reset-inactive-rows-image reset-inactive-rows-ca
     record {
       replies =
           ok ∷
-          ready (record { tag = at 30 1; terminal = false; work = true; network = false; reactions = 1 ∷ 0 ∷ []; actions = [] }) ∷
+          ready (record { tag = at 30 1; terminal = false; work = true; network = false; held = false; reactions = 1 ∷ 0 ∷ []; actions = [] }) ∷
           ok ∷
-          ready (record { tag = at 55 0; terminal = false; work = true; network = false; reactions = 2 ∷ 0 ∷ []; actions = 0 ∷ [] }) ∷
+          ready (record { tag = at 55 0; terminal = false; work = true; network = false; held = false; reactions = 2 ∷ 0 ∷ []; actions = 0 ∷ [] }) ∷
           [];
       end =
           record {
@@ -314,7 +314,7 @@ pub reset-keeps-clock : dayOf reset-from-nothing-push-image reset-keeps-clock-ca
           refusal R.MappedTag ∷
           ok ∷
           ok ∷
-          ready (record { tag = at 42 0; terminal = false; work = true; network = false; reactions = 0 ∷ 0 ∷ []; actions = 0 ∷ [] }) ∷
+          ready (record { tag = at 42 0; terminal = false; work = true; network = false; held = false; reactions = 0 ∷ 0 ∷ []; actions = 0 ∷ [] }) ∷
           [];
       end =
           record {
@@ -433,8 +433,8 @@ pub reset-nested : dayOf reset-nested-image reset-nested-calls ≡
           ok ∷
           ok ∷
           ok ∷
-          ready (record { tag = at 20 1; terminal = false; work = true; network = false; reactions = 0 ∷ 0 ∷ []; actions = 1 ∷ [] }) ∷
-          ready (record { tag = at 21 0; terminal = false; work = true; network = false; reactions = 0 ∷ 0 ∷ []; actions = 2 ∷ [] }) ∷
+          ready (record { tag = at 20 1; terminal = false; work = true; network = false; held = true; reactions = 0 ∷ 0 ∷ []; actions = 1 ∷ [] }) ∷
+          ready (record { tag = at 21 0; terminal = false; work = true; network = false; held = false; reactions = 0 ∷ 0 ∷ []; actions = 2 ∷ [] }) ∷
           nothing ∷
           [];
       end =
@@ -487,7 +487,7 @@ pub reset-no-seven : dayOf reset-from-nothing-push-image reset-no-seven-calls �
           ok ∷
           ok ∷
           ok ∷
-          ready (record { tag = at 22 0; terminal = false; work = true; network = false; reactions = 0 ∷ 0 ∷ []; actions = 0 ∷ [] }) ∷
+          ready (record { tag = at 22 0; terminal = false; work = true; network = false; held = false; reactions = 0 ∷ 0 ∷ []; actions = 0 ∷ [] }) ∷
           [];
       end =
           record {
@@ -539,8 +539,8 @@ pub reset-rows-at-limit : dayOf reset-rows-at-limit-image reset-rows-at-limit-ca
       replies =
           refusal R.MappedTag ∷
           ok ∷
-          ready (record { tag = at 10 4294967295; terminal = false; work = true; network = false; reactions = 1 ∷ 0 ∷ []; actions = [] }) ∷
-          ready (record { tag = at 15 0; terminal = false; work = true; network = false; reactions = 0 ∷ 0 ∷ []; actions = 0 ∷ [] }) ∷
+          ready (record { tag = at 10 4294967295; terminal = false; work = true; network = false; held = false; reactions = 1 ∷ 0 ∷ []; actions = [] }) ∷
+          ready (record { tag = at 15 0; terminal = false; work = true; network = false; held = false; reactions = 0 ∷ 0 ∷ []; actions = 0 ∷ [] }) ∷
           [];
       end =
           record {
@@ -588,7 +588,7 @@ pub reset-rows : dayOf reset-rows-image reset-rows-calls ≡
     record {
       replies =
           ok ∷
-          ready (record { tag = at 10 3; terminal = false; work = true; network = false; reactions = 3 ∷ 0 ∷ []; actions = [] }) ∷
+          ready (record { tag = at 10 3; terminal = false; work = true; network = false; held = false; reactions = 3 ∷ 0 ∷ []; actions = [] }) ∷
           ok ∷
           nothing ∷
           [];
@@ -642,7 +642,7 @@ pub reset-stays-zero : dayOf reset-stays-zero-image reset-stays-zero-calls ≡
           ok ∷
           ok ∷
           ok ∷
-          ready (record { tag = at 55 0; terminal = false; work = true; network = false; reactions = 0 ∷ 0 ∷ []; actions = 0 ∷ [] }) ∷
+          ready (record { tag = at 55 0; terminal = false; work = true; network = false; held = false; reactions = 0 ∷ 0 ∷ []; actions = 0 ∷ [] }) ∷
           [];
       end =
           record {
@@ -741,7 +741,7 @@ pub reset-strictly-under : dayOf reset-strictly-under-image reset-strictly-under
       replies =
           ok ∷
           ok ∷
-          ready (record { tag = at 24 0; terminal = false; work = true; network = false; reactions = 0 ∷ 0 ∷ []; actions = 0 ∷ [] }) ∷
+          ready (record { tag = at 24 0; terminal = false; work = true; network = false; held = false; reactions = 0 ∷ 0 ∷ []; actions = 0 ∷ [] }) ∷
           [];
       end =
           record {
@@ -798,16 +798,16 @@ pub reset-tags-rise : dayOf reset-tags-rise-image reset-tags-rise-calls ≡
     record {
       replies =
           ok ∷
-          ready (record { tag = at 10 0; terminal = false; work = true; network = false; reactions = 0 ∷ 0 ∷ []; actions = [] }) ∷
+          ready (record { tag = at 10 0; terminal = false; work = true; network = false; held = false; reactions = 0 ∷ 0 ∷ []; actions = [] }) ∷
           ok ∷
           ok ∷
-          ready (record { tag = at 10 9; terminal = false; work = true; network = false; reactions = 0 ∷ 0 ∷ []; actions = [] }) ∷
+          ready (record { tag = at 10 9; terminal = false; work = true; network = false; held = false; reactions = 0 ∷ 0 ∷ []; actions = [] }) ∷
           ok ∷
           ok ∷
-          ready (record { tag = at 100 2; terminal = false; work = true; network = false; reactions = 0 ∷ 0 ∷ []; actions = [] }) ∷
+          ready (record { tag = at 100 2; terminal = false; work = true; network = false; held = false; reactions = 0 ∷ 0 ∷ []; actions = [] }) ∷
           ok ∷
-          ready (record { tag = at 100 9; terminal = false; work = true; network = false; reactions = 0 ∷ 0 ∷ []; actions = 0 ∷ [] }) ∷
-          ready (record { tag = at 100 11; terminal = false; work = true; network = false; reactions = 0 ∷ 0 ∷ []; actions = 0 ∷ [] }) ∷
+          ready (record { tag = at 100 9; terminal = false; work = true; network = false; held = false; reactions = 0 ∷ 0 ∷ []; actions = 0 ∷ [] }) ∷
+          ready (record { tag = at 100 11; terminal = false; work = true; network = false; held = false; reactions = 0 ∷ 0 ∷ []; actions = 0 ∷ [] }) ∷
           [];
       end =
           record {
@@ -905,8 +905,8 @@ pub reset-timers : dayOf reset-timers-image reset-timers-calls ≡
     record {
       replies =
           ok ∷
-          ready (record { tag = at 10 3; terminal = false; work = true; network = false; reactions = 6 ∷ 0 ∷ []; actions = 0 ∷ [] }) ∷
-          ready (record { tag = at 15 1; terminal = false; work = true; network = false; reactions = 7 ∷ 0 ∷ []; actions = 1 ∷ 0 ∷ [] }) ∷
+          ready (record { tag = at 10 3; terminal = false; work = true; network = false; held = true; reactions = 6 ∷ 0 ∷ []; actions = 0 ∷ [] }) ∷
+          ready (record { tag = at 15 1; terminal = false; work = true; network = false; held = false; reactions = 7 ∷ 0 ∷ []; actions = 1 ∷ 0 ∷ [] }) ∷
           [];
       end =
           record {
@@ -949,7 +949,7 @@ pub reset-twice : dayOf reset-stays-zero-image reset-twice-calls ≡
           ok ∷
           ok ∷
           ok ∷
-          ready (record { tag = at 55 0; terminal = false; work = true; network = false; reactions = 0 ∷ 0 ∷ []; actions = 0 ∷ [] }) ∷
+          ready (record { tag = at 55 0; terminal = false; work = true; network = false; held = false; reactions = 0 ∷ 0 ∷ []; actions = 0 ∷ [] }) ∷
           [];
       end =
           record {
@@ -1004,7 +1004,7 @@ pub reset-zeroes-local : dayOf reset-from-nothing-push-image reset-zeroes-local-
           ok ∷
           ok ∷
           ok ∷
-          ready (record { tag = at 75 0; terminal = false; work = true; network = false; reactions = 0 ∷ 0 ∷ []; actions = 0 ∷ [] }) ∷
+          ready (record { tag = at 75 0; terminal = false; work = true; network = false; held = false; reactions = 0 ∷ 0 ∷ []; actions = 0 ∷ [] }) ∷
           ok ∷
           ok ∷
           ok ∷

@@ -36,7 +36,7 @@ pub turn-history-to-current : dayOf turn-history-to-current-image turn-history-t
           ok ∷
           ok ∷
           refusal R.ArgumentTag ∷
-          ready (record { tag = at 5 0; terminal = false; work = true; network = false; reactions = 0 ∷ 0 ∷ []; actions = 0 ∷ [] }) ∷
+          ready (record { tag = at 5 0; terminal = false; work = true; network = false; held = false; reactions = 0 ∷ 0 ∷ []; actions = 0 ∷ [] }) ∷
           [];
       end =
           record {
@@ -91,7 +91,7 @@ pub turn-nested-history : dayOf turn-nested-history-image turn-nested-history-ca
           ok ∷
           nothing ∷
           ok ∷
-          ready (record { tag = at 32 0; terminal = false; work = true; network = false; reactions = 0 ∷ 0 ∷ []; actions = 0 ∷ [] }) ∷
+          ready (record { tag = at 32 0; terminal = false; work = true; network = false; held = false; reactions = 0 ∷ 0 ∷ []; actions = 0 ∷ [] }) ∷
           [];
       end =
           record {
@@ -231,9 +231,9 @@ pub turn-startup-children : dayOf turn-startup-children-image turn-startup-child
     record {
       replies =
           ok ∷
-          ready (record { tag = at 7 1; terminal = false; work = true; network = false; reactions = 7 ∷ 0 ∷ []; actions = [] }) ∷
+          ready (record { tag = at 7 1; terminal = false; work = true; network = false; held = false; reactions = 7 ∷ 0 ∷ []; actions = [] }) ∷
           ok ∷
-          ready (record { tag = at 8 1; terminal = false; work = true; network = false; reactions = 1 ∷ 0 ∷ []; actions = [] }) ∷
+          ready (record { tag = at 8 1; terminal = false; work = true; network = false; held = false; reactions = 1 ∷ 0 ∷ []; actions = [] }) ∷
           [];
       end =
           record {
@@ -285,7 +285,7 @@ pub turn-startup-once : dayOf turn-startup-once-image turn-startup-once-calls �
     record {
       replies =
           ok ∷
-          ready (record { tag = at 10 1; terminal = false; work = true; network = false; reactions = 1 ∷ 0 ∷ []; actions = [] }) ∷
+          ready (record { tag = at 10 1; terminal = false; work = true; network = false; held = false; reactions = 1 ∷ 0 ∷ []; actions = [] }) ∷
           nothing ∷
           ok ∷
           ok ∷

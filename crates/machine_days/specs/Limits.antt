@@ -36,8 +36,8 @@ pub moves-tie : dayOf moves-image moves-calls ≡
     record {
       replies =
           ok ∷ ok ∷ ok ∷ ok ∷ ok ∷ ok ∷
-          ready (record { tag = at 50 3; terminal = false; work = true; network = false; reactions = noKeys wordCount; actions = 0 ∷ [] }) ∷
-          ready (record { tag = at 50 2; terminal = false; work = true; network = false; reactions = noKeys wordCount; actions = 0 ∷ [] }) ∷
+          ready (record { tag = at 50 3; terminal = false; work = true; network = false; held = false; reactions = noKeys wordCount; actions = 0 ∷ [] }) ∷
+          ready (record { tag = at 50 2; terminal = false; work = true; network = false; held = false; reactions = noKeys wordCount; actions = 0 ∷ [] }) ∷
           [];
       end =
           record {
@@ -70,7 +70,7 @@ limit-calls =
 -- A scope that the table lacks is 5.
 pub at-limit : dayOf moves-image limit-calls .replies ≡
     (ok ∷ refusal R.MappedTag ∷ ok ∷
-    ready (record { tag = at 6 0; terminal = false; work = true; network = false; reactions = noKeys wordCount; actions = 0 ∷ [] }) ∷
+    ready (record { tag = at 6 0; terminal = false; work = true; network = false; held = false; reactions = noKeys wordCount; actions = 0 ∷ [] }) ∷
     flag true ∷ refusal R.Key ∷ refusal R.Key ∷ [])
 unfolding dayOf
 at-limit = refl

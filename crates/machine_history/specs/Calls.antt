@@ -356,7 +356,7 @@ module _ (img : Image) (table : isTable img ≡ true) (cs : List Call) (n : ℕ)
                 (p .history) (p .each);
             order = p .order ∙ order;
             made = ap eventsOf (names-none n (p .history) (each-imp (Amid img cs n (p .count)) (λ x. x .by < n) (λ x a. a .before) (p .history) (p .each))) ∙ sym (makes-none pop call refl);
-            handed = λ c. some q y t top (sym took) (ap (λ o. o .reply) e ∙ ap ready (sym (ready-bare t (taking img (s .scopes) t begun .events)) ∙ ap (readyOf t) took));
+            handed = λ c. some q y t top (sym took) (ap (λ o. o .reply) e ∙ ap ready (sym (ready-bare (s .scopes) t (taking img (s .scopes) t begun .events)) ∙ ap (readyOf (s .scopes) t) took));
           }
 
   -- ---- every call

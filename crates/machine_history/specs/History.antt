@@ -203,7 +203,7 @@ pub data Handed (img : Image) (s : State) (r : Reply) (es : List Event) : Type 0
   none : peek img (s .scopes) (s .waiting) ≡ empty → r ≡ nothing → es ≡ [] → Handed img s r es
   some :
       (q : ℕ) (x t : Tag) → peek img (s .scopes) (s .waiting) ≡ head q x t → es ≡ map bare (taking img (s .scopes) t (untaken (s .waiting) (s .work)) .events) →
-      r ≡ ready (readyOf t es) → Handed img s r es
+      r ≡ ready (readyOf (s .scopes) t es) → Handed img s r es
 
 -- each entry's call comes no earlier than the ones before it
 unfoldable pub inOrder : ℕ → History → Bool

@@ -13,8 +13,8 @@ use Rattle.lists.specs.Tests.{and-no}
 use Rattle.lists.specs.Lists.{keep, lose, foldl}
 use Rattle.tags.specs.Tags.{Tag, sameTag}
 use Rattle.key_set.specs.Sets.{unionOf, noKeys, wordCount}
-use Rattle.machine.specs.State.{Event, ordinary, inQueue, atHead}
-use Rattle.machine.specs.Heads.{Head, empty, head, Taking, untaken, taken, takeAt, readyOf, addAction}
+use Rattle.machine.specs.State.{Event, Scope, ordinary, inQueue, atHead}
+use Rattle.machine.specs.Heads.{Head, empty, head, Taking, untaken, taken, takeAt, heldAt, readyOf, addAction}
 use Rattle.lists.specs.Every.{by-test, no-way}
 use Rattle.lists.specs.Each.{Each, each-imp, map-keep, map-lose, any-map, foldl-map}
 use Rattle.machine_history.specs.Deeds.{bare, takesAt}
@@ -221,13 +221,14 @@ unfolding takenUpTo
 none-taken n h e = let z : 0 + suc mostTurns ≡ suc mostTurns = omega arith in ap (λ j. takenUpTo n j h) (sym z) ∙ taken-end n 0 (suc mostTurns) h e
 
 -- the answer of a pop sees no stored tag
-pub ready-bare : (t : Tag) (es : List Event) → readyOf t (map bare es) ≡ readyOf t es
+pub ready-bare : (ss : List Scope) (t : Tag) (es : List Event) → readyOf ss t (map bare es) ≡ readyOf ss t es
 unfolding readyOf ordinary addAction
-ready-bare t es =
+ready-bare ss t es =
     rw (
       any-map bare (λ e. e .terminal) es,
       any-map bare ordinary es,
       any-map bare (λ e. e .network) es,
+      any-map bare (λ e. heldAt ss (e .queue) (e .tag)) es,
       foldl-map bare (λ ws e. unionOf ws (e .reactions)) es (noKeys wordCount),
       foldl-map bare addAction es [],
     )

@@ -15,7 +15,7 @@ use Rattle.table_rows.specs.Limits.{limits}
 use Rattle.table_rows.specs.Rows.{modeReactor, actionScope, isLogical}
 use Rattle.table.specs.Table.{Table}
 use Rattle.table.proofs.TableLaws.{action-scope}
-use Rattle.tags.specs.Tags.{Tag, at, within, sameTag, toLocal, toGlobal}
+use Rattle.tags.specs.Tags.{Tag, at, within, sameTag, toLocal, imageOf}
 use Rattle.store.specs.Store as S
 use Rattle.store.specs.Store.{Store, storeRules}
 use Rattle.table_schedule.specs.Schedule.{isModal}
@@ -97,7 +97,7 @@ module _ (img : Image) (tb : Table img) (s : State) (h : Ruled img s) where
         let q = actionScope img a in
         let p : hasParent img q ≡ true = not-false (hasParent img q) (not-both (not (isLogical img a)) _ (not-both (not (isModal img)) _ e .1) .1) in
         bind-done (toLocal (clockAt s q) t) _ y λ z m n.
-        let o = need-is (not (activeAt s q) || isTag (toGlobal (clockAt s q) z)) R.MappedTag n in
+        let o = need-is (not (activeAt s q) || isTag (imageOf (clockAt s q) z)) R.MappedTag n in
         both (action-rules q x (rw (done-is (o .1)) at (local-within (clockAt s q) t z w m)))
         (both (or-right (eqb q root) (both (lt-ltb q (scopes img) (action-scope img tb a (ltb-true a (actions img) l))) p))
         (or-right (eqb q root) (rw (done-is (o .1)) at (o .0))))

@@ -10,7 +10,7 @@ use borrow.Author.Tests.{eq-eqb}
 use Rattle.lists.specs.Lists.{lose, any, from, foldl, lose-shorter}
 use Rattle.lists.specs.Walk.{done, refused}
 use Rattle.table_rows.specs.Bytes.{Image}
-use Rattle.tags.specs.Tags.{Tag, Answer, sameTag, earlier, toGlobal}
+use Rattle.tags.specs.Tags.{Tag, Answer, sameTag, earlier, imageOf}
 use Rattle.machine.specs.Table.{scopes}
 use Rattle.machine.specs.State.{Event, Scope, inQueue, atHead, scopeIn}
 use Rattle.machine.specs.Heads.{Head, empty, head, Least, noTag, least, lesser, leastOf, mapped, mappedHead, scopeHeadOf, headAt, sooner, scopeHead, isAt, Taking, taken, takeAt, takeScopes}
@@ -67,7 +67,7 @@ head-there ss es i q x g e = by-test (scopeIn ss i .active) (λ a. scope (leastO
 
     scope : (m : Least) → leastOf i es ≡ m → mappedHead (scopeIn ss i .clock) i m ≡ head q x g → any (atHead q x) es ≡ true
     scope noTag y e = no-head e
-    scope (least t) y e = image t (toGlobal (scopeIn ss i .clock) t) y e
+    scope (least t) y e = image t (imageOf (scopeIn ss i .clock) t) y e
 
 sooner-there : (es : List Event) (h k : Head) → There es h → There es k → There es (sooner h k)
 sooner-there es empty k a b = b

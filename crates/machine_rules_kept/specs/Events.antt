@@ -11,7 +11,7 @@ use Rattle.lists.specs.Walk.{done, refused}
 use Rattle.table_rows.specs.Bytes.{Image}
 use Rattle.table_rows.specs.Kinds.{count}
 use Rattle.table_rows.specs.Rows.{none, field}
-use Rattle.tags.specs.Tags.{Tag, Clock, Answer, within, toGlobal}
+use Rattle.tags.specs.Tags.{Tag, Clock, Answer, within, imageOf}
 use Rattle.key_set.specs.Sets.{has, insertKey, noKeys, wordCount}
 use Rattle.table_schedule.specs.Schedule.{reactionsOf}
 use Rattle.machine.specs.Table.{actions, reactions, setOf}
@@ -71,9 +71,9 @@ module _ (img : Image) where
 
   stamp-within : (i : ℕ) (k : Clock) (e : Event) → within (e .tag) ≡ true → within (e .stored) ≡ true → within (stamp i k e) ≡ true
   unfolding stamp
-  stamp-within i k e w v = by-test (owns i e) (λ b. rw b (go (toGlobal k (e .tag)) refl)) (λ b. rw b v)
+  stamp-within i k e w v = by-test (owns i e) (λ b. rw b (go (imageOf k (e .tag)) refl)) (λ b. rw b v)
     where
-      go : (a : Answer) → toGlobal k (e .tag) ≡ a → within (tagOr (e .stored) a) ≡ true
+      go : (a : Answer) → imageOf k (e .tag) ≡ a → within (tagOr (e .stored) a) ≡ true
       go (done g) q = global-within k (e .tag) g w q
       go (refused n) q = v
 

@@ -19,7 +19,7 @@ use Rattle.table_rows.specs.Limits.{limits}
 use Rattle.table_rows.specs.Rows.{modeScope, startupAction, timerAction}
 use Rattle.table_rows.specs.Lineage.{inSubtree}
 use Rattle.table.specs.Rules.{timerTag}
-use Rattle.tags.specs.Tags.{Tag, Clock, Answer, zeroTag, delayed, toLocal, toGlobal}
+use Rattle.tags.specs.Tags.{Tag, Clock, Answer, zeroTag, delayed, toLocal, toGlobal, imageOf}
 use Rattle.store.specs.Store as S
 use Rattle.table_schedule.specs.Schedule.{startupsOf, resetsOf}
 use Rattle.machine.specs.Table.{scopes}
@@ -144,9 +144,9 @@ module _ (bs : List Bool) where
 
     free-image : (s : State) (j : ℕ) → timerImage img (freed s) j ≡ timerImage img s j
     unfolding timerImage toGlobal
-    free-image s j = let q = timerScope img j in ap (λ x. toGlobal (x .clock) (timerTag img j)) (nothing-at bs (s .scopes) q) ∙ go (getD bs q false) (scopeAt s q)
+    free-image s j = let q = timerScope img j in ap (λ x. imageOf (x .clock) (timerTag img j)) (nothing-at bs (s .scopes) q) ∙ go (getD bs q false) (scopeAt s q)
       where
-        go : (b : Bool) (x : Scope) → toGlobal (cond b (unsuspended x) x .clock) (timerTag img j) ≡ toGlobal (x .clock) (timerTag img j)
+        go : (b : Bool) (x : Scope) → imageOf (cond b (unsuspended x) x .clock) (timerTag img j) ≡ imageOf (x .clock) (timerTag img j)
         go true x = refl
         go false x = refl
 

@@ -11,7 +11,8 @@ use borrow.Author.Tests.{lt-ltb, ltb-true}
 use Rattle.lists.specs.Lists.{every, foldl}
 use Rattle.lists.specs.Walk.{done}
 use Rattle.refusals.specs.declared.Refusal.the-variants.{ArgumentTag, MappedTag}
-use Rattle.tags.specs.Tags.{Tag, Clock, at, zeroTag, freshClock, maxMicrostep, within, withinClock, sameTag, delayed, shifted, settledTag, heldBack, toLocal, toGlobal}
+use Rattle.tags.specs.Tags.{Tag, Clock, at, zeroTag, freshClock, maxMicrostep, within, withinClock, sameTag, delayed, shifted, settledTag, toLocal, imageOf}
+use Rattle.tags.specs.Before.{oldHeldBack, oldToGlobal, as-before}
 use Rattle.tags.proofs.Laws.{within-offset, within-both}
 use Rattle.key_set.specs.Sets.{has, insertKey, noKeys, wordCount}
 use Rattle.key_set.proofs.Laws.{has-insert-other, has-empty}
@@ -37,12 +38,12 @@ local-within k g x h e =
     let p = shifted (k .L) (k .G) g in
     either-is (sameTag (k .G) (k .L)) e (λ b q. rw (done-is q) at h) (λ b q. settled-within (p .offset) (p .microstep) x q)
 
-pub global-within : (k : Clock) (x g : Tag) → within x ≡ true → toGlobal k x ≡ done g → within g ≡ true
-unfolding toGlobal
+pub global-within : (k : Clock) (x g : Tag) → within x ≡ true → imageOf k x ≡ done g → within g ≡ true
+unfolding oldToGlobal
 global-within k x g h e =
     let p = shifted (k .G) (k .L) x in
-    either-is (sameTag (k .G) (k .L) && k .allowed) e (λ b q. rw (done-is q) at h) λ b q.
-    either-is (heldBack k p) q (λ c r. delayed-within (k .G) g r) (λ c r. settled-within (p .offset) (p .microstep) g r)
+    either-is (sameTag (k .G) (k .L) && k .allowed) (sym (as-before k x) ∙ e) (λ b q. rw (done-is q) at h) λ b q.
+    either-is (oldHeldBack k (p .offset) (p .microstep)) q (λ c r. delayed-within (k .G) g r) (λ c r. settled-within (p .offset) (p .microstep) g r)
 
 pub zero-within : within zeroTag ≡ true
 unfolding within

@@ -16,7 +16,8 @@ use Rattle.table_rows.specs.Bytes.{Image}
 use Rattle.table_rows.specs.Limits.{limits}
 use Rattle.table_rows.specs.Rows.{modeReactor, modeScope, actionScope, startupAction, timerAction}
 use Rattle.table.specs.Rules.{timerTag}
-use Rattle.tags.specs.Tags.{Tag, Clock, at, maxMicrostep, within, sameTag, settledTag, heldBack, shifted, delayed, toLocal, toGlobal}
+use Rattle.tags.specs.Tags.{Tag, Clock, at, maxMicrostep, within, sameTag, settledTag, shifted, delayed, toLocal, imageOf}
+use Rattle.tags.specs.Before.{oldHeldBack, oldToGlobal, as-before}
 use Rattle.store.specs.Store as S
 use Rattle.store.specs.Store.{Store, Found, lacks, isValue, isBucket}
 use Rattle.table_schedule.specs.Schedule.{startupsOf, resetsOf}
@@ -82,11 +83,13 @@ local-mild : (k : Clock) (g : Tag) → Mild (toLocal k g)
 unfolding toLocal
 local-mild k g = mild-either (sameTag (k .G) (k .L)) fine (settled-mild (shifted (k .L) (k .G) g .offset) (shifted (k .L) (k .G) g .microstep))
 
-global-mild : (k : Clock) (x : Tag) → Mild (toGlobal k x)
-unfolding toGlobal
+global-mild : (k : Clock) (x : Tag) → Mild (imageOf k x)
+unfolding oldToGlobal
 global-mild k x =
     let p = shifted (k .G) (k .L) x in
-    mild-either (sameTag (k .G) (k .L) && k .allowed) fine (mild-either (heldBack k p) (delayed-mild (k .G)) (settled-mild (p .offset) (p .microstep)))
+    rw (as-before k x)
+    (mild-either (sameTag (k .G) (k .L) && k .allowed) fine
+    (mild-either (oldHeldBack k (p .offset) (p .microstep)) (delayed-mild (k .G)) (settled-mild (p .offset) (p .microstep))))
 
 push-mild : (limit : ℕ) (s : Store) (a : ℕ) (t : Tag) (v : ℕ) → Mild (S.pushed limit s a t v)
 unfolding S.pushed
@@ -174,7 +177,7 @@ action-mild img s a t b ks =
     (mild-need (ltb a (actions img) && keysOk img ks) R.Key (lit< tt)
     (mild-need (within t) R.ArgumentTag (lit< tt)
     (mild-either (toRoot img a) fine
-    (mild-then (mild-then (local-mild (clockAt s q) t) λ x. mild-need (not (activeAt s q) || isTag (toGlobal (clockAt s q) x)) R.MappedTag (lit< tt) fine) λ x. fine))))
+    (mild-then (mild-then (local-mild (clockAt s q) t) λ x. mild-need (not (activeAt s q) || isTag (imageOf (clockAt s q) x)) R.MappedTag (lit< tt) fine) λ x. fine))))
     (accepted-mild img s)
 
 for-store : {A : Type 0} (img : Image) (a : ℕ) (t : Tag) {r : Result Refusal A} → Mild r → Mild (M.forStore img a t r)

@@ -19,7 +19,7 @@ use Rattle.table_rows.specs.Lineage.{inSubtree}
 use Rattle.table.specs.Rules.{timerTag}
 use Rattle.table.specs.Table.{Table}
 use Rattle.table.proofs.TableLaws.{mode-child, action-scope, timer-action}
-use Rattle.tags.specs.Tags.{Tag, Answer, toGlobal}
+use Rattle.tags.specs.Tags.{Tag, Answer, imageOf}
 use Rattle.table_schedule.specs.Schedule.{triggersOf}
 use Rattle.machine.specs.Table.{scopes, modes, hasParent}
 use Rattle.machine.specs.State.{Event, State, root, clockAt, accepted}
@@ -28,7 +28,7 @@ use Rattle.machine.specs.Transition.{Step, insideOf, held, timerScope, timerIma
 -- ---- the branch as the Rust has it, "asks whether the scope runs on global time and, if so, pushes to the root": only what the theorem speaks of
 
 unfoldable pub oldImage : Image → State → ℕ → Answer
-oldImage img s j = cond (hasParent img (timerScope img j)) (toGlobal (clockAt s (timerScope img j)) (timerTag img j)) (done (timerTag img j))
+oldImage img s j = cond (hasParent img (timerScope img j)) (imageOf (clockAt s (timerScope img j)) (timerTag img j)) (done (timerTag img j))
 
 unfoldable pub oldEvent : Image → ℕ → Tag → Event
 oldEvent img j g =

@@ -15,7 +15,7 @@ use Rattle.lists.specs.Walk.{done, _>>=_, walk, bind-done}
 use Rattle.refusals.specs.declared.Refusal.the-variants as R
 use Rattle.table_rows.specs.Bytes.{Image}
 use Rattle.table_rows.specs.Limits.{limits}
-use Rattle.tags.specs.Tags.{Clock, within, withinClock, toLocal, toGlobal}
+use Rattle.tags.specs.Tags.{Clock, within, withinClock, toLocal, imageOf}
 use Rattle.tags.proofs.Laws.{clock-G, clock-L, clock-S}
 use Rattle.store.specs.Store.{Store, storeRules}
 use Rattle.machine.specs.Table.{scopes, actions}
@@ -87,7 +87,7 @@ module _ (img : Image) (p : Plan) (w : within (p .c) ≡ true) (s : State) (i : 
       let k = restarted (p .c) in
       turns k true (clock-within k w zero-within zero-within)
       (every-imp (λ e. not (isInside p (e .queue))) (maps i k)
-      (λ e z. or-left (isTag (toGlobal k (e .tag)))
+      (λ e z. or-left (isTag (imageOf k (e .tag)))
       (by-test (eqb (e .queue) i)
       (λ q. no-way (sym (not-so (isInside p (e .queue)) z) ∙ (ap (isInside p) (eqb-true (e .queue) i q) ∙ y))) (λ q. ap not q)))
       (s .waiting) o)

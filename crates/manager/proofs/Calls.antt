@@ -37,7 +37,7 @@ use Rattle.manager.proofs.Packs.{holds-packs, holds, kept}
 -- ---- a ready event
 
 pub no-ready-is : {w : List ℕ} → w ≡ noKeys wordCount →
-    record { tag = zeroTag; terminal = false; work = false; network = false; reactions = w; actions = replicate roomForEvents 0; count = 0 } ≡ shownReady noReady
+    record { tag = zeroTag; terminal = false; work = false; network = false; held = false; reactions = w; actions = replicate roomForEvents 0; count = 0 } ≡ shownReady noReady
 no-ready-is e = rw (e, padded-none {A = ℕ} 0 roomForEvents)
 
 -- with its keys in an array
@@ -48,6 +48,7 @@ shownAs p out =
       terminal = p .gathered .terminal;
       work = p .gathered .work;
       network = p .gathered .network;
+      held = p .gathered .held;
       reactions = p .gathered .reactions .words;
       actions = out;
       count = p .gathered .actions;

@@ -136,6 +136,7 @@ pub record Shown : Type 0 where
   pub terminal : Bool
   pub work : Bool
   pub network : Bool
+  pub held : Bool
   pub reactions : List ℕ
   pub actions : List ℕ
   pub count : ℕ
@@ -147,13 +148,14 @@ shownReady r =
       terminal = r .terminal;
       work = r .work;
       network = r .network;
+      held = r .held;
       reactions = r .reactions;
       actions = padded 0 roomForEvents (r .actions);
       count = length (r .actions);
     }
 
 abbrev pub noReady : Ready
-noReady = record { tag = zeroTag; terminal = false; work = false; network = false; reactions = noKeys wordCount; actions = [] }
+noReady = record { tag = zeroTag; terminal = false; work = false; network = false; held = false; reactions = noKeys wordCount; actions = [] }
 
 abbrev pub shown : Reply → Shown
 shown (M.ready r) = shownReady r

@@ -130,6 +130,7 @@ shownOf r =
       terminal = r .terminal;
       work = r .work;
       network = r .network;
+      held = r .held;
       reactions = r .reactions .words;
       actions = r .actions;
       count = r .count;
@@ -140,7 +141,7 @@ abbrev pub readyFrom : Performed → List ℕ → Ready
 readyFrom r keys = readyAt (ofGlobal (r .tag)) (gatheringOf (r .gathered) keys)
 
 abbrev pub readyIn : Shown → Ready
-readyIn r = record { tag = r .tag; terminal = r .terminal; work = r .work; network = r .network; reactions = r .reactions; actions = take (r .count) (r .actions) }
+readyIn r = record { tag = r .tag; terminal = r .terminal; work = r .work; network = r .network; held = r .held; reactions = r .reactions; actions = take (r .count) (r .actions) }
 
 abbrev pub popReplyOf : Pop → Shown → Reply
 popReplyOf Q.Ready r = M.ready (readyIn r)

@@ -6,17 +6,19 @@ use Prim.Native.Nat.{ℕ, suc, _+_, _-_, _<_, _≤_}
 use native.Mathlib.Omega.{arith}
 use native.Mathlib.Numerals.{add-one}
 use lib.ListN.{getD}
+use borrow.Author.Tests.{eq-eqb, ne-eqb}
 use Rattle.lists.specs.Tests.{flag}
 use Rattle.lists.specs.Lists.{foldl, from}
 use Rattle.refusals.specs.declared.Refusal.{Refusal}
-use Rattle.tags.specs.Tags.{Tag, Clock, at, earlier, toGlobal}
+use Rattle.tags.specs.Tags.{Tag, Clock, MappedAnswer, at, earlier, toGlobal, tagOnly, heldIn}
 use Rattle.tags.specs.Views.{ofGlobal, ofQueue, mappedGlobal}
 use Rattle.tags.specs.declared.GlobalTag.{GlobalTag}
 use Rattle.tags.specs.declared.QueueTag.{QueueTag}
 use Rattle.tags.specs.declared.MappedGlobal.{MappedGlobal}
 use Rattle.tags.specs.declared.MappedGlobal.the-variants as MG
+use Rattle.machine.specs.State.{root}
 use Rattle.machine.specs.Heads as H
-use Rattle.machine.specs.Heads.{Least, noTag, least, sooner, rootOf, mapped, mappedHead, scopeHeadOf}
+use Rattle.machine.specs.Heads.{Least, noTag, least, sooner, rootOf, mapped, mappedHead, scopeHeadOf, heldAt}
 use Rattle.state_scopes.specs.Scopes.{Scope, blank}
 use Rattle.state_queues.specs.Queue.{ofEarliest}
 use Rattle.state_queues.specs.declared.Earliest.{Earliest}
@@ -28,13 +30,25 @@ use Rattle.state_heads.specs.declared.Head.the-variants as C
 
 -- the scope's least tag t as a local one, x, and what it maps to
 module _ (k : Clock) (i : ℕ) (t : Tag) {x : Tag} {m : MappedGlobal} where
-  pub mapped-tag : {g : GlobalTag} → x ≡ t → m ≡ MG.Tag g → mappedGlobal m ≡ toGlobal k x → H.head i t (ofGlobal g) ≡ mappedHead k i (least t)
-  mapped-tag d e h = ap (mapped i t) (sym (ap mappedGlobal e) ∙ (h ∙ ap (toGlobal k) d))
+  pub mapped-tag : {g : GlobalTag} {b : Bool} → x ≡ t → m ≡ MG.Tag g b → mappedGlobal m ≡ toGlobal k x → H.head i t (ofGlobal g) ≡ mappedHead k i (least t)
+  mapped-tag d e h = ap (λ r. mapped i t (tagOnly r)) (sym (ap mappedGlobal e) ∙ (h ∙ ap (toGlobal k) d))
 
   pub mapped-none : {n : Refusal} → x ≡ t → m ≡ MG.Refused n → mappedGlobal m ≡ toGlobal k x → H.empty ≡ mappedHead k i (least t)
-  mapped-none d e h = ap (mapped i t) (sym (ap mappedGlobal e) ∙ (h ∙ ap (toGlobal k) d))
+  mapped-none d e h = ap (λ r. mapped i t (tagOnly r)) (sym (ap mappedGlobal e) ∙ (h ∙ ap (toGlobal k) d))
 
 pub ruleset maps = (mapped-tag, mapped-none)
+
+-- held back, at the tag t of queue q
+module _ (ss : List Scope) (q : ℕ) (t : Tag) where
+  pub held-root : q ≡ root → false ≡ heldAt ss q t
+  unfolding heldAt
+  held-root e = sym (simp (eq-eqb q root e))
+
+  pub held-scope :
+      (q ≡ root → ⊥) → {s : Scope} {x : Tag} {m : MappedAnswer} {r : Bool} → s ≡ getD ss q blank → x ≡ t → m ≡ toGlobal (s .clock) x → r ≡ heldIn m →
+      r ≡ heldAt ss q t
+  unfolding heldAt
+  held-scope n e d h p = p ∙ (ap heldIn h ∙ rw (ne-eqb q root n, e, d))
 
 module _ (s : Scope) (i : ℕ) (l : Least) {r : H.Head} where
   pub scope-on : s .active ≡ true → r ≡ mappedHead (s .clock) i l → r ≡ scopeHeadOf s i l

@@ -1,10 +1,10 @@
 // Heads, and the least of them: document 01, "Head: root, its least tag; active scope, its least local tag, mapped."
-// Which head comes first is decided here; pops and the tellings use `root_head`, `scope_head` and `peek`.
+// Which head comes first is decided here; pops and the tellings use `root_head`, `scope_head` and `peek`. Whether a head's events were held back is `is_held`.
 ghost use mathlib.Core.Path.{_≡_};
 ghost use mathlib.Core.Bool.{cond};
 ghost use lib.ListN.{getD};
 ghost use Rattle.tags.specs.Views.{ofQueue};
-ghost use Rattle.machine.specs.Heads.{noTag, least, rootOf, mappedHead, scopeHeadOf, sooner as soonerOf};
+ghost use Rattle.machine.specs.Heads.{noTag, least, rootOf, mappedHead, scopeHeadOf, heldAt, sooner as soonerOf};
 ghost use Rattle.state_scopes.specs.Scopes.{mostScopes, scopesOf, scopeOf};
 ghost use Rattle.state_queues.specs.Queue.{ofEarliest, leastsOf};
 ghost use Rattle.state_heads.specs.Found.{headOf, headHere, bestOf, headIn, leastHead};
@@ -33,13 +33,27 @@ fn mapped_head(s: Scope, i: u16, t: QueueTag) -> Head
     let clock = s.clock;
     let local = t.as_local();
     match clock.to_global(local) {
-        MappedGlobal::Tag(g) => Head::At(HeadAt {
+        MappedGlobal::Tag(g, _) => Head::At(HeadAt {
             queue: i,
             stamp: t,
             tag: g,
         }),
         MappedGlobal::Refused(_) => Head::Empty,
     }
+}
+
+// Events at a head were held back, by their scope's clock; the root's never are.
+pub fn is_held(scopes: &[u64; state_scopes::ROOM], h: HeadAt) -> bool
+    ensures { λ r. ⌜ r ≡ heldAt (scopesOf (now (scopes .entry))) (h .queue) (ofQueue (h .stamp)) ⌝ }
+{
+    if h.queue == state_events::NONE {
+        return false;
+    }
+    let s = state_scopes::scope_at(scopes, h.queue as usize);
+    let clock = s.clock;
+    let local = h.stamp.as_local();
+    let image = clock.to_global(local);
+    image.is_held()
 }
 
 // The head of a scope by its least tag; one that is not active has none.

@@ -127,7 +127,7 @@ module _ (ss : List Scope) (e : Event) where
       own : mappedGlobal m ≡ toGlobal (x .clock) (e .tag)
       own = em ∙ ap (toGlobal (x .clock)) d
 
-      pub image-tag : {t : _} → m ≡ M.Tag t → true ≡ imageRules ss e
+      pub image-tag : {t : _} {b : _} → m ≡ M.Tag t b → true ≡ imageRules ss e
       unfolding imageRules
       image-tag q = simp (ne-eqb (e .queue) root n, ← ex, y, ← own, q)
 

@@ -180,7 +180,7 @@ fn has_image(scopes: &[u64; state_scopes::ROOM], s: Slot) -> bool
     if x.active {
         let local = s.tag.as_local();
         match clock.to_global(local) {
-            MappedGlobal::Tag(_) => true,
+            MappedGlobal::Tag(_, _) => true,
             MappedGlobal::Refused(_) => false,
         }
     } else {

@@ -4,17 +4,17 @@
 use Prim.Native.Nat.{ℕ, zero, suc, _+_, _-_, _<_, _≤_, zero-le}
 use mathlib.Core.Path.{_≡_, refl, sym, ap, _∙_}
 use mathlib.Core.Bool.{Bool, true, false, cond, _&&_}
-use lib.Dec.{ltb}
+use lib.Dec.{ltb, eqb}
 use lib.IntN.{ℤ, pos, negsuc, negℤ, subℕ, _+ℤ_, _-ℤ_, +ℤ-assoc}
 use native.Mathlib.Omega.{arith}
-use borrow.Author.Tests.{lt-ltb, le-ltb, le-leb, lt-leb, eq-eqb, ne-eqb, leb-true, ltb-false}
+use borrow.Author.Tests.{lt-ltb, le-ltb, le-leb, lt-leb, eq-eqb, ne-eqb, leb-true, ltb-false, eqb-true}
 use Rattle.lists.specs.Tests.{gt-ltb, gt-eqb, flag, flag-no, flag-yes, and-left, and-right}
 use Rattle.lists.specs.Walk.{done, refused}
 use Rattle.refusals.specs.declared.Refusal.{Refusal}
 use Rattle.refusals.specs.declared.Refusal.the-variants.{ArgumentTag, MappedTag, StateRule}
 use Rattle.tags.specs.Tags.{Tag, Clock, Answer, at, maxOffset, maxMicrostep, within, withinClock, sameTag, earlier, delayed, shifted}
-use Rattle.tags.specs.Tags.{settledTag, heldBackTag, checked, toLocal, toGlobal, isHeld, globalToLocal, localToGlobal}
-use Rattle.tags.specs.Views.{ofFields, answered, wide, placeOf, placeAt, settledAt, heldBackAt, heldAt, placedAt}
+use Rattle.tags.specs.Tags.{MappedAnswer, flagged, heldBack, placed, settledTag, checked, toLocal, toGlobal, globalToLocal, localToGlobal}
+use Rattle.tags.specs.Views.{ofFields, answered, wide, placeOf, placeAt, settledAt, placedAt}
 use Rattle.tags.specs.declared.Fields.{Fields}
 use Rattle.tags.specs.declared.Settled.{Settled}
 use Rattle.tags.specs.declared.Settled.the-variants as S
@@ -73,6 +73,16 @@ level-no a p q = rw (flag p q)
 
 pub ruleset levels = (level-yes, level-no)
 
+-- ---- equal tags
+
+pub same-tag : (t u : Tag) → sameTag t u ≡ true → t ≡ u
+unfolding sameTag
+same-tag t u e =
+    let o = eqb-true (t .offset) (u .offset) (and-left (eqb (t .offset) (u .offset)) _ e) in
+    let m = eqb-true (t .microstep) (u .microstep) (and-right (eqb (t .offset) (u .offset)) _ e) in
+    let z : at (t .offset) (t .microstep) ≡ at (u .offset) (u .microstep) = rw (o, m) in
+    z
+
 -- ---- the delay
 
 pub delayed-six : (t : Tag) → within t ≡ false → refused ArgumentTag ≡ delayed t
@@ -99,6 +109,15 @@ module _ {s : Settled} {a : Answer} where
   answered-refused e h = sym (ap answered e) ∙ h
 
 pub ruleset answers = (answered-tag, answered-refused, refl)
+
+module _ (s : Settled) (held : Bool) where
+  pub flagged-tag : {t : Fields} → s ≡ S.Tag t → done (record { tag = ofFields t; held = held }) ≡ flagged held (answered s)
+  flagged-tag e = rw e
+
+  pub flagged-refused : {n : Refusal} → s ≡ S.Refused n → refused n ≡ flagged held (answered s)
+  flagged-refused e = rw e
+
+pub ruleset flaggeds = (flagged-tag, flagged-refused)
 
 -- ---- a place
 
@@ -182,18 +201,18 @@ pub ruleset shifts = (shifted-beyond, shifted-ahead, shifted-below, shifted-behi
 
 pub ruleset steps = (step-shifted, step-apart, step-own)
 
-module _ (G : Tag) (allowed : Bool) (p : Place) {a : Answer} where
-  pub placed-below : p ≡ Below → a ≡ delayed G → a ≡ placedAt G allowed p
-  placed-below e h = rw e h
+module _ (G : Tag) (allowed : Bool) (p : Place) {a : MappedAnswer} {t : Answer} where
+  pub placed-below : p ≡ Below → t ≡ delayed G → a ≡ flagged true t → a ≡ placedAt G allowed p
+  placed-below e d h = h ∙ (ap (flagged true) d ∙ rw e)
 
-  pub placed-beyond : p ≡ Beyond → a ≡ refused MappedTag → a ≡ placedAt G allowed p
-  placed-beyond e h = rw e h
+  pub placed-held : {o m : ℕ} → p ≡ At o m → heldBack G allowed (at o m) ≡ true → t ≡ delayed G → a ≡ flagged true t → a ≡ placedAt G allowed p
+  placed-held e b d h = h ∙ (ap (flagged true) d ∙ rw e (simp b))
 
-  pub placed-held : {o m : ℕ} → p ≡ At o m → heldBackAt G allowed o m ≡ true → a ≡ delayed G → a ≡ placedAt G allowed p
-  placed-held e t h = rw e (simp t h)
+  pub placed-late : {o m : ℕ} → p ≡ At o m → heldBack G allowed (at o m) ≡ false → t ≡ settledAt (At o m) → a ≡ flagged false t → a ≡ placedAt G allowed p
+  placed-late e b d h = h ∙ (ap (flagged false) d ∙ rw e (simp b))
 
-  pub placed-late : {o m : ℕ} → p ≡ At o m → heldBackAt G allowed o m ≡ false → a ≡ settledAt (At o m) → a ≡ placedAt G allowed p
-  placed-late e t h = rw e (simp t h)
+pub placed-beyond : (G : Tag) (allowed : Bool) (p : Place) → p ≡ Beyond → refused MappedTag ≡ placedAt G allowed p
+placed-beyond G allowed p e = rw e
 
 pub ruleset places = (placed-below, placed-beyond, placed-held, placed-late, flag)
 
@@ -209,35 +228,19 @@ settled-place : (o : ℤ) (m : ℕ) → settledAt (placeAt o m) ≡ settledTag o
 settled-place (pos o) m = settled-pos o m (ltb o wide) refl
 settled-place (negsuc o) m = refl
 
-late-place : (G : Tag) (allowed : Bool) (o m : ℕ) → G .offset < wide → wide ≤ o → heldBackTag G allowed (pos o) m ≡ false
+late-place : (G : Tag) (allowed : Bool) (o m : ℕ) → G .offset < wide → wide ≤ o → heldBack G allowed (at o m) ≡ false
 unfolding earlier sameTag
 late-place G allowed o m g h =
     let l : G .offset < o = omega arith in
     simp (gt-ltb _ _ l, gt-eqb _ _ l)
 
-placed-pos : (G : Tag) (allowed : Bool) (o m : ℕ) (b : Bool) → G .offset < wide → ltb o wide ≡ b →
-    placedAt G allowed (cond b (At o m) Beyond) ≡ cond (heldBackTag G allowed (pos o) m) (delayed G) (settledTag (pos o) m)
+placed-pos : (G : Tag) (allowed : Bool) (o m : ℕ) (b : Bool) → G .offset < wide → ltb o wide ≡ b → placedAt G allowed (cond b (At o m) Beyond) ≡ placed G allowed (pos o) m
 placed-pos G allowed o m true g e = refl
 placed-pos G allowed o m false g e = let h = ltb-false _ _ e in simp (late-place G allowed o m g h, past-limit o m h)
 
-placed-place : (G : Tag) (allowed : Bool) (o : ℤ) (m : ℕ) → G .offset < wide →
-    placedAt G allowed (placeAt o m) ≡ cond (heldBackTag G allowed o m) (delayed G) (settledTag o m)
+placed-place : (G : Tag) (allowed : Bool) (o : ℤ) (m : ℕ) → G .offset < wide → placedAt G allowed (placeAt o m) ≡ placed G allowed o m
 placed-place G allowed (pos o) m g = placed-pos G allowed o m (ltb o wide) g refl
 placed-place G allowed (negsuc o) m g = refl
-
-pub held-there : (G : Tag) (allowed : Bool) (p : Place) {r : Bool} {o m : ℕ} → p ≡ At o m → r ≡ heldBackAt G allowed o m → r ≡ heldAt G allowed p
-held-there G allowed p e h = rw e h
-
-pub ruleset holds = (held-there)
-
-held-pos : (G : Tag) (allowed : Bool) (o m : ℕ) (b : Bool) → G .offset < wide → ltb o wide ≡ b →
-    heldAt G allowed (cond b (At o m) Beyond) ≡ heldBackTag G allowed (pos o) m
-held-pos G allowed o m true g e = refl
-held-pos G allowed o m false g e = sym (late-place G allowed o m g (ltb-false _ _ e))
-
-held-place : (G : Tag) (allowed : Bool) (o : ℤ) (m : ℕ) → G .offset < wide → heldAt G allowed (placeAt o m) ≡ heldBackTag G allowed o m
-held-place G allowed (pos o) m g = held-pos G allowed o m (ltb o wide) g refl
-held-place G allowed (negsuc o) m g = refl
 
 -- ---- the maps
 
@@ -268,29 +271,17 @@ module _ (c : Clock) (g : Tag) where
 pub ruleset locals = (local-level, local-shifted, local-11, local-6, local-checked, flag, flag-no, flag-yes)
 
 module _ (c : Clock) (x : Tag) where
-  pub global-identity : (sameTag (c .G) (c .L) && c .allowed) ≡ true → done x ≡ toGlobal c x
+  pub global-identity : (sameTag (c .G) (c .L) && c .allowed) ≡ true → done (record { tag = x; held = false }) ≡ toGlobal c x
   unfolding toGlobal
   global-identity s = simp s
 
   pub global-shifted :
-      {p : Place} {b a : Answer} → c .G .offset < wide → (sameTag (c .G) (c .L) && c .allowed) ≡ false → p ≡ placeOf (shifted (c .G) (c .L) x) →
-      b ≡ placedAt (c .G) (c .allowed) p → a ≡ b → a ≡ toGlobal c x
+      {p : Place} {a : MappedAnswer} → c .G .offset < wide → (sameTag (c .G) (c .L) && c .allowed) ≡ false → p ≡ placeOf (shifted (c .G) (c .L) x) →
+      a ≡ placedAt (c .G) (c .allowed) p → a ≡ toGlobal c x
   unfolding toGlobal
-  global-shifted g s e h k =
+  global-shifted g s e h =
       let u = shifted (c .G) (c .L) x in
-      simp s (k ∙ h ∙ ap (placedAt (c .G) (c .allowed)) e ∙ placed-place (c .G) (c .allowed) (u .offset) (u .microstep) g)
-
-  pub held-identity : (sameTag (c .G) (c .L) && c .allowed) ≡ true → false ≡ isHeld c x
-  unfolding isHeld
-  held-identity s = simp s
-
-  pub held-shifted :
-      {p : Place} {r : Bool} → c .G .offset < wide → (sameTag (c .G) (c .L) && c .allowed) ≡ false → p ≡ placeOf (shifted (c .G) (c .L) x) →
-      r ≡ heldAt (c .G) (c .allowed) p → r ≡ isHeld c x
-  unfolding isHeld
-  held-shifted g s e h =
-      let u = shifted (c .G) (c .L) x in
-      simp s (h ∙ ap (heldAt (c .G) (c .allowed)) e ∙ held-place (c .G) (c .allowed) (u .offset) (u .microstep) g)
+      simp s (h ∙ (ap (placedAt (c .G) (c .allowed)) e ∙ placed-place (c .G) (c .allowed) (u .offset) (u .microstep) g))
 
   pub global-11 : withinClock c ≡ false → refused StateRule ≡ localToGlobal c x
   unfolding localToGlobal checked
@@ -300,10 +291,8 @@ module _ (c : Clock) (x : Tag) where
   unfolding localToGlobal checked
   global-6 w t = simp (w, t)
 
-  pub global-checked : {a : Answer} → withinClock c ≡ true → within x ≡ true → a ≡ toGlobal c x → a ≡ localToGlobal c x
+  pub global-checked : {a : MappedAnswer} → withinClock c ≡ true → within x ≡ true → a ≡ toGlobal c x → a ≡ localToGlobal c x
   unfolding localToGlobal checked
   global-checked w t h = simp (w, t) h
-
-pub ruleset helds = (held-identity, held-shifted, flag, flag-no, flag-yes)
 
 pub ruleset globals = (global-identity, global-shifted, global-11, global-6, global-checked, flag, flag-no, flag-yes)

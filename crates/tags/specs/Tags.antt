@@ -1,6 +1,6 @@
 -- Document 01, "Tags": tags, scope clocks, and what the delay and the two maps answer. Assumes nothing.
 use Prim.Native.Nat.{ℕ, _+_, _-_}
-use mathlib.Core.Bool.{Bool, true, cond, not, _&&_, _||_}
+use mathlib.Core.Bool.{Bool, true, false, cond, not, _&&_, _||_}
 use lib.Dec.{ltb, leb, eqb}
 use lib.IntN.{ℤ, pos, negsuc, _+ℤ_, _-ℤ_}
 use Rattle.lists.specs.Walk.{Result, done, refused}
@@ -84,41 +84,63 @@ settledTag (negsuc o) m = refused MappedTag
 abbrev pub settled : Shifted → Answer
 settled p = settledTag (p .offset) (p .microstep)
 
--- "earlier than G, or equal to G and not allowed"
-abbrev pub heldBackTag : Tag → Bool → ℤ → ℕ → Bool
-heldBackTag G allowed (pos o) m = earlier (at o m) G || (sameTag (at o m) G && not allowed)
-heldBackTag G allowed (negsuc o) m = true
-
-abbrev pub heldBack : Clock → Shifted → Bool
-heldBack c p = heldBackTag (c .G) (c .allowed) (p .offset) (p .microstep)
-
 -- ---- the two maps
 
 -- "Global g to local: if G = L, g. Else" as above
 unfoldable pub toLocal : Clock → Tag → Answer
 toLocal c g = cond (sameTag (c .G) (c .L)) (done g) (settled (shifted (c .L) (c .G) g))
 
+-- "The local-to-global map shall also answer whether it moved the tag because the result was earlier than G, or equal to G and not allowed." (02, C-20)
+pub record Mapped : Type 0 where
+  pub tag : Tag
+  pub held : Bool
+
+abbrev pub MappedAnswer : Type 0
+MappedAnswer = Result Refusal Mapped
+
+abbrev pub flagged : Bool → Answer → MappedAnswer
+flagged held (done t) = done (record { tag = t; held = held })
+flagged held (refused n) = refused n
+
+-- "earlier than G, or equal to G and not allowed"
+abbrev pub heldBack : Tag → Bool → Tag → Bool
+heldBack G allowed t = earlier t G || (sameTag t G && not allowed)
+
+-- .. "becomes G delayed by zero"
+abbrev pub placed : Tag → Bool → ℤ → ℕ → MappedAnswer
+placed G allowed (pos o) m = cond (heldBack G allowed (at o m)) (flagged true (delayed G)) (flagged false (settledTag (pos o) m))
+placed G allowed (negsuc o) m = flagged true (delayed G)
+
 -- "Local x to global: if G = L and allowed, x. Else the same with G and L exchanged, and a result earlier than G,
 -- or equal to G and not allowed, becomes G delayed by zero."
-unfoldable pub toGlobal : Clock → Tag → Answer
+unfoldable pub toGlobal : Clock → Tag → MappedAnswer
 toGlobal c x =
-    cond (sameTag (c .G) (c .L) && c .allowed) (done x)
-    (let p = shifted (c .G) (c .L) x in cond (heldBack c p) (delayed (c .G)) (settled p))
+    cond (sameTag (c .G) (c .L) && c .allowed) (flagged false (done x))
+    (let p = shifted (c .G) (c .L) x in placed (c .G) (c .allowed) (p .offset) (p .microstep))
 
--- the image of x is G delayed by zero in place of its own
-unfoldable pub isHeld : Clock → Tag → Bool
-isHeld c x = not (sameTag (c .G) (c .L) && c .allowed) && heldBack c (shifted (c .G) (c .L) x)
+-- the tag alone, for those who need no more
+abbrev pub tagOnly : MappedAnswer → Answer
+tagOnly (done m) = done (m .tag)
+tagOnly (refused n) = refused n
+
+abbrev pub imageOf : Clock → Tag → Answer
+imageOf c x = tagOnly (toGlobal c x)
+
+-- held back; what is refused is not
+abbrev pub heldIn : MappedAnswer → Bool
+heldIn (done m) = m .held
+heldIn (refused n) = false
 
 -- ---- the calls: 11 of a clock beyond the limits, then 6 of an argument beyond them, then 7
 
 unfoldable pub withinClock : Clock → Bool
 withinClock c = within (c .G) && (within (c .L) && within (c .S))
 
-unfoldable pub checked : Clock → Tag → Answer → Answer
+unfoldable pub checked : {A : Type 0} → Clock → Tag → Result Refusal A → Result Refusal A
 checked c t a = cond (withinClock c) (cond (within t) a (refused ArgumentTag)) (refused StateRule)
 
 unfoldable pub globalToLocal : Clock → Tag → Answer
 globalToLocal c g = checked c g (toLocal c g)
 
-unfoldable pub localToGlobal : Clock → Tag → Answer
+unfoldable pub localToGlobal : Clock → Tag → MappedAnswer
 localToGlobal c x = checked c x (toGlobal c x)

@@ -1,6 +1,6 @@
 -- The code's values as document 01's: one line for each type, and what the code's steps between mean. Assumes nothing.
 use Prim.Native.Nat.{ℕ}
-use mathlib.Core.Bool.{Bool, true, false, cond}
+use mathlib.Core.Bool.{Bool, true, cond}
 use lib.Dec.{ltb}
 use lib.IntN.{ℤ, pos, negsuc}
 use Rattle.lists.specs.Walk.{done, refused}
@@ -22,7 +22,7 @@ use Rattle.tags.specs.declared.Settled.{Settled}
 use Rattle.tags.specs.declared.Settled.the-variants as S
 use Rattle.tags.specs.declared.Place.{Place}
 use Rattle.tags.specs.declared.Place.the-variants.{Below, Beyond, At}
-use Rattle.tags.specs.Tags.{Tag, Clock, Answer, Shifted, at, delayed, settledTag, heldBackTag}
+use Rattle.tags.specs.Tags.{Tag, Clock, Answer, Shifted, MappedAnswer, at, delayed, settledTag, flagged, placed}
 
 abbrev pub ofGlobal : GlobalTag → Tag
 ofGlobal t = at (t .0) (t .1)
@@ -56,8 +56,8 @@ abbrev pub delayedLocal : DelayedLocal → Answer
 delayedLocal (DL.Tag t) = done (ofLocal t)
 delayedLocal (DL.Refused n) = refused n
 
-abbrev pub mappedGlobal : MappedGlobal → Answer
-mappedGlobal (MG.Tag t) = done (ofGlobal t)
+abbrev pub mappedGlobal : MappedGlobal → MappedAnswer
+mappedGlobal (MG.Tag t held) = done (record { tag = ofGlobal t; held = held })
 mappedGlobal (MG.Refused n) = refused n
 
 abbrev pub mappedLocal : MappedLocal → Answer
@@ -80,21 +80,13 @@ placeAt (negsuc o) m = Below
 abbrev pub placeOf : Shifted → Place
 placeOf p = placeAt (p .offset) (p .microstep)
 
--- the final tag of a place, whether it is held back, and what it becomes
+-- the final tag of a place, and what it becomes where it may be held back
 abbrev pub settledAt : Place → Answer
 settledAt (At o m) = settledTag (pos o) m
 settledAt Beyond = refused MappedTag
 settledAt Below = refused MappedTag
 
-abbrev pub heldBackAt : Tag → Bool → ℕ → ℕ → Bool
-heldBackAt G allowed o m = heldBackTag G allowed (pos o) m
-
-abbrev pub heldAt : Tag → Bool → Place → Bool
-heldAt G allowed (At o m) = heldBackAt G allowed o m
-heldAt G allowed Beyond = false
-heldAt G allowed Below = true
-
-abbrev pub placedAt : Tag → Bool → Place → Answer
-placedAt G allowed (At o m) = cond (heldBackAt G allowed o m) (delayed G) (settledAt (At o m))
+abbrev pub placedAt : Tag → Bool → Place → MappedAnswer
+placedAt G allowed (At o m) = placed G allowed (pos o) m
 placedAt G allowed Beyond = refused MappedTag
-placedAt G allowed Below = delayed G
+placedAt G allowed Below = flagged true (delayed G)

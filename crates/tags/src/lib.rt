@@ -3,10 +3,10 @@
 // What a map answers is changed here (`MappedGlobal`, `MappedLocal`, specs/Tags); callers use the maps, and name the scale that they mean.
 ghost use mathlib.Core.Path.{_≡_};
 ghost use mathlib.Core.Bool.{true, _&&_};
-ghost use Rattle.tags.specs.Tags.{maxOffset, maxMicrostep, within, sameTag, earlier, delayed, shifted};
-ghost use Rattle.tags.specs.Tags.{withinClock, toLocal, toGlobal, isHeld, globalToLocal, localToGlobal, freshClock};
+ghost use Rattle.tags.specs.Tags.{maxOffset, maxMicrostep, within, sameTag, earlier, delayed, shifted, at};
+ghost use Rattle.tags.specs.Tags.{withinClock, flagged, heldBack, heldIn, toLocal, toGlobal, globalToLocal, localToGlobal, freshClock};
 ghost use Rattle.tags.specs.Views.{ofGlobal, ofLocal, ofQueue, ofFields, ofClock, answered, delayedGlobal, delayedLocal};
-ghost use Rattle.tags.specs.Views.{mappedGlobal, mappedLocal, placeOf, settledAt, heldBackAt, heldAt, placedAt};
+ghost use Rattle.tags.specs.Views.{mappedGlobal, mappedLocal, placeOf, settledAt, placedAt};
 use refusals::Refusal;
 
 // A global tag: offset in nanoseconds, microstep.
@@ -26,9 +26,9 @@ pub enum DelayedLocal {
     Refused(Refusal),
 }
 
-// What a map answers: a tag of the other scale, or a refusal.
+// What a map answers: a tag of the other scale, or a refusal. To global, also whether the tag was held back: moved to G delayed by zero.
 pub enum MappedGlobal {
-    Tag(GlobalTag),
+    Tag(GlobalTag, bool),
     Refused(Refusal),
 }
 
@@ -158,7 +158,7 @@ fn settle(p: Place, last: Fields) -> Settled
 
 // A place is earlier than G, or is G where that is not allowed.
 fn is_held_back(g: Fields, allowed: bool, offset: u64, microstep: u64) -> bool
-    ensures { λ r. ⌜ r ≡ heldBackAt (ofFields g) allowed offset microstep ⌝ }
+    ensures { λ r. ⌜ r ≡ heldBack (ofFields g) allowed (at offset microstep) ⌝ }
 {
     let step = g.1 as u64;
     if offset < g.0 {
@@ -176,29 +176,28 @@ fn is_held_back(g: Fields, allowed: bool, offset: u64, microstep: u64) -> bool
     !allowed
 }
 
-// The same of any place: below zero it is earlier, beyond 64 bits it is later than every G.
-fn is_held_at(g: Fields, allowed: bool, p: Place) -> bool
-    ensures { λ r. ⌜ r ≡ heldAt (ofFields g) allowed p ⌝ }
+// A tag of the global scale, held back or not; or the refusal.
+fn as_global(s: Settled, held: bool) -> MappedGlobal
+    ensures { λ r. ⌜ mappedGlobal r ≡ flagged held (answered s) ⌝ }
 {
-    match p {
-        Place::Below => true,
-        Place::Beyond => false,
-        Place::At(offset, microstep) => is_held_back(g, allowed, offset, microstep),
+    match s {
+        Settled::Tag(t) => MappedGlobal::Tag(GlobalTag(t.0, t.1), held),
+        Settled::Refused(n) => MappedGlobal::Refused(n),
     }
 }
 
 // A place that is held back becomes G delayed by zero.
-fn hold_back(g: Fields, allowed: bool, p: Place) -> Settled
-    ensures { λ r. ⌜ answered r ≡ placedAt (ofFields g) allowed p ⌝ }
+fn hold_back(g: Fields, allowed: bool, p: Place) -> MappedGlobal
+    ensures { λ r. ⌜ mappedGlobal r ≡ placedAt (ofFields g) allowed p ⌝ }
 {
     match p {
-        Place::Below => delay(g, GlobalTag::LAST),
-        Place::Beyond => Settled::Refused(Refusal::MappedTag),
+        Place::Below => as_global(delay(g, GlobalTag::LAST), true),
+        Place::Beyond => MappedGlobal::Refused(Refusal::MappedTag),
         Place::At(offset, microstep) => {
             if is_held_back(g, allowed, offset, microstep) {
-                delay(g, GlobalTag::LAST)
+                as_global(delay(g, GlobalTag::LAST), true)
             } else {
-                settle(p, GlobalTag::LAST)
+                as_global(settle(p, GlobalTag::LAST), false)
             }
         }
     }
@@ -288,12 +287,15 @@ impl LocalTag {
     }
 }
 
-fn as_global(s: Settled) -> MappedGlobal
-    ensures { λ r. ⌜ mappedGlobal r ≡ answered s ⌝ }
-{
-    match s {
-        Settled::Tag(t) => MappedGlobal::Tag(GlobalTag(t.0, t.1)),
-        Settled::Refused(n) => MappedGlobal::Refused(n),
+impl MappedGlobal {
+    // Held back; what is refused is not.
+    pub fn is_held(self) -> bool
+        ensures { λ r. ⌜ r ≡ heldIn (mappedGlobal self) ⌝ }
+    {
+        match self {
+            MappedGlobal::Tag(_, held) => held,
+            MappedGlobal::Refused(_) => false,
+        }
     }
 }
 
@@ -363,30 +365,17 @@ impl ScopeClock {
         as_local(settle(p, LocalTag::LAST))
     }
 
-    // Local x to global, of a clock and a tag that are not looked at.
+    // Local x to global, of a clock and a tag that are not looked at; with whether it was held back.
     pub fn to_global(self, x: LocalTag) -> MappedGlobal
         ensures { λ r. ⌜ mappedGlobal r ≡ toGlobal (ofClock self) (ofLocal x) ⌝ }
     {
         if self.is_identity() {
-            return MappedGlobal::Tag(GlobalTag(x.0, x.1));
+            return MappedGlobal::Tag(GlobalTag(x.0, x.1), false);
         }
         let to = self.activation_global;
         let from = self.activation_local;
         let p = shift(Fields(to.0, to.1), Fields(from.0, from.1), Fields(x.0, x.1));
-        as_global(hold_back(Fields(to.0, to.1), self.allowed, p))
-    }
-
-    // Local x is held back: G delayed by zero stands in for its own image.
-    pub fn holds_back(self, x: LocalTag) -> bool
-        ensures { λ r. ⌜ r ≡ isHeld (ofClock self) (ofLocal x) ⌝ }
-    {
-        if self.is_identity() {
-            return false;
-        }
-        let to = self.activation_global;
-        let from = self.activation_local;
-        let p = shift(Fields(to.0, to.1), Fields(from.0, from.1), Fields(x.0, x.1));
-        is_held_at(Fields(to.0, to.1), self.allowed, p)
+        hold_back(Fields(to.0, to.1), self.allowed, p)
     }
 
     pub fn global_to_local(self, g: GlobalTag) -> MappedLocal

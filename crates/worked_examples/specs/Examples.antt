@@ -1,7 +1,7 @@
 -- Document 01's worked examples m1 to m11 and s1 to s3: one table, one proof over it, which antt computes. Assumes nothing.
 use Prim.Native.Nat.{ℕ}
 use mathlib.Core.Path.{_≡_, refl, ap, _∙_, sym}
-use mathlib.Core.Bool.{false}
+use mathlib.Core.Bool.{true, false}
 use mathlib.Core.List.{List, [], _∷_, map, List·Memᴰ, List·Memᴰ·head, List·Memᴰ·tail}
 use Rattle.lists.specs.Lists.{any, lose, upsert}
 use Rattle.lists.specs.Walk.{done, refused}
@@ -34,8 +34,9 @@ pub data Asked : Type 0 where
   to-local : Clock → Tag → Asked
   calls : List Call → Asked
 
--- a tag or the refusal; or what each call answers
+-- a tag or the refusal, to the global scale with whether it was held back; or what each call answers
 pub data Said : Type 0 where
+  mapped : tag.MappedAnswer → Said
   tagged : tag.Answer → Said
   answers : List Answer → Said
 
@@ -54,24 +55,28 @@ clock G L = record { G = G; L = L; allowed = false; S = zeroTag }
 abbrev pub tagAt : ℕ → ℕ → Said
 tagAt o m = tagged (done (at o m))
 
-abbrev pub refused7 : Said
-refused7 = tagged (refused MappedTag)
+-- moved to G delayed by zero, or not (02, C-20)
+abbrev pub held : ℕ → ℕ → Said
+held o m = mapped (done (record { tag = at o m; held = true }))
+
+abbrev pub notHeld : ℕ → ℕ → Said
+notHeld o m = mapped (done (record { tag = at o m; held = false }))
 
 -- ---- the table, in document 01's order; every call names action 0
 
 unfoldable pub table : List Row
 table =
-    row m1 (to-global (clock (at 100 2) (at 40 1)) (at 40 1)) (tagAt 100 3) ∷
-    row m2 (to-global (clock (at 100 2) (at 40 1)) (at 40 3)) (tagAt 100 4) ∷
-    row m3 (to-global (clock (at 100 2) (at 40 1)) (at 40 0)) (tagAt 100 3) ∷
-    row m4 (to-global (clock (at 100 2) (at 40 1)) (at 39 9)) (tagAt 100 3) ∷
+    row m1 (to-global (clock (at 100 2) (at 40 1)) (at 40 1)) (held 100 3) ∷
+    row m2 (to-global (clock (at 100 2) (at 40 1)) (at 40 3)) (notHeld 100 4) ∷
+    row m3 (to-global (clock (at 100 2) (at 40 1)) (at 40 0)) (held 100 3) ∷
+    row m4 (to-global (clock (at 100 2) (at 40 1)) (at 39 9)) (held 100 3) ∷
     row m5 (to-local (clock (at 100 2) (at 40 1)) (at 100 1)) (tagAt 40 1) ∷
     row m6 (to-local (clock (at 100 2) (at 40 1)) (at 115 0)) (tagAt 55 0) ∷
-    row m7 (to-local (clock (at 100 2) (at 40 1)) (at 59 0)) refused7 ∷
-    row m8 (to-global (clock (at 100 2) (at 40 9)) (at 40 7)) (tagAt 100 7) ∷
-    row m9 (to-global (clock (at 100 2) (at 40 9)) (at 40 9)) (tagAt 100 3) ∷
-    row m10 (to-global (clock (at 7 0) (at 7 0)) (at 7 0)) (tagAt 7 1) ∷
-    row m11 (to-global (clock (at 100 4294967295) (at 0 0)) (at 0 0)) refused7 ∷
+    row m7 (to-local (clock (at 100 2) (at 40 1)) (at 59 0)) (tagged (refused MappedTag)) ∷
+    row m8 (to-global (clock (at 100 2) (at 40 9)) (at 40 7)) (notHeld 100 7) ∷
+    row m9 (to-global (clock (at 100 2) (at 40 9)) (at 40 9)) (held 100 3) ∷
+    row m10 (to-global (clock (at 7 0) (at 7 0)) (at 7 0)) (held 7 1) ∷
+    row m11 (to-global (clock (at 100 4294967295) (at 0 0)) (at 0 0)) (mapped (refused MappedTag)) ∷
     -- "after a push at (5,4294967295), offset 5 with least 0 answers none"
     row s1 (calls (push 0 (at 5 4294967295) 11 ∷ next 0 5 0 ∷ [])) (answers (ok ∷ nothing-there ∷ [])) ∷
     -- "values at (5,1) and (5,3), cleared before (5,2): (5,3) stays, next microstep 4"
@@ -91,7 +96,7 @@ performed s [] = []
 performed s (c ∷ cs) = let r = perform (version1 .held) s c in said-by r ∷ performed (left-by s r) cs
 
 abbrev pub answerOf : Asked → Said
-answerOf (to-global c x) = tagged (localToGlobal c x)
+answerOf (to-global c x) = mapped (localToGlobal c x)
 answerOf (to-local c g) = tagged (globalToLocal c g)
 answerOf (calls cs) = answers (performed emptyStore cs)
 

@@ -4,7 +4,7 @@ use std::collections::{BTreeMap, BTreeSet};
 
 use super::{image, largest, make, recipe, too_many_modes, KINDS};
 use crate::image::{number, open, Table, LARGEST, LARGEST_ACCEPTED, MOST, SMALLEST};
-use crate::plain::{Outcome, Plain, State};
+use crate::plain::{Clock, Event, Mapped, Outcome, Plain, State};
 use crate::records::{split, Op};
 use crate::rng::Rng;
 
@@ -56,38 +56,89 @@ impl Step<'_> {
 
     /// Whether an event waits in a scope that a transition entered and is held back to the entry's next step.
     fn holds_back(&self) -> bool {
-        self.entered().any(|scope| {
-            let local = self.after.clocks[scope].local;
-            let mut events = self.before.events.iter();
-            events.any(|event| event.scope == Some(scope) && event.tag <= local)
+        let entered: Vec<usize> = self.entered().collect();
+        let mut events = self.before.events.iter();
+        events.any(|event| {
+            let in_entered = event.scope.is_some_and(|scope| entered.contains(&scope));
+            in_entered && self.is_held(event)
         })
     }
 
-    /// Whether a pop leaves an event of its tag: its loop stops where a scope's head falls below it.
-    fn stops(&self) -> bool {
+    /// An event of a scope on the global scale, by the clock after the record, which a pop leaves as it was.
+    fn mapped(&self, event: &Event) -> Option<Mapped> {
+        let clock = self.after.clocks[event.scope?];
+        clock.to_global(event.tag).ok()
+    }
+
+    fn is_held(&self, event: &Event) -> bool {
+        self.mapped(event).is_some_and(|mapped| mapped.held)
+    }
+
+    /// Whether a scope's event comes out so many microsteps after G by itself, before any is held back.
+    fn is_after_g(&self, event: &Event, steps: u64) -> bool {
+        event.scope.is_some_and(|scope| {
+            let clock = self.after.clocks[scope];
+            let carried = Clock::carried(event.tag, clock.local, clock.global);
+            let at = clock.global.later(steps);
+            carried == (i128::from(at.offset), i128::from(at.microstep))
+        })
+    }
+
+    fn is_at_g(&self, event: &Event) -> bool {
+        self.is_after_g(event, 0)
+    }
+
+    fn is_next_step(&self, event: &Event) -> bool {
+        self.is_after_g(event, 1)
+    }
+
+    /// What a pop took.
+    fn taken(&self) -> Vec<&Event> {
+        if self.name() != "pop" {
+            return Vec::new();
+        }
+        let mut left = self.after.events.iter().peekable();
+        let gone = self.before.events.iter();
+        gone.filter(|event| left.next_if(|other| other == event).is_none())
+            .collect()
+    }
+
+    fn takes(&self, which: impl Fn(&Event) -> bool) -> bool {
+        self.taken().into_iter().any(which)
+    }
+
+    /// Whether a pop says held, and took such an event besides.
+    fn takes_with_held(&self, other: impl Fn(&Event) -> bool) -> bool {
+        self.says_held(true) && self.takes(|event| self.is_held(event)) && self.takes(other)
+    }
+
+    fn says_held(&self, held: bool) -> bool {
+        matches!(self.outcome, Outcome::Popped(Some(ready)) if ready.held == held)
+    }
+
+    /// Whether a pop leaves such an event of its tag: its loop stops where a scope's head falls below it.
+    fn leaves(&self, which: impl Fn(&Event) -> bool) -> bool {
         let Outcome::Popped(Some(ready)) = self.outcome else {
             return false;
         };
-        let due = |scope: usize, tag| self.after.clocks[scope].to_global(tag);
         self.after.events.iter().any(|event| {
-            let active = event.scope.filter(|&scope| self.after.active[scope]);
-            active.is_some_and(|scope| due(scope, event.tag) == Ok(ready.tag()))
+            let active = event.scope.is_some_and(|scope| self.after.active[scope]);
+            let due = self.mapped(event).map(|mapped| mapped.tag);
+            active && due == Some(ready.tag()) && which(event)
         })
     }
 
     /// How many queues a pop took events out of.
     fn popped_queues(&self) -> usize {
-        let mut left = self.after.events.iter().peekable();
-        let gone = self.before.events.iter();
-        let gone = gone.filter(|event| left.next_if(|other| other == event).is_none());
-        gone.map(|event| event.scope).collect::<BTreeSet<_>>().len()
+        let queues = self.taken().into_iter().map(|event| event.scope);
+        queues.collect::<BTreeSet<_>>().len()
     }
 }
 
 /// What must be shown, and whether a record shows it.
 type Aim = (&'static str, fn(&Step<'_>) -> bool);
 
-const AIMS: [Aim; 17] = [
+const AIMS: [Aim; 26] = [
     ("a push takes the last slot", |step| {
         step.is_push() && step.is_accepted() && step.after.events.len() == MOST
     }),
@@ -130,6 +181,39 @@ const AIMS: [Aim; 17] = [
     ("an event is held back", |step| {
         step.name() == "history" && step.holds_back()
     }),
+    ("a held event is ready, from before G", |step| {
+        step.says_held(true) && step.takes(|event| step.is_held(event) && !step.is_at_g(event))
+    }),
+    ("a held event is ready, from G", |step| {
+        step.says_held(true) && step.takes(|event| step.is_held(event) && step.is_at_g(event))
+    }),
+    ("an event at G is ready, and allowed", |step| {
+        step.says_held(false) && step.takes(|event| step.is_at_g(event))
+    }),
+    ("G's next microstep by itself", |step| {
+        step.says_held(false) && step.takes(|event| step.is_next_step(event))
+    }),
+    ("held together with G's next microstep by itself", |step| {
+        step.takes_with_held(|event| step.is_next_step(event))
+    }),
+    (
+        "held together with a scope's event at its own tag",
+        |step| {
+            let other = |event: &Event| event.scope.is_some() && !step.is_held(event);
+            step.takes_with_held(|event| other(event) && !step.is_next_step(event))
+        },
+    ),
+    ("held together with a root event", |step| {
+        step.takes_with_held(|event| event.scope.is_none())
+    }),
+    ("held events of two scopes", |step| {
+        let taken = step.taken().into_iter().filter(|event| step.is_held(event));
+        let scopes: BTreeSet<_> = taken.map(|event| event.scope).collect();
+        scopes.len() > 1
+    }),
+    ("a held event is left by a pop that took none", |step| {
+        step.says_held(false) && step.leaves(|event| step.is_held(event))
+    }),
     ("several scopes for the first time", |step| {
         let ever = step.before.ever.iter().zip(&step.after.ever);
         ever.filter(|(before, after)| before != after).count() > 1
@@ -137,7 +221,7 @@ const AIMS: [Aim; 17] = [
     ("a pop of three queues", |step| {
         step.name() == "pop" && step.popped_queues() > 2
     }),
-    ("a pop that stops early", |step| step.stops()),
+    ("a pop that stops early", |step| step.leaves(|_| true)),
     ("many events in scopes asleep", |step| {
         let asleep = |scope: usize| !step.after.active[scope];
         let events = step.after.events.iter();

@@ -1,10 +1,12 @@
 //! `oracle map SEED COUNT SCRIPT ANSWERS`: clock maps.
 //!
 //! A case has 50 bytes: way 1 (0 local to global, 1 global to local), G offset 8 and microstep 4, L likewise,
-//! allowed 1 (0 or 1), S likewise, the argument tag likewise. An answer has 13: number 1 (0 a tag, else the refusal
-//! 11, 6 or 7, looked for in this order), offset 8, microstep 4, both 0 if refused.
+//! allowed 1 (0 or 1), S likewise, the argument tag likewise. An answer has 14: number 1 (0 a tag, else the refusal
+//! 11, 6 or 7, looked for in this order), offset 8, microstep 4, held back 1 (02, C-20: 0 or 1; 0 from global to local),
+//! all 0 if refused.
 //! The first eleven cases are m1 to m11 of 01. Answers within the limits come from the published clock, held
-//! against the limits of the result; the plain machine's clock is asked too, and the program fails if they differ.
+//! against the limits of the result; whether a tag was held back is worked out from that clock's numbers. The plain
+//! machine's clock is asked too, and the program fails if they differ.
 
 use super::{Bytes, Written};
 use crate::image::{RawTag, MAX_MICROSTEP, MAX_OFFSET};
@@ -118,17 +120,24 @@ fn case(rng: &mut Rng) -> Case {
     case
 }
 
-fn answer(case: &Case) -> (u8, u64, u32) {
+/// Number, offset, microstep, held back.
+type Answer = (u8, u64, u32, bool);
+
+fn refused(number: u8) -> Answer {
+    (number, 0, 0, false)
+}
+
+fn answer(case: &Case) -> Answer {
     let clock_within = [case.global, case.local, case.suspended]
         .iter()
         .all(|tag| tag.within_limits());
     if !clock_within {
-        return (11, 0, 0);
+        return refused(11);
     }
     if !case.tag.within_limits() {
-        return (6, 0, 0);
+        return refused(6);
     }
-    let (offset, microstep) = rust_side::map(
+    let (offset, microstep, held) = rust_side::map(
         case.to_local,
         case.global,
         case.local,
@@ -137,27 +146,26 @@ fn answer(case: &Case) -> (u8, u64, u32) {
         case.tag,
     );
     match (u64::try_from(offset), u32::try_from(microstep)) {
-        (Ok(offset), Ok(microstep)) if offset <= MAX_OFFSET => (0, offset, microstep),
-        _ => (7, 0, 0),
+        (Ok(offset), Ok(microstep)) if offset <= MAX_OFFSET => (0, offset, microstep, held),
+        _ => refused(7),
     }
 }
 
 /// The plain machine's answer to a case whose tags are within the limits.
-fn plain_answer(case: &Case) -> (u8, u64, u32) {
+fn plain_answer(case: &Case) -> Answer {
     let clock = Clock {
         global: case.global,
         local: case.local,
         allowed: case.allowed,
         suspended: case.suspended,
     };
-    let mapped = if case.to_local {
-        clock.to_local(case.tag)
-    } else {
-        clock.to_global(case.tag)
+    let mapped = match case.to_local {
+        true => clock.to_local(case.tag).map(|tag| (tag, false)),
+        false => clock.to_global(case.tag).map(|to| (to.tag, to.held)),
     };
     match mapped {
-        Ok(tag) => (0, tag.offset, tag.microstep),
-        Err(number) => (number, 0, 0),
+        Ok((tag, held)) => (0, tag.offset, tag.microstep, held),
+        Err(number) => refused(number),
     }
 }
 
@@ -165,7 +173,7 @@ pub fn write(seed: u64, count: usize) -> Result<Written, String> {
     let mut rng = Rng::new(seed);
     let paper = paper();
     let (mut script, mut answers) = (Bytes::default(), Bytes::default());
-    let (mut inside, mut overrun) = (0, 0);
+    let (mut inside, mut overrun, mut held_back) = (0, 0, 0);
     for index in 0..count {
         let case = match paper.get(index) {
             Some(case) => *case,
@@ -177,25 +185,29 @@ pub fn write(seed: u64, count: usize) -> Result<Written, String> {
         script.byte(u8::from(case.allowed));
         script.tag(case.suspended);
         script.tag(case.tag);
-        let (number, offset, microstep) = answer(&case);
+        let answer = answer(&case);
+        let (number, offset, microstep, held) = answer;
         let is_inside = number == 0 || number == 7;
-        if is_inside && plain_answer(&case) != (number, offset, microstep) {
+        if is_inside && plain_answer(&case) != answer {
             return Err(format!(
-                "case {}: {case:?}: the Rust says {:?}, 01 {:?}",
+                "case {}: {case:?}: the Rust says {answer:?}, 01 {:?}",
                 index + 1,
-                (number, offset, microstep),
                 plain_answer(&case)
             ));
         }
         inside += usize::from(is_inside);
         overrun += usize::from(number == 7);
+        held_back += usize::from(held);
         answers.byte(number);
         answers.tag(RawTag::new(offset, microstep));
+        answers.byte(u8::from(held));
     }
     Ok(Written {
         script: script.0,
         answers: answers.0,
-        summary: format!("{count} cases, {inside} inside the domain, {overrun} of them refused 7"),
+        summary: format!(
+            "{count} cases, {inside} inside the domain, {overrun} of them refused 7, {held_back} held back"
+        ),
     })
 }
 
@@ -206,19 +218,39 @@ mod tests {
     #[test]
     fn the_paper_s_cases_have_the_paper_s_answers() {
         let expected = [
-            (0, 100, 3),
-            (0, 100, 4),
-            (0, 100, 3),
-            (0, 100, 3),
-            (0, 40, 1),
-            (0, 55, 0),
-            (7, 0, 0),
-            (0, 100, 7),
-            (0, 100, 3),
-            (0, 7, 1),
-            (7, 0, 0),
+            (0, 100, 3, true),
+            (0, 100, 4, false),
+            (0, 100, 3, true),
+            (0, 100, 3, true),
+            (0, 40, 1, false),
+            (0, 55, 0, false),
+            (7, 0, 0, false),
+            (0, 100, 7, false),
+            (0, 100, 3, true),
+            (0, 7, 1, true),
+            (7, 0, 0, false),
         ];
         let answers: Vec<_> = paper().iter().map(answer).collect();
         assert_eq!(answers, expected);
+    }
+
+    /// At G's next microstep by itself, and at G where that is allowed.
+    #[test]
+    fn a_tag_that_was_not_moved_is_not_held_back() {
+        let with = |case: usize, allowed, tag| {
+            let case = Case {
+                allowed,
+                tag,
+                ..paper()[case - 1]
+            };
+            assert_eq!(answer(&case), plain_answer(&case));
+            answer(&case)
+        };
+        assert_eq!(with(1, false, RawTag::new(40, 2)), (0, 100, 3, false));
+        assert_eq!(with(1, true, RawTag::new(40, 1)), (0, 100, 2, false));
+        assert_eq!(with(1, true, RawTag::new(40, 0)), (0, 100, 3, true));
+        // G = L: allowed, also what lies before G stays where it is; else it is moved.
+        assert_eq!(with(10, true, RawTag::new(6, 0)), (0, 6, 0, false));
+        assert_eq!(with(10, false, RawTag::new(6, 0)), (0, 7, 1, true));
     }
 }

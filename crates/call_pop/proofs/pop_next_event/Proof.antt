@@ -3,7 +3,6 @@ use mathlib.Core.Path.{refl, _∙_}
 use lib.ListN.{take}
 use Rattle.tags.specs.Views.{ofGlobal}
 use Rattle.state_events.specs.Slots.{eventsOf}
-use Rattle.state_scopes.specs.Scopes.{scopesOf}
 use Rattle.call_pop.proofs.PopLaws.{root-head, scope-head, seen-in, start-room, local-still, takes-then, pops-nothing, pops-found}
 use borrow.Author.Needs.{needs}
 use Rattle.call_pop.proofs.pop_next_event.Statement.{statement}
@@ -66,7 +65,7 @@ returns-2 c =
           (k .count .ensures) (a .pre .1 .1) (r .root-head .ensures) (l .scope-head .ensures) in
           pops-found (a .args .events .now) (a .args .counts) (z .nothing-yet .result) (z .nothing-yet .ensures) (a .pre .0) w (p .peek-of .result) (p .peek-of .ensures) q
           (t .t .given .1) (a .args .scopes .now) h (g .result)
-          (takes-then (f .take-head .ensures .0) (a .args .image .now) (scopesOf (a .args .scopes .now)) (ofGlobal _) (a .args .counts .waiting) (g .ensures .0)),
+          (takes-then (f .take-head .ensures .0) (a .args .image .now) (ofGlobal _) (a .args .counts .waiting) (g .ensures .0)),
       g .ensures .1,
     )
 

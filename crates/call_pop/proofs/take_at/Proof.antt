@@ -4,32 +4,34 @@ use lib.ListN.{take}
 use Rattle.state_events.specs.Slots.{eventsOf}
 use Rattle.machine.specs.Heads.{taken}
 use Rattle.tags.specs.Views.{ofQueue}
+use Rattle.state_scopes.specs.Scopes.{scopesOf}
 use Rattle.state_queues.specs.Queue.{goesOf}
 use Rattle.call_pop.proofs.PopLaws.{went-few, takes-some, heads-left}
 use borrow.Author.Needs.{needs}
 use Rattle.call_pop.proofs.take_at.Statement.{statement}
 use Rattle.call_pop.proofs.take_at.Tie as tie
 
-sub-t19 : tie.Need-sub-t19
+sub-t21 : tie.Need-sub-t21
 unfolding goesOf
-sub-t19 c =
-    let a = c .before .before .before .before .before .before .before .before .before .before .before .before in
+sub-t21 c =
+    let a = c .before .before .before .before .before .before .before .before .before .before .before .before .before in
     let g = c .before .before .before .before .before .take-out .ensures .0 in
-    went-few (a .args .events .now) (a .args .given) (a .pre .0) (a .args .h .queue) (ofQueue (a .args .h .stamp)) _ _ (g .left) (g .went)
+    went-few (scopesOf (a .args .scopes .now)) (a .args .events .now) (a .args .given) (a .pre .0) (a .args .h .queue) (ofQueue (a .args .h .stamp)) _ _ (g .left) (g .went)
 
 returns : tie.Need-returns
 unfolding goesOf taken
 returns c =
-    let a = c .before .before .before .before .before .before .before .before .before .before .before .before in
+    let h = c .before .before .before .before .before .before .before .before .before .before in
+    let a = h .before .before .before in
     let g = c .before .before .before .before .before .take-out in
     let r = g .ensures .0 in
     let k =
-    takes-some (a .args .events .now) (a .args .given) (a .pre .0) (a .args .h .queue) (ofQueue (a .args .h .stamp)) (g .result .count) (g .result .ordinary)
-    (r .left) (r .went) (g .result .gathered) (a .args .keys .now) (g .last .1 .1 .1 .0) (g .last .0) (g .ensures .1) (r .folds) (r .near) (r .grown) (a .pre .1 .0 .1) in (
+    takes-some (scopesOf (a .args .scopes .now)) (a .args .events .now) (a .args .given) (a .pre .0) (a .args .h .queue) (ofQueue (a .args .h .stamp)) (g .result .count) (g .result .ordinary)
+    (r .left) (r .went) _ (g .result .gathered) (a .args .keys .now) (g .last .1 .1 .1 .0) (g .last .0) (h .is-held .ensures) (g .ensures .1) (r .folds) (r .near) (r .grown) (a .pre .1 .0 .1) in (
       k,
       heads-left k (a .args .h .queue) (ofQueue (a .args .h .stamp)) (take (a .args .given .counts .waiting) (eventsOf (a .args .events .now))) (g .result .lowest)
           refl (a .pre .1 .1) (r .least) (c .before .before .before .renew .ensures),
     )
 
 pub take-at-spec : {M : Type 1} → statement M
-take-at-spec = tie.close (tie.spec (λ c κs. search needs) (λ c κs. search needs) (λ c κs. search needs) sub-t19 returns)
+take-at-spec = tie.close (tie.spec (λ c κs. search needs) (λ c κs. search needs) (λ c κs. search needs) (λ c κs. search needs) sub-t21 returns)

@@ -11,7 +11,7 @@ enum-told c = search needs
 returns : tie.Need-returns
 returns c =
     let a = c .before .before in (
-      rw (at-none _ _ (a .args .h) (c .enum-told .given .1)) (takes-none (a .args .events .now) (a .args .given) (a .pre .0) (a .args .keys .now) (a .pre .1 .0 .1)),
+      rw (at-none _ _ (a .args .h) (c .enum-told .given .1)) (takes-none _ (a .args .events .now) (a .args .given) (a .pre .0) (a .args .keys .now) (a .pre .1 .0 .1)),
       a .pre .1 .1,
     )
 
@@ -27,7 +27,7 @@ returns-3 c =
     let h = c .before .before .before .before in
     let a = h .before .before in (
       rw (at-other _ _ (a .args .h) _ (h .h .given .1) (sym (c .before .same .ensures) ∙ c .if1 .left))
-          (takes-none (a .args .events .now) (a .args .given) (a .pre .0) (a .args .keys .now) (a .pre .1 .0 .1)),
+          (takes-none _ (a .args .events .now) (a .args .given) (a .pre .0) (a .args .keys .now) (a .pre .1 .0 .1)),
       a .pre .1 .1,
     )
 

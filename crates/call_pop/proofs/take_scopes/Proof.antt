@@ -42,7 +42,7 @@ loop-again c =
     let i = c .before .before .before .before .before .before in
     let l = i .before .before .before in
     let a = l .before .before .before .before in
-    let d = scope-head (a .args .image .now) (a .args .scopes .now) (take (w .result .counts .waiting) (eventsOf (w .last .0))) (l .before .count .ensures) (w .ensures .1) (c .scope-head .ensures) in
+    let d = scope-head (a .args .image .now) (a .args .scopes .now) (take (w .result .counts .waiting) (eventsOf (w .last .1 .0))) (l .before .count .ensures) (w .ensures .1) (c .scope-head .ensures) in
     (going-next (l .loop .inv .0) (omega (arith, i .before .before .loop-test .taken)) (sym (i .before .is-at .ensures) ∙ i .if1 .taken) (w .ensures .0) d, w .ensures .1)
 
 returns : tie.Need-returns Inv-loop μ-loop

@@ -9,7 +9,7 @@ returns c =
     let c₁ = c .before .before .before in
     let c₂ = c₁ .before in
     scope-place-is _ _ _ (c₂ .before .to-global .ensures) (c₂ .of-global .ensures .0) (c₂ .of-global .ensures .1 .0) (c₂ .of-global .ensures .1 .1) (c₁ .bit .ensures .0)
-    (c .before .before .holds-back .ensures) (c .before .bit2 .ensures .0)
+    (c .before .before .is-held .ensures) (c .before .bit2 .ensures .0)
 
 pub scope-place-spec : {M : Type 1} → statement M
 scope-place-spec =

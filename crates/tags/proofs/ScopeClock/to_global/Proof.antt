@@ -11,10 +11,10 @@ returns c = search globals
 
 returns-2 : tie.Need-returns-2
 returns-2 c =
-    let w : c .before .before .before .before .before .before .before .args .self .«activation_global» .0 < wide = search needs in
+    let w : c .before .before .before .before .before .before .args .self .«activation_global» .0 < wide = search needs in
     search globals
 
 pub to-global-spec : {M : Type 1} → statement M
 to-global-spec =
     tie.close
-    (tie.spec (λ c κs. search needs) returns (λ c κs. search needs) (λ c κs. search needs) (λ c κs. search needs) returns-2)
+    (tie.spec (λ c κs. search needs) returns (λ c κs. search needs) (λ c κs. search needs) returns-2)
