@@ -179,8 +179,9 @@ pub clock-heads-fall-back-asked : askedOf clock-heads-fall-back-image clock-head
 unfolding askedOf
 clock-heads-fall-back-asked = refl
 
--- READINGS-02, C-20: where G = L and allowed nothing is held back; a tag that comes out at G's next microstep by itself is not held, one
--- that is moved there is, and one such event in a pop is enough: with a root event, and before one that is due there by itself.
+-- READINGS-02, C-20: where G = L and allowed nothing is held back, and no root event is, not at (0,0) either; a tag that comes out at G's next
+-- microstep by itself is not held, one that is moved there is, and one such event in a pop is enough: with a root event, and before one that is
+-- due there by itself.
 abbrev pub clock-held-or-due-image : Image
 clock-held-or-due-image =
     0 ∷ 0 ∷ 0 ∷ 55 ∷ 1 ∷ 0 ∷ 3 ∷ 0 ∷ 1 ∷ 0 ∷ 2 ∷ 0 ∷ 0 ∷ 0 ∷ 2 ∷ 0 ∷ 0 ∷ 0 ∷ 0 ∷ 0 ∷ 0 ∷ 0 ∷ 0 ∷ 255 ∷
@@ -190,6 +191,7 @@ clock-held-or-due-image =
 
 abbrev pub clock-held-or-due-calls : List Call
 clock-held-or-due-calls =
+    plain (at 0 0) false [] ∷
     action 1 (at 0 0) false [] ∷
     pop ∷
     transit 0 1 false (at 10 0) ∷
@@ -212,6 +214,7 @@ clock-held-or-due-calls =
 pub clock-held-or-due : longDayOf clock-held-or-due-image clock-held-or-due-calls ≡
     record {
       replies =
+          ok ∷
           ok ∷
           ready (record { tag = at 0 0; terminal = false; work = true; network = false; held = false; reactions = 0 ∷ 0 ∷ []; actions = 1 ∷ [] }) ∷
           ok ∷
