@@ -1,5 +1,5 @@
 -- A law for each case of a peek and a pop, and the loop over the scopes' turns. Assumes nothing.
-use mathlib.Core.Bool.{Bool, true, false, cond, not, _&&_}
+use mathlib.Core.Bool.{Bool, true, false, cond, not, _&&_, _||_}
 use mathlib.Core.Path.{_≡_, refl, sym, ap, _∙_}
 use mathlib.Core.Logic.{⊎-elim}
 use mathlib.Core.List.{List, [], _∷_, _++_, map, append-nil, append-assoc}
@@ -7,10 +7,10 @@ use Prim.Native.Nat.{ℕ, zero, suc, _+_, _-_, _<_, _≤_}
 use native.Mathlib.Omega.{arith}
 use lib.ListN.{length, take, drop, getD, set, length-take}
 use lib.Seq.{getD-take}
-use lib.Dec.{eqb}
-use borrow.Author.Tests.{eqb-true}
+use lib.Dec.{ltb, eqb}
+use borrow.Author.Tests.{eqb-true, ltb-true, ltb-false, lt-ltb, le-ltb}
 use Rattle.lists.specs.Tests.{flag, lt-eqb, and-yes, and-no, and-left, and-right, below?, yes-no}
-use Rattle.lists.specs.Lists.{keep, lose, count, every, foldl, from}
+use Rattle.lists.specs.Lists.{keep, lose, any, count, every, foldl, from}
 use Rattle.lists.specs.Lay.{lay}
 use Rattle.lists.specs.Held.{thing-past}
 use Rattle.lists.specs.Rows.{tab-at}
@@ -39,7 +39,7 @@ use Rattle.state_heads.specs.Found.{headOf, headIn, leastHead}
 use Rattle.state_heads.specs.declared.HeadAt.{HeadAt}
 use Rattle.state_heads.specs.declared.Head as code
 use Rattle.state_heads.specs.declared.Head.the-variants as C
-use Rattle.call_pop_ready.specs.Gathering.{Gathering, nothingYet, noneYet, addedTo, addedBy, readyAt, gatheringOf, Grown}
+use Rattle.call_pop_ready.specs.Gathering.{Gathering, nothingYet, noneYet, addedTo, alsoHeld, addedBy, heldToo, readyAt, gatheringOf, Grown}
 use Rattle.call_pop_ready.specs.declared.Gathered.{Gathered}
 use Rattle.call_pop_ready.proofs.GatherLaws.{foldl-append, gathered, ready-nothing, grown-none, grown-then}
 use Rattle.state_room.specs.declared.Counts.{Counts}
@@ -249,23 +249,71 @@ both-lengths p (a ∷ l) = go (p a) (both-lengths p l)
     go true h = omega arith
     go false h = omega arith
 
--- the events at one head are all held back, or none is
-module _ (ss : List Scope) (q : ℕ) (x : Tag) (held : Bool) (r : held ≡ heldAt ss q x) where
-  one-held : (g : Gathering) (e : Event) → atHead q x e ≡ true → addedTo held g e ≡ addedBy ss g e
+one-each : (m n : ℕ) (b : Bool) → ltb m n ≡ b → ltb (suc m) (suc n) ≡ b
+one-each m n true e = lt-ltb (suc m) (suc n) (omega (arith, ltb-true m n e))
+one-each m n false e = le-ltb (suc m) (suc n) (omega (arith, ltb-false m n e))
+
+-- fewer are left than there were, if any went
+some-went : {A : Type 0} (p : A → Bool) (l : List A) → ltb (length (lose p l)) (length l) ≡ any p l
+unfolding lose any
+some-went p [] = refl
+some-went p (a ∷ l) = go (p a) (some-went p l)
+  where
+    go : (b : Bool) → ltb (length (lose p l)) (length l) ≡ any p l → ltb (length (cond b (lose p l) (a ∷ lose p l))) (suc (length l)) ≡ (b || any p l)
+    go true h = lt-ltb (length (lose p l)) (suc (length l)) (omega (arith, both-lengths p l))
+    go false h = one-each (length (lose p l)) (length l) (any p l) h
+
+-- held back, and more events: in either order
+hold-late : (b : Bool) (l : List Event) (g : Gathering) → foldl addedTo (alsoHeld b g) l ≡ alsoHeld b (foldl addedTo g l)
+unfolding foldl addedTo
+hold-late b [] g = refl
+hold-late b (e ∷ l) g = hold-late b l (addedTo g e)
+
+hold-none : (g : Gathering) → g ≡ alsoHeld false g
+hold-none g = go (g .held) refl
+  where
+    go : (b : Bool) → g .held ≡ b → g ≡ alsoHeld false g
+    go true e = rw e
+    go false e = rw e
+
+hold-twice : (held some : Bool) (g : Gathering) → alsoHeld (some && held) (alsoHeld held g) ≡ alsoHeld held g
+hold-twice held some g = ap (λ b. record { terminal = g .terminal; work = g .work; network = g .network; held = b; reactions = g .reactions; actions = g .actions }) (go (g .held) held some)
+  where
+    go : (a h s : Bool) → ((a || h) || (s && h)) ≡ (a || h)
+    go true h s = refl
+    go false true s = refl
+    go false false true = refl
+    go false false false = refl
+
+-- of the events at one head all are held back, or none is: so the pop is told once, if there are any
+module _ (ss : List Scope) (q : ℕ) (x : Tag) where
+  abbrev heldHere : Bool
+  heldHere = heldAt ss q x
+
+  one-held : (g : Gathering) (e : Event) → atHead q x e ≡ true → addedBy ss g e ≡ alsoHeld heldHere (addedTo g e)
   unfolding atHead inQueue
   one-held g e y =
       let i = eqb-true (e .queue) q (and-left (eqb (e .queue) q) _ y) in
       let j = same-tag (e .tag) x (and-right (eqb (e .queue) q) _ y) in
-      ap (λ b. addedTo b g e) (r ∙ rw (i, j))
+      let z : heldAt ss (e .queue) (e .tag) ≡ heldHere = rw (i, j) in
+      ap (λ b. alsoHeld b (addedTo g e)) z
 
-  all-held : (es : List Event) (g : Gathering) → foldl (addedTo held) g (keep (atHead q x) es) ≡ foldl (addedBy ss) g (keep (atHead q x) es)
-  unfolding keep foldl
-  all-held [] g = refl
-  all-held (e ∷ es) g = go (atHead q x e) refl (all-held es)
+  all-held : (l : List Event) (g : Gathering) →
+      foldl (addedBy ss) g (keep (atHead q x) l) ≡ alsoHeld (any (atHead q x) l && heldHere) (foldl addedTo g (keep (atHead q x) l))
+  unfolding keep foldl any
+  all-held [] g = hold-none g
+  all-held (e ∷ l) g = go (atHead q x e) refl (all-held l)
     where
-      go : (b : Bool) → atHead q x e ≡ b → ((h : Gathering) → foldl (addedTo held) h (keep (atHead q x) es) ≡ foldl (addedBy ss) h (keep (atHead q x) es)) →
-          foldl (addedTo held) g (cond b (e ∷ keep (atHead q x) es) (keep (atHead q x) es)) ≡ foldl (addedBy ss) g (cond b (e ∷ keep (atHead q x) es) (keep (atHead q x) es))
-      go true y rest = rest (addedTo held g e) ∙ ap (λ h. foldl (addedBy ss) h (keep (atHead q x) es)) (one-held g e y)
+      kept : List Event
+      kept = keep (atHead q x) l
+
+      go : (b : Bool) → atHead q x e ≡ b → ((h : Gathering) → foldl (addedBy ss) h kept ≡ alsoHeld (any (atHead q x) l && heldHere) (foldl addedTo h kept)) →
+          foldl (addedBy ss) g (cond b (e ∷ kept) kept) ≡ alsoHeld ((b || any (atHead q x) l) && heldHere) (foldl addedTo g (cond b (e ∷ kept) kept))
+      go true y rest =
+          let h = addedTo g e in
+          ap (λ h. foldl (addedBy ss) h kept) (one-held g e y) ∙
+          (rest (alsoHeld heldHere h) ∙
+          (ap (alsoHeld (any (atHead q x) l && heldHere)) (hold-late heldHere kept h) ∙ hold-twice heldHere (any (atHead q x) l) (foldl addedTo h kept)))
       go false y rest = rest g
 
 module _ (ss : List Scope) (ws : List ℕ) (given : T.Taking) (w : Waits ws (given .counts)) where
@@ -281,13 +329,14 @@ module _ (ss : List Scope) (ws : List ℕ) (given : T.Taking) (w : Waits ws (giv
     went-few = omega (arith, w .counted, count-split ordinary (atHead q x) old)
 
     pub takes-some :
-        (held : Bool) (g : Gathered) (keys next out : List ℕ) → held ≡ heldAt ss q x → slot.Held out (lay slot.blank (eventsOf ws) (lose (atHead q x) old) (given .counts .waiting)) →
-        gatheringOf g next ≡ foldl (addedTo held) (gatheringOf (given .gathered) keys) (keep (atHead q x) old) →
+        {held : Bool} (g marked : Gathered) (keys next out : List ℕ) → held ≡ (ltb m (given .counts .waiting) && heldAt ss q x) → marked ≡ heldToo held g →
+        slot.Held out (lay slot.blank (eventsOf ws) (lose (atHead q x) old) (given .counts .waiting)) →
+        gatheringOf g next ≡ foldl addedTo (gatheringOf (given .gathered) keys) (keep (atHead q x) old) →
         g .actions ≤ given .gathered .actions + length (keep (atHead q x) old) → Grown (given .gathered .actions) (g .actions) keys next →
         given .gathered .actions + given .counts .waiting ≤ roomForEvents →
-        Takes ss (taken q x (lent ws (given .counts))) given (record { gathered = g; counts = record { waiting = m; work = given .counts .work - o } }) keys out next
+        Takes ss (taken q x (lent ws (given .counts))) given (record { gathered = marked; counts = record { waiting = m; work = given .counts .work - o } }) keys out next
     unfolding taken
-    takes-some held g keys next out h k s a b r =
+    takes-some {held} g marked keys next out h j k s a b r =
         let c = given .counts in
         let was = waits-queued ws c w in
         let few : length old ≤ roomForEvents = rw (← was .waiting) (w .few) in
@@ -295,13 +344,17 @@ module _ (ss : List Scope) (ws : List ℕ) (given : T.Taking) (w : Waits ws (giv
         let left : length (lose (atHead q x) old) ≤ roomForEvents = omega arith in
         let new : Queued (lose (atHead q x) old) (c .work - count ordinary (keep (atHead q x) old)) out (record { waiting = m; work = c .work - o }) =
         record { held = queued-laid old (c .work) ws c (lose (atHead q x) old) out was few k; waiting = p; work = rw d } in
-        record {
+        let f : Gathering = foldl addedTo (gatheringOf (given .gathered) keys) (keep (atHead q x) old) in
+        let t : ltb m (c .waiting) ≡ any (atHead q x) old =
+        ap (λ n. ltb n (c .waiting)) p ∙ (ap (ltb (length (lose (atHead q x) old))) (was .waiting) ∙ some-went (atHead q x) old) in
+        rw j
+        (record {
           queued = new;
           waits = queued-waits _ _ out _ new left (omega (arith, w .counted, count-split ordinary (atHead q x) old));
-          gathered = s ∙ all-held ss q x held h old (gatheringOf (given .gathered) keys);
+          gathered = ap (alsoHeld held) s ∙ (ap (λ b. alsoHeld b f) (h ∙ ap (_&& heldAt ss q x) t) ∙ sym (all-held ss q x old (gatheringOf (given .gathered) keys)));
           grown = b;
           room = omega (arith, was .waiting);
-        }
+        })
 
 -- by the head's case
 module _ (t : Tag) (k : Taking) (h : code.Head) where
@@ -442,7 +495,7 @@ unfolding foldl heldAt
 held-shown s ws h [] g = refl
 held-shown s ws h (e ∷ es) g =
     held-shown s ws h es (addedBy (scopesOf ws) g e) ∙
-    ap (λ x. foldl (addedBy (s .scopes)) (addedTo (not (eqb (e .queue) root) && heldIn (toGlobal (x .clock) (e .tag))) g e) es) (h (e .queue))
+    ap (λ x. foldl (addedBy (s .scopes)) (alsoHeld (not (eqb (e .queue) root) && heldIn (toGlobal (x .clock) (e .tag))) (addedTo g e)) es) (h (e .queue))
 
 module _ (ev : List ℕ) (c : Counts) (g : Gathered) (o : g ≡ noneYet) (w : Waits ev c) where
   pub start-room : g .actions + c .waiting ≤ roomForEvents

@@ -1,6 +1,7 @@
 // Pop and peek over the events and scopes in lent rows: document 01, "Pop at peek tag t", "Peek", "Control only"; the contracts cite the machine.
 // Callers lend every queue's least tag; `pop_next_event` keeps it.
 ghost use mathlib.Core.Path.{_≡_};
+ghost use mathlib.Core.Bool.{_&&_};
 ghost use Prim.Native.Nat.{_+_, _≤_};
 ghost use lib.ListN.{length, take};
 ghost use Rattle.lists.specs.Lent.{was, is};
@@ -8,7 +9,7 @@ ghost use Rattle.lists.specs.Lists.{every};
 ghost use Rattle.tags.specs.Views.{ofGlobal, ofQueue};
 ghost use Rattle.machine.specs.State.{State};
 ghost use Rattle.state_events.specs.Slots.{roomForEvents};
-ghost use Rattle.machine.specs.Heads.{sooner, isAt, scopeHead, controlled, taken, takeAt, takeScopes};
+ghost use Rattle.machine.specs.Heads.{sooner, isAt, scopeHead, controlled, taken, takeAt, takeScopes, heldAt};
 ghost use Rattle.machine.specs.Machine.{peekAt, perform, pop, peekTag, onlyControl, flag};
 ghost use Rattle.state_events.specs.Slots.{eventsOf, eventOf};
 ghost use Rattle.state_scopes.specs.Scopes.{scopesOf};
@@ -96,6 +97,16 @@ fn peek_of(root: Head, local: Head) -> Peeked
 
 // ---- taking
 
+// Those at the head are held back, if any went.
+fn is_held_in(scopes: &[u64; state_scopes::ROOM], h: HeadAt, some: bool) -> bool
+    ensures { λ r. ⌜ r ≡ (some && heldAt (scopesOf (was scopes)) (h .queue) (ofQueue (h .stamp))) ⌝ }
+{
+    if some {
+        return state_heads::is_held(scopes, h);
+    }
+    false
+}
+
 // All events at a head.
 fn take_at(
     scopes: &[u64; state_scopes::ROOM],
@@ -119,13 +130,13 @@ fn take_at(
         stamp,
         inside: none,
     };
-    let held = state_heads::is_held(scopes, h);
     let counts = given.counts;
     let before = given.gathered;
-    let gone = call_pop_ready::take_out(events, counts.waiting, which, keys, before, held);
+    let gone = call_pop_ready::take_out(events, counts.waiting, which, keys, before);
     let lowest = gone.lowest;
     state_queues::renew(heads, h.queue, lowest);
-    let gathered = gone.gathered;
+    let held = is_held_in(scopes, h, gone.count < counts.waiting);
+    let gathered = gone.gathered.hold(held);
     let left = Counts {
         waiting: gone.count,
         work: counts.work - gone.ordinary,

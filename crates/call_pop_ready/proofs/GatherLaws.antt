@@ -16,7 +16,8 @@ use Rattle.key_set.specs.Sets.{unionOf, noKeys, wordCount}
 use Rattle.machine.specs.State.{Event, Scope, ordinary}
 use Rattle.machine.specs.Heads.{Ready, addAction, heldAt, readyOf}
 use Rattle.state_events.specs.Slots.{blank}
-use Rattle.call_pop_ready.specs.Gathering.{Gathering, nothingYet, addedTo, addedBy, isNew, countAfter, keysAfter, Grown}
+use Rattle.call_pop_ready.specs.declared.Gathered.{Gathered}
+use Rattle.call_pop_ready.specs.Gathering.{Gathering, nothingYet, addedTo, addedBy, heldToo, isNew, countAfter, keysAfter, Grown}
 
 -- ---- folding at the end
 
@@ -60,6 +61,10 @@ gathered ss t es (e ∷ more) = rw (← one-more ss t es e) (gathered ss t (es +
 pub ready-nothing : (ss : List Scope) (t : Tag) → untagged (readyOf ss t []) ≡ nothingYet
 unfolding readyOf any foldl
 ready-nothing ss t = refl
+
+pub held-too : (held : Bool) (g : Gathered) {b : Bool} → b ≡ (g .held || held) →
+    record { terminal = g .terminal; work = g .work; network = g .network; held = b; reactions = g .reactions; actions = g .actions } ≡ heldToo held g
+held-too held g e = rw e
 
 -- a key that is new, or none
 module _ (keys : List ℕ) (n a : ℕ) where
@@ -125,44 +130,44 @@ keys-added keys n e h = go (eqb (e .action) none || any (eqb (e .action)) (take 
 
 module _ (keys out : List ℕ) (g : Gathering) (n m : ℕ) (e : Event) (h : n < length keys) (a : m ≡ countAfter keys n (e .action)) (b : out ≡ keysAfter keys n (e .action)) where
   pub added :
-      (held : Bool) {t w k l : Bool} {ws : List ℕ} → g .actions ≡ take n keys → t ≡ (g .terminal || e .terminal) → w ≡ (g .work || ordinary e) → k ≡ (g .network || e .network) →
-      l ≡ (g .held || held) → ws ≡ unionOf (g .reactions) (e .reactions) →
-      (record { terminal = t; work = w; network = k; held = l; reactions = ws; actions = take m out } ≡ addedTo held g e) × ((m ≤ n + 1) × Grown n m keys out)
+      {t w k : Bool} {ws : List ℕ} → g .actions ≡ take n keys → t ≡ (g .terminal || e .terminal) → w ≡ (g .work || ordinary e) → k ≡ (g .network || e .network) →
+      ws ≡ unionOf (g .reactions) (e .reactions) →
+      (record { terminal = t; work = w; network = k; held = g .held; reactions = ws; actions = take m out } ≡ addedTo g e) × ((m ≤ n + 1) × Grown n m keys out)
   unfolding addedTo
-  added held l p q r x s =
-      (rw (p, q, r, x, s, a, b, l, keys-added keys n e h), (rw a (count-near keys n (e .action)), rw (a, b) (keys-grown keys n (e .action))))
+  added l p q r s =
+      (rw (p, q, r, s, a, b, l, keys-added keys n e h), (rw a (count-near keys n (e .action)), rw (a, b) (keys-grown keys n (e .action))))
 
 -- ---- the loop's state: what was gathered of the first i events, and how many keys at most
 
-pub record Going (held : Bool) (p : Event → Bool) (es : List Event) (start : Gathering) (first i : ℕ) (now : Gathering) (keys : ℕ) : Type 0 where
-  pub folds : now ≡ foldl (addedTo held) start (keep p (take i es))
+pub record Going (p : Event → Bool) (es : List Event) (start : Gathering) (first i : ℕ) (now : Gathering) (keys : ℕ) : Type 0 where
+  pub folds : now ≡ foldl addedTo start (keep p (take i es))
   pub near : keys ≤ first + length (keep p (take i es))
 
-pub going-none : (held : Bool) (p : Event → Bool) (es : List Event) (g : Gathering) (k : ℕ) → Going held p es g k 0 g k
+pub going-none : (p : Event → Bool) (es : List Event) (g : Gathering) (k : ℕ) → Going p es g k 0 g k
 unfolding keep foldl
-going-none held p es g k = record { folds = refl; near = omega arith }
+going-none p es g k = record { folds = refl; near = omega arith }
 
-module _ (held : Bool) (p : Event → Bool) (es : List Event) (start : Gathering) (first i : ℕ) (g : Gathering) (k : ℕ) (h : i < length es) (w : Going held p es start first i g k)
+module _ (p : Event → Bool) (es : List Event) (start : Gathering) (first i : ℕ) (g : Gathering) (k : ℕ) (h : i < length es) (w : Going p es start first i g k)
     (e : Event) (r : e ≡ getD es i blank) (x : Bool) (t : x ≡ p e) where
-  pub going-yes : (after : Gathering) (m : ℕ) → x ≡ true → after ≡ addedTo held g e → m ≤ k + 1 → Going held p es start first (i + 1) after m
+  pub going-yes : (after : Gathering) (m : ℕ) → x ≡ true → after ≡ addedTo g e → m ≤ k + 1 → Going p es start first (i + 1) after m
   unfolding foldl
   going-yes after m y a b =
       let q : p (getD es i blank) ≡ true = rw (← r) (sym t ∙ y) in
       let s : keep p (take (i + 1) es) ≡ keep p (take i es) ++ (e ∷ []) = rw (keep-suc-yes p es i blank h q, ← r) in
       record {
-        folds = a ∙ rw (s, foldl-append (addedTo held) start (keep p (take i es)) (e ∷ []), ← w .folds);
+        folds = a ∙ rw (s, foldl-append addedTo start (keep p (take i es)) (e ∷ []), ← w .folds);
         near = rw (s, length-append) (omega (arith, w .near));
       }
 
-  pub going-no : x ≡ false → Going held p es start first (i + 1) g k
+  pub going-no : x ≡ false → Going p es start first (i + 1) g k
   going-no y =
       let q : p (getD es i blank) ≡ false = rw (← r) (sym t ∙ y) in
       let s : keep p (take (i + 1) es) ≡ keep p (take i es) = keep-suc-no p es i blank h q in
       record { folds = rw s (w .folds); near = rw s (w .near) }
 
 -- no more keys than events
-pub going-room : (held : Bool) (p : Event → Bool) (es : List Event) (start : Gathering) (first i : ℕ) (g : Gathering) (k : ℕ) → Going held p es start first i g k → k ≤ first + i
-going-room held p es start first i g k w = omega (arith, w .near, keep-shorter p (take i es), length-take i es)
+pub going-room : (p : Event → Bool) (es : List Event) (start : Gathering) (first i : ℕ) (g : Gathering) (k : ℕ) → Going p es start first i g k → k ≤ first + i
+going-room p es start first i g k w = omega (arith, w .near, keep-shorter p (take i es), length-take i es)
 
-pub going-end : (held : Bool) (p : Event → Bool) (es : List Event) (start : Gathering) (first n i : ℕ) (g : Gathering) (k : ℕ) → i ≤ n → n ≤ i → Going held p es start first i g k → Going held p es start first n g k
-going-end held p es start first n i g k a b w = let e : i ≡ n = omega arith in rw e at w
+pub going-end : (p : Event → Bool) (es : List Event) (start : Gathering) (first n i : ℕ) (g : Gathering) (k : ℕ) → i ≤ n → n ≤ i → Going p es start first i g k → Going p es start first n g k
+going-end p es start first n i g k a b w = let e : i ≡ n = omega arith in rw e at w

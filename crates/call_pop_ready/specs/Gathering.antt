@@ -28,21 +28,26 @@ pub record Gathering : Type 0 where
 abbrev pub nothingYet : Gathering
 nothingYet = record { terminal = false; work = false; network = false; held = false; reactions = noKeys wordCount; actions = [] }
 
--- one event more, held back or not
-unfoldable pub addedTo : Bool → Gathering → Event → Gathering
-addedTo held g e =
+-- one event more, but for whether it was held back
+unfoldable pub addedTo : Gathering → Event → Gathering
+addedTo g e =
     record {
       terminal = g .terminal || e .terminal;
       work = g .work || ordinary e;
       network = g .network || e .network;
-      held = g .held || held;
+      held = g .held;
       reactions = unionOf (g .reactions) (e .reactions);
       actions = addAction (g .actions) e;
     }
 
--- .. by the scopes' clocks
+-- also held back, if that is so
+abbrev pub alsoHeld : Bool → Gathering → Gathering
+alsoHeld held g =
+    record { terminal = g .terminal; work = g .work; network = g .network; held = g .held || held; reactions = g .reactions; actions = g .actions }
+
+-- one event more, by the scopes' clocks
 abbrev pub addedBy : List Scope → Gathering → Event → Gathering
-addedBy ss g e = addedTo (heldAt ss (e .queue) (e .tag)) g e
+addedBy ss g e = alsoHeld (heldAt ss (e .queue) (e .tag)) (addedTo g e)
 
 abbrev pub readyAt : Tag → Gathering → Ready
 readyAt t g =
@@ -63,6 +68,10 @@ gatheringOf g actions =
 abbrev pub noneYet : Gathered
 noneYet = record { terminal = false; work = false; network = false; held = false; reactions = record { words = noKeys wordCount }; actions = 0 }
 
+abbrev pub heldToo : Bool → Gathered → Gathered
+heldToo held g =
+    record { terminal = g .terminal; work = g .work; network = g .network; held = g .held || held; reactions = g .reactions; actions = g .actions }
+
 -- how many keys there are after an action, and where it stands
 abbrev pub isNew : List ℕ → ℕ → Bool
 isNew l a = cond (eqb a none || any (eqb a) l) false true
@@ -79,10 +88,10 @@ pub record Grown (n m : ℕ) (was keys : List ℕ) : Type 0 where
   pub long : length keys ≡ length was
   pub behind : drop m keys ≡ drop m was
 
--- what taking out comes to: the events that go, all held back or none, are gathered behind what there was, with no more keys than there may be;
+-- what taking out comes to: the events that go are gathered behind what there was, with no more keys than there may be;
 -- how many stay, how many ordinary ones went, and the least tag that queue q has left
-pub record Sifted (held : Bool) (q : ℕ) (p : Event → Bool) (es : List Event) (g : Gathered) (was : List ℕ) (r : Taken) (keys : List ℕ) : Type 0 where
-  pub folds : gatheringOf (r .gathered) keys ≡ foldl (addedTo held) (gatheringOf g was) (keep p es)
+pub record Sifted (q : ℕ) (p : Event → Bool) (es : List Event) (g : Gathered) (was : List ℕ) (r : Taken) (keys : List ℕ) : Type 0 where
+  pub folds : gatheringOf (r .gathered) keys ≡ foldl addedTo (gatheringOf g was) (keep p es)
   pub near : r .gathered .actions ≤ g .actions + length (keep p es)
   pub grown : Grown (g .actions) (r .gathered .actions) was keys
   pub left : r .count ≡ length (lose p es)

@@ -1,5 +1,5 @@
 // What a pop gathers from the events that it takes: document 01, "union of reactions, terminal, some ordinary work, network by "or", and each action key
-// once, in order of taking"; 02, C-20, "held". A new part of a ready event comes in here: in `Gathered`, in `add`, and in `Gathering` of specs/.
+// once, in order of taking". Whether they were held back (02, C-20) is known of all that are taken out at once, and said by `hold`. A new part of a ready event comes in here: in `Gathered`, in `add`, and in `Gathering` of specs/.
 ghost use mathlib.Core.Path.{_≡_};
 ghost use mathlib.Core.Bool.{_||_};
 ghost use Prim.Native.Nat.{_+_, _≤_, _<_};
@@ -11,7 +11,7 @@ ghost use Rattle.machine.specs.State.{ordinary};
 ghost use Rattle.state_events.specs.Slots.{roomForEvents};
 ghost use Rattle.state_events.specs.Slots.{eventsOf, eventOf, blank, Whole, Held};
 ghost use Rattle.state_queues.specs.Queue.{goesOf};
-ghost use Rattle.call_pop_ready.specs.Gathering.{noneYet, addedTo, gatheringOf, countAfter, keysAfter, Grown, Sifted};
+ghost use Rattle.call_pop_ready.specs.Gathering.{noneYet, heldToo, addedTo, gatheringOf, countAfter, keysAfter, Grown, Sifted};
 use key_set::KeySet;
 use state_events::Slot;
 use state_queues::Earliest;
@@ -39,6 +39,21 @@ impl Gathered {
             held: false,
             reactions: none,
             actions: 0,
+        }
+    }
+
+    // Also held back, if that is so.
+    pub fn hold(self, held: bool) -> Self
+        ensures { λ r. ⌜ r ≡ heldToo held self ⌝ }
+    {
+        let reactions = self.reactions;
+        Self {
+            terminal: self.terminal,
+            work: self.work,
+            network: self.network,
+            held: either(self.held, held),
+            reactions,
+            actions: self.actions,
         }
     }
 }
@@ -75,15 +90,10 @@ fn add_key(keys: &mut [u16; state_events::ROOM_FOR_EVENTS], n: usize, a: u16) ->
     n + 1
 }
 
-// One event more, held back or not.
-fn add(
-    keys: &mut [u16; state_events::ROOM_FOR_EVENTS],
-    g: Gathered,
-    s: Slot,
-    held: bool,
-) -> Gathered
+// One event more.
+fn add(keys: &mut [u16; state_events::ROOM_FOR_EVENTS], g: Gathered, s: Slot) -> Gathered
     requires { ⌜ (length (now keys) ≡ roomForEvents) × (g .actions < roomForEvents) ⌝ }
-    ensures { λ r. ⌜ gatheringOf r (now (keys .exit)) ≡ addedTo held (gatheringOf g (now (keys .entry))) (eventOf s) ⌝ }
+    ensures { λ r. ⌜ gatheringOf r (now (keys .exit)) ≡ addedTo (gatheringOf g (now (keys .entry))) (eventOf s) ⌝ }
     ensures { λ r. ⌜ (r .actions ≤ g .actions + 1) × Grown (g .actions) (r .actions) (now (keys .entry)) (now (keys .exit)) ⌝ }
 {
     let n = g.actions;
@@ -96,7 +106,7 @@ fn add(
         terminal: either(g.terminal, s.terminal),
         work: either(g.work, ordinary),
         network: either(g.network, s.network),
-        held: either(g.held, held),
+        held: g.held,
         reactions: both,
         actions: count,
     }
@@ -119,18 +129,17 @@ pub struct Taken {
     pub lowest: Earliest,
 }
 
-// The events that go are gathered, in order of acceptance, held back or not; those that stay, over the front.
+// The events that go are gathered, in order of acceptance; those that stay, over the front.
 fn sift(
     rows: &mut [u64; state_events::ROOM],
     n: usize,
     which: Which,
     keys: &mut [u16; state_events::ROOM_FOR_EVENTS],
     g: Gathered,
-    held: bool,
 ) -> Taken
     requires { ⌜ Whole (now rows) × (n ≤ roomForEvents) ⌝ }
     requires { ⌜ (length (now keys) ≡ roomForEvents) × (g .actions + n ≤ roomForEvents) ⌝ }
-    ensures { λ r. ⌜ Sifted held (which .queue) (goesOf which) (take n (eventsOf (now (rows .entry)))) g (now (keys .entry)) r (now (keys .exit)) ⌝ }
+    ensures { λ r. ⌜ Sifted (which .queue) (goesOf which) (take n (eventsOf (now (rows .entry)))) g (now (keys .entry)) r (now (keys .exit)) ⌝ }
     ensures { λ _. ⌜ Held (now (rows .exit)) (over (lose (goesOf which) (take n (eventsOf (now (rows .entry))))) (eventsOf (now (rows .entry)))) ⌝ }
 {
     let mut out = g;
@@ -144,7 +153,7 @@ fn sift(
         i += 1;
         if which.goes(d) {
             let s = state_events::slot_at(rows, at);
-            out = add(keys, out, s, held);
+            out = add(keys, out, s);
             ordinary += state_queues::one_if(s.is_ordinary());
         } else {
             state_queues::stay(rows, at, w);
@@ -170,14 +179,13 @@ pub fn take_out(
     which: Which,
     keys: &mut [u16; state_events::ROOM_FOR_EVENTS],
     g: Gathered,
-    held: bool,
 ) -> Taken
     requires { ⌜ Whole (now rows) × (n ≤ roomForEvents) ⌝ }
     requires { ⌜ (length (now keys) ≡ roomForEvents) × (g .actions + n ≤ roomForEvents) ⌝ }
-    ensures { λ r. ⌜ Sifted held (which .queue) (goesOf which) (take n (eventsOf (now (rows .entry)))) g (now (keys .entry)) r (now (keys .exit)) ⌝ }
+    ensures { λ r. ⌜ Sifted (which .queue) (goesOf which) (take n (eventsOf (now (rows .entry)))) g (now (keys .entry)) r (now (keys .exit)) ⌝ }
     ensures { λ _. ⌜ Held (now (rows .exit)) (lay blank (eventsOf (now (rows .entry))) (lose (goesOf which) (take n (eventsOf (now (rows .entry))))) n) ⌝ }
 {
-    let r = sift(rows, n, which, keys, g, held);
+    let r = sift(rows, n, which, keys, g);
     state_queues::clear(rows, r.count, n);
     r
 }

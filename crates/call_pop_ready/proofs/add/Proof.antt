@@ -14,16 +14,16 @@ use Rattle.call_pop_ready.proofs.add.Tie as tie
 
 returns : tie.Need-returns
 returns c =
-    let c₁ = c .before .before .before .before in
+    let c₁ = c .before .before .before in
     let c₂ = c₁ .before .before .before .before in
     let b = c₂ .before .before in
     let a = b .args in
     let k = c₂ .add-key in
     let l : a .g .actions < length (a .keys .now) = omega (arith, b .pre .0) in
-    added (a .keys .now) (k .last .0) (gatheringOf (a .g) (a .keys .now)) (a .g .actions) (k .result) (eventOf (a .s)) l (k .ensures .0) (k .ensures .1) (a .held) refl
-    (c .before .before .before .either .ensures) (c .before .before .either2 .ensures ∙ ap (λ x. a .g .work || x) (c₁ .is-ordinary .ensures)) (c .before .either3 .ensures) (c .either4 .ensures) (c₁ .before .union .ensures)
+    added (a .keys .now) (k .last .0) (gatheringOf (a .g) (a .keys .now)) (a .g .actions) (k .result) (eventOf (a .s)) l (k .ensures .0) (k .ensures .1) refl
+    (c .before .before .either .ensures) (c .before .either2 .ensures ∙ ap (λ x. a .g .work || x) (c₁ .is-ordinary .ensures)) (c .either3 .ensures) (c₁ .before .union .ensures)
 
 pub add-spec : {M : Type 1} → statement M
 add-spec =
     tie.close
-    (tie.spec (λ c κs. search needs) (λ c κs. search needs) (λ c κs. search needs) (λ c κs. search needs) (λ c κs. search needs) (λ c κs. search needs) (λ c κs. search needs) returns)
+    (tie.spec (λ c κs. search needs) (λ c κs. search needs) (λ c κs. search needs) (λ c κs. search needs) (λ c κs. search needs) (λ c κs. search needs) returns)

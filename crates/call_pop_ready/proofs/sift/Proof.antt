@@ -10,14 +10,14 @@ use Rattle.call_pop_ready.proofs.sift.Statement.{statement}
 use Rattle.call_pop_ready.proofs.sift.Tie as tie
 
 abbrev Inv-loop : tie.InvT-loop
-Inv-loop rows₀ n which keys₀ held out₀ w₀ ordinary₀ lowest₀ i₀ rows keys out w ordinary lowest i =
-    Sifting held (which .queue) (goesOf which) rows₀ n out₀ keys₀ i w ordinary lowest rows out keys
+Inv-loop rows₀ n which keys₀ out₀ w₀ ordinary₀ lowest₀ i₀ rows keys out w ordinary lowest i =
+    Sifting (which .queue) (goesOf which) rows₀ n out₀ keys₀ i w ordinary lowest rows out keys
 
 abbrev μ-loop : tie.MeasureT-loop
-μ-loop rows₀ n which keys₀ held out₀ w₀ ordinary₀ lowest₀ i₀ rows keys out w ordinary lowest i = n - i
+μ-loop rows₀ n which keys₀ out₀ w₀ ordinary₀ lowest₀ i₀ rows keys out w ordinary lowest i = n - i
 
 loop-holds : tie.Need-loop-holds Inv-loop μ-loop
-loop-holds c = sifting-none _ _ _ _ _ _ _ (c .pre .0 .0)
+loop-holds c = sifting-none _ _ _ _ _ _ (c .pre .0 .0)
 
 add-requires : tie.Need-add-requires Inv-loop μ-loop
 add-requires c κs =
