@@ -105,7 +105,7 @@ uint64_t barnshiver_write_table(const uint8_t *counts, size_t counts_length, con
 /*
  * Runs a gate day, an image and its records (01, "The bench program"), and writes the lines of its answers over the front
  * of `lines`; answers how many bytes they take, and bytes behind them stay as they were. Only whole lines are written, and only
- * while the longest line would still fit: if at least BARNSHIVER_LINE_ROOM bytes are left over, nothing was held back.
+ * while the longest line would still fit: if at least BARNSHIVER_LINE_ROOM bytes are left over, no line is missing.
  */
 size_t barnshiver_run_day(const uint8_t *day, size_t day_length, uint8_t *lines, size_t lines_length);
 

@@ -235,7 +235,7 @@ pub fn run_day(day: &[u8]) -> Vec<u8> {
     let mut lines = vec![0; 4 * LINE_ROOM];
     loop {
         let length = slices::run_day(day, &mut lines);
-        // With room for a line left over nothing was held back.
+        // With room for a line left over no line is missing.
         if lines.len().saturating_sub(length) >= LINE_ROOM {
             lines.truncate(length);
             return lines;
