@@ -136,10 +136,11 @@ pub record Ready : Type 0 where
 unfoldable pub addAction : List ℕ → Event → List ℕ
 addAction l e = cond (eqb (e .action) none || any (eqb (e .action)) l) l (l ++ (e .action ∷ []))
 
--- .. "and "held": yes if any event in it was moved so, by the clock at the pop; root events never are" (02, C-20): at the tag x of queue q
+-- 02, C-20, of an event of queue q at x: "moved so, by the clock at the pop; root events never are"
 unfoldable pub heldAt : List Scope → ℕ → Tag → Bool
 heldAt ss q x = not (eqb q root) && heldIn (toGlobal (scopeIn ss q .clock) x)
 
+-- .. 'The ready event gains "held": yes if any event in it was moved so'
 unfoldable pub readyOf : List Scope → Tag → List Event → Ready
 readyOf ss t es =
     record {
