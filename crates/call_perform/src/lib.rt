@@ -23,7 +23,7 @@ use store_words::{BucketRows, ValueRows};
 use tags::GlobalTag;
 
 // What is asked, and changes nothing.
-#[derive(Drop)]
+#[derive(Clone, Copy)]
 pub enum Question {
     PeekTag,
     ControlOnly,
@@ -33,7 +33,7 @@ pub enum Question {
 }
 
 // A call; the reaction keys of a push stand beside it.
-#[derive(Drop)]
+#[derive(Clone, Copy)]
 pub enum Call {
     Push(Push),
     Transition(Request),
@@ -43,7 +43,7 @@ pub enum Call {
 }
 
 // What a call answers, but for a ready event.
-#[derive(Drop)]
+#[derive(Clone, Copy)]
 pub enum Answer {
     Done,
     Nothing,
@@ -54,7 +54,7 @@ pub enum Answer {
 }
 
 // Whether a pop found a ready event, with its tag and what was gathered, the action keys in the lent array; else the answer. The ledger after the call.
-#[derive(Drop)]
+#[derive(Clone, Copy)]
 pub struct Performed {
     pub found: bool,
     pub answer: Answer,

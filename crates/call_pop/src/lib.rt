@@ -24,7 +24,7 @@ use state_room::Counts;
 use tags::GlobalTag;
 
 // Whether there was a head, its tag, what was gathered there (the action keys stand in the lent array), and what still waits.
-#[derive(Drop)]
+#[derive(Clone, Copy)]
 pub struct Popped {
     pub found: bool,
     pub tag: GlobalTag,
@@ -32,21 +32,21 @@ pub struct Popped {
     pub counts: Counts,
 }
 
-#[derive(Drop)]
+#[derive(Clone, Copy)]
 pub enum Peeked {
     Nothing,
     At(GlobalTag),
 }
 
 // What was gathered so far, and what still waits.
-#[derive(Drop)]
+#[derive(Clone, Copy)]
 struct Taking {
     gathered: Gathered,
     counts: Counts,
 }
 
 // What the scopes are taken by: the tag, the least of their heads, and how many turns there are at most.
-#[derive(Drop)]
+#[derive(Clone, Copy)]
 struct Turn {
     tag: GlobalTag,
     local: Head,

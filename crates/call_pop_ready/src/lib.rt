@@ -14,7 +14,7 @@ use state_events::Slot;
 use state_queues::{Earliest, Which};
 
 // The action keys taken so far stand beside it, in a lent array.
-#[derive(Drop)]
+#[derive(Clone, Copy)]
 pub struct Gathered {
     pub terminal: bool,
     pub work: bool,
@@ -119,7 +119,7 @@ fn either(a: bool, b: bool) -> bool
 }
 
 // What was gathered, how many events are left, how many ordinary ones went, and the least tag that the queue has left, if it has one.
-#[derive(Drop)]
+#[derive(Clone, Copy)]
 pub struct Taken {
     pub gathered: Gathered,
     pub count: usize,

@@ -22,14 +22,14 @@ use state_room::Counts;
 use tags::{GlobalTag, LocalTag, MappedGlobal, MappedLocal, QueueTag, ScopeClock};
 
 // What a push answers, and what waits then.
-#[derive(Drop)]
+#[derive(Clone, Copy)]
 pub struct Pushed {
     pub outcome: Outcome,
     pub counts: Counts,
 }
 
 // An action's event: its action, the tag given, and whether it is terminal.
-#[derive(Drop)]
+#[derive(Clone, Copy)]
 pub struct ActionPush {
     pub action: u16,
     pub tag: GlobalTag,
@@ -37,7 +37,7 @@ pub struct ActionPush {
 }
 
 // What is pushed, at which tag and whether terminal; its reaction keys stand beside it. A control event has none.
-#[derive(Drop)]
+#[derive(Clone, Copy)]
 pub enum Push {
     Plain(GlobalTag, bool),
     Network(GlobalTag),
@@ -46,7 +46,7 @@ pub enum Push {
 }
 
 // An event of the root without an action.
-#[derive(Drop)]
+#[derive(Clone, Copy)]
 struct RootPush {
     tag: GlobalTag,
     terminal: bool,
@@ -55,14 +55,14 @@ struct RootPush {
 }
 
 // The set of some keys, and whether the table has them all.
-#[derive(Drop)]
+#[derive(Clone, Copy)]
 struct Keyed {
     known: bool,
     set: KeySet,
 }
 
 // An event that is to wait, or the refusal.
-#[derive(Drop)]
+#[derive(Clone, Copy)]
 struct Made {
     outcome: Outcome,
     slot: Slot,

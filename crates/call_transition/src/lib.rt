@@ -51,7 +51,7 @@ fn refusal_of(image: &[u8], request: Request) -> Outcome
 // ---- the steps
 
 // The scopes that are active for the first time, and the plan.
-#[derive(Drop)]
+#[derive(Clone, Copy)]
 struct Beginning {
     first: KeySet,
     plan: Plan,
@@ -134,7 +134,7 @@ fn steps(
 // ---- the rows as given
 
 // How many words of each part are in use.
-#[derive(Drop)]
+#[derive(Clone, Copy)]
 struct Fronts {
     scopes: usize,
     events: usize,

@@ -147,7 +147,7 @@ pub fn firsts(image: &[u8], scopes: &[u64; state_scopes::ROOM], plan: Plan) -> K
 }
 
 // The scopes whose rows are taken, and the tag of a startup; a timer has its own.
-#[derive(Drop)]
+#[derive(Clone, Copy)]
 struct Chosen {
     set: KeySet,
     there: GlobalTag,
@@ -313,7 +313,7 @@ fn start_timer(
 // ---- row by row
 
 // What a row starts: a startup row its value, a scope its event, a timer row its timer.
-#[derive(Drop)]
+#[derive(Clone, Copy)]
 enum What {
     Value,
     Event,

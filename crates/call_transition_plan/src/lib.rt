@@ -17,7 +17,7 @@ use tags::GlobalTag;
 
 // The tag c, the target scope, the scopes of the reset subtree (none for a history transition), those that are active from now on,
 // and the modes from now on.
-#[derive(Drop)]
+#[derive(Clone, Copy)]
 pub struct Plan {
     pub c: GlobalTag,
     pub target: u16,
@@ -27,7 +27,7 @@ pub struct Plan {
 }
 
 // What is asked for: a reactor, the mode it goes to, whether by reset, and the current tag c.
-#[derive(Drop)]
+#[derive(Clone, Copy)]
 pub struct Request {
     pub reactor: u16,
     pub mode: u16,

@@ -27,7 +27,7 @@ const VERSION_AND_OP: usize = 2;
 const LAST_OP: u8 = 6;
 
 // A record; where it has reaction keys, how many, and they stand beside it in a lent array.
-#[derive(Drop)]
+#[derive(Clone, Copy)]
 pub enum Parsed {
     // tag, terminal, keys
     Plain(GlobalTag, bool, u16),
@@ -43,7 +43,7 @@ pub enum Parsed {
 }
 
 // What stands where a length is due.
-#[derive(Drop)]
+#[derive(Clone, Copy)]
 pub enum Head {
     // how many bytes follow
     Counts(usize),
@@ -147,7 +147,7 @@ fn read_keys(body: &[u8], at: u8, keys: &mut [u16; MOST_KEYS]) -> u16
 
 // Where a record's operands stand: the byte that is 0 or 1 (the version, where no other is), the count of what is at its end, how many bytes each of
 // these has, and how many bytes all the others have.
-#[derive(Drop)]
+#[derive(Clone, Copy)]
 struct Form {
     bit: usize,
     count: usize,

@@ -24,7 +24,7 @@ pub const RUN_BYTES: usize = 16;
 const MOST_PLACE: u64 = 18446744073709551615;
 
 // A run of dropped bytes: where it begins, counted from the file's first byte, and how many they are.
-#[derive(Drop)]
+#[derive(Clone, Copy)]
 pub struct Run {
     pub place: u64,
     pub length: u64,
@@ -32,7 +32,7 @@ pub struct Run {
 
 // What a piece comes to: how many of its bytes are done, how many stand in the output and in the list, how many records were kept, and the run of
 // dropped bytes that the next piece goes on with.
-#[derive(Drop)]
+#[derive(Clone, Copy)]
 pub struct Piece {
     pub used: usize,
     pub written: usize,
@@ -42,7 +42,7 @@ pub struct Piece {
 }
 
 // Bytes of the output, bytes of the list, and how many records were kept.
-#[derive(Drop)]
+#[derive(Clone, Copy)]
 pub struct Totals {
     pub written: usize,
     pub listed: usize,
@@ -50,7 +50,7 @@ pub struct Totals {
 }
 
 // What a whole day comes to.
-#[derive(Drop)]
+#[derive(Clone, Copy)]
 pub enum Rescued {
     // image and kept records stand in the output, the runs in the list
     Saved(Totals),
@@ -191,7 +191,7 @@ fn skip(bytes: &[u8], from: usize, end: usize) -> usize
 }
 
 // Well-formed records one behind the other: the place behind them, and how many they are.
-#[derive(Drop)]
+#[derive(Clone, Copy)]
 struct Span {
     end: usize,
     records: usize,

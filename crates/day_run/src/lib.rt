@@ -29,7 +29,7 @@ use table::{Checked, ImageRefusal};
 pub const LONGEST: usize = 4096;
 
 // What a piece's run comes to: the state after it, how many bytes its records have, how many bytes their lines, and whether a bad length ended the run.
-#[derive(Drop)]
+#[derive(Clone, Copy)]
 pub struct Pieces {
     pub day: Room,
     pub used: usize,
@@ -47,7 +47,7 @@ pub fn start(image: &[u8]) -> Room
 }
 
 // What stands at a place of the bytes.
-#[derive(Drop)]
+#[derive(Clone, Copy)]
 enum Next {
     // fewer bytes than a record has
     Pending,
@@ -96,7 +96,7 @@ fn end_of(bytes: &[u8], at: usize, n: usize) -> usize
 }
 
 // What a record asks for.
-#[derive(Drop)]
+#[derive(Clone, Copy)]
 enum Op {
     Call(Call),
     Malformed,
@@ -143,7 +143,7 @@ fn key_count(parsed: Parsed) -> usize
 }
 
 // A record taken: it was malformed, or this is what its call answered; the ledger after it.
-#[derive(Drop)]
+#[derive(Clone, Copy)]
 struct Taken {
     malformed: bool,
     performed: Performed,
@@ -256,7 +256,7 @@ fn say(
 // ---- the run
 
 // What the run of a piece on lent rows comes to: the ledger after it, and the rest as in `Pieces`.
-#[derive(Drop)]
+#[derive(Clone, Copy)]
 struct Run {
     ledger: Ledger,
     used: usize,

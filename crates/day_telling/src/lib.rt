@@ -45,7 +45,7 @@ pub fn time_words(offset: u64) -> [u64; 6]
 // ---- tags on the two scales
 
 // A tag, or none.
-#[derive(Drop)]
+#[derive(Clone, Copy)]
 struct Mapped {
     found: u64,
     offset: u64,

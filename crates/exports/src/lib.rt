@@ -116,7 +116,7 @@ fn run_all(image: &[u8], records: &[u8]) -> Room
 }
 
 // What a peek answers, as words.
-#[derive(Drop)]
+#[derive(Clone, Copy)]
 struct Peek {
     found: u64,
     offset: u64,

@@ -12,13 +12,13 @@ pub const WORDS: usize = 2;
 pub const KEYS: usize = WORDS * 64;
 
 // A set of keys by value: key k is bit k % 64 of word k / 64.
-#[derive(Drop)]
+#[derive(Clone, Copy)]
 pub struct KeySet {
     pub words: [u64; WORDS],
 }
 
 // A key, or none.
-#[derive(Drop)]
+#[derive(Clone, Copy)]
 pub enum Found {
     Key(usize),
     Nothing,

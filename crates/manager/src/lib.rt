@@ -44,7 +44,7 @@ use tags::{GlobalTag, ScopeClock};
 use value_store::Store;
 
 // Clocks, active now and ever active by scope, modes by reactor, the events that wait and how many of them are ordinary, and the value store.
-#[derive(Drop)]
+#[derive(Clone, Copy)]
 pub struct Manager {
     pub clocks: [ScopeClock; MOST_SCOPES],
     pub active: [bool; MOST_SCOPES],
@@ -290,7 +290,7 @@ fn pack_room(u: Room) -> Manager
 // ---- a fresh manager
 
 // What the table check answers, and over an accepted table the fresh manager, else a blank one.
-#[derive(Drop)]
+#[derive(Clone, Copy)]
 pub struct Fresh {
     pub checked: Checked,
     pub manager: Manager,
@@ -299,14 +299,14 @@ pub struct Fresh {
 // ---- what every call begins and ends with
 
 // The answer, and the manager after the call.
-#[derive(Drop)]
+#[derive(Clone, Copy)]
 pub struct Answered {
     pub answer: Answer,
     pub manager: Manager,
 }
 
 // A ready event: its tag, flags and reactions, and the keys of its actions in order of taking, zeros behind them.
-#[derive(Drop)]
+#[derive(Clone, Copy)]
 pub struct Ready {
     pub tag: GlobalTag,
     pub terminal: bool,
@@ -319,7 +319,7 @@ pub struct Ready {
 }
 
 // Whether a pop found a ready event.
-#[derive(Drop)]
+#[derive(Clone, Copy)]
 pub enum Pop {
     Ready,
     Nothing,
@@ -327,7 +327,7 @@ pub enum Pop {
 }
 
 // The ready event is blank where there is none.
-#[derive(Drop)]
+#[derive(Clone, Copy)]
 pub struct Popped {
     pub outcome: Pop,
     pub ready: Ready,
@@ -456,7 +456,7 @@ fn left_by(
 }
 
 // What a call answers, a ready event's action keys in an array, and the manager after it.
-#[derive(Drop)]
+#[derive(Clone, Copy)]
 struct Called {
     performed: Performed,
     actions: [u16; ROOM_FOR_EVENTS],

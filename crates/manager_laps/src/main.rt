@@ -17,7 +17,7 @@ use tags::GlobalTag;
 const DAY: usize = 8;
 
 // The manager after a call, and all answers so far mixed into one number.
-#[derive(Drop)]
+#[derive(Clone, Copy)]
 struct Ran {
     manager: Manager,
     sum: u64,

@@ -4,7 +4,7 @@ ghost use Rattle.std.specs.Prelude.{◌≡◌};
 ghost use Rattle.refusals.specs.Refusals.{number_of};
 
 // One case for each number that a call may answer. Refusals of an image and of a record have types of their own.
-#[derive(Drop)]
+#[derive(Clone, Copy)]
 pub enum Refusal {
     // a key the table lacks
     Key,
@@ -23,7 +23,7 @@ pub enum Refusal {
 }
 
 // Done, or the refusal.
-#[derive(Drop)]
+#[derive(Clone, Copy)]
 pub enum Outcome {
     Done,
     Refused(Refusal),

@@ -17,7 +17,7 @@ const LIST: usize = 196624;
 const LINE: usize = 64;
 
 // How many bytes are there, whether the input is over, and whether a read failed.
-#[derive(Drop)]
+#[derive(Clone, Copy)]
 struct Filled {
     total: usize,
     over: bool,
@@ -78,7 +78,7 @@ fn say_runs(list: &[u8]) -> bool {
 }
 
 // What all pieces came to.
-#[derive(Drop)]
+#[derive(Clone, Copy)]
 struct Sums {
     records: u64,
     dropped: u64,

@@ -27,7 +27,7 @@ pub const NONE: u16 = 65535;
 
 // An event: its queue (a scope, or NONE for the root), its tag on that queue's scale, reactions, flags, and perhaps an action
 // (or NONE) with its stored tag.
-#[derive(Drop)]
+#[derive(Clone, Copy)]
 pub struct Slot {
     pub queue: u16,
     pub tag: QueueTag,
@@ -40,7 +40,7 @@ pub struct Slot {
 }
 
 // When an event is due: its queue, and its tag on that queue's scale.
-#[derive(Drop)]
+#[derive(Clone, Copy)]
 pub struct Due {
     pub queue: u16,
     pub tag: QueueTag,

@@ -12,14 +12,14 @@ use state_scopes::Scope;
 use tags::{GlobalTag, MappedGlobal, QueueTag};
 
 // A queue, its least tag on its own scale, and what that is on the global scale.
-#[derive(Drop)]
+#[derive(Clone, Copy)]
 pub struct HeadAt {
     pub queue: u16,
     pub stamp: QueueTag,
     pub tag: GlobalTag,
 }
 
-#[derive(Drop)]
+#[derive(Clone, Copy)]
 pub enum Head {
     Empty,
     At(HeadAt),

@@ -19,14 +19,14 @@ use state_events::{Due, Slot};
 use tags::QueueTag;
 
 // The least tag of a queue, or nothing.
-#[derive(Drop)]
+#[derive(Clone, Copy)]
 pub enum Earliest {
     Nothing,
     At(QueueTag),
 }
 
 // How many events wait now, or the refusal.
-#[derive(Drop)]
+#[derive(Clone, Copy)]
 pub enum Accepted {
     Count(usize),
     Refused(Refusal),
@@ -194,7 +194,7 @@ pub fn is_lower(queue: u16, lowest: Earliest, d: Due) -> bool
 // ---- taking out
 
 // Which events go: those of a queue at a tag, or all of some scopes.
-#[derive(Drop)]
+#[derive(Clone, Copy)]
 pub struct Which {
     pub by_tag: bool,
     pub queue: u16,
@@ -203,7 +203,7 @@ pub struct Which {
 }
 
 // How many events are left, and how many ordinary ones went.
-#[derive(Drop)]
+#[derive(Clone, Copy)]
 pub struct Removed {
     pub count: usize,
     pub ordinary: usize,

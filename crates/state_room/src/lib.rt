@@ -17,14 +17,14 @@ pub const SPARE: usize = state_scopes::ROOM
     + store_words::ROOM_FOR_ENTRIES * store_words::BUCKET_WORDS;
 
 // How many events wait, and how many of them are ordinary.
-#[derive(Drop)]
+#[derive(Clone, Copy)]
 pub struct Counts {
     pub waiting: usize,
     pub work: usize,
 }
 
 // All of the state that lies in no row: a mode for each reactor, zeros behind them, how many events wait and how much is held.
-#[derive(Drop)]
+#[derive(Clone, Copy)]
 pub struct Ledger {
     pub modes: [u16; MOST_REACTORS],
     pub counts: Counts,
@@ -51,7 +51,7 @@ pub fn bare_ledger(modes: [u16; MOST_REACTORS]) -> Ledger
 }
 
 // The whole state by value: its rows of words, blanks behind what is in use, and the ledger.
-#[derive(Drop)]
+#[derive(Clone, Copy)]
 pub struct Room {
     pub scopes: [u64; state_scopes::ROOM],
     pub events: [u64; state_events::ROOM],
@@ -61,7 +61,7 @@ pub struct Room {
 }
 
 // What a step or a call on lent rows comes to, and the ledger after it.
-#[derive(Drop)]
+#[derive(Clone, Copy)]
 pub struct Stepped {
     pub outcome: Outcome,
     pub ledger: Ledger,

@@ -20,7 +20,7 @@ use store_words::{BucketRows, ValueRows};
 use tags::MappedGlobal;
 
 // How many scopes, reactions and actions the table has.
-#[derive(Drop)]
+#[derive(Clone, Copy)]
 struct Sizes {
     scopes: u16,
     reactions: u16,

@@ -14,7 +14,7 @@ pub const SCOPE_WORDS: usize = 7;
 // All scopes.
 pub const ROOM: usize = MOST_SCOPES * SCOPE_WORDS;
 
-#[derive(Drop)]
+#[derive(Clone, Copy)]
 pub struct Scope {
     pub clock: ScopeClock,
     pub active: bool,

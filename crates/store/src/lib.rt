@@ -14,7 +14,7 @@ use store_words::{Bucket, BucketRows, Value, ValueRows};
 use tags::GlobalTag;
 
 // Which values are meant.
-#[derive(Drop)]
+#[derive(Clone, Copy)]
 pub enum ValueTest {
     // the one under action and tag
     At(u16, GlobalTag),
@@ -29,7 +29,7 @@ pub enum ValueTest {
 }
 
 // Which buckets are meant.
-#[derive(Drop)]
+#[derive(Clone, Copy)]
 pub enum BucketTest {
     // the one under action and offset
     At(u16, u64),

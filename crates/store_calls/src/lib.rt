@@ -15,35 +15,35 @@ use store_words::{Bucket, BucketRows, Value, ValueRows};
 use tags::GlobalTag;
 
 // How many values and buckets are held.
-#[derive(Drop)]
+#[derive(Clone, Copy)]
 pub struct Counts {
     pub values: usize,
     pub buckets: usize,
 }
 
 // What a call that may refuse comes to.
-#[derive(Drop)]
+#[derive(Clone, Copy)]
 pub struct Changed {
     pub outcome: Outcome,
     pub held: Counts,
 }
 
 // A value that was asked for, or "nothing".
-#[derive(Drop)]
+#[derive(Clone, Copy)]
 pub enum Found {
     Nothing,
     Value(u64),
 }
 
 // What a take comes to.
-#[derive(Drop)]
+#[derive(Clone, Copy)]
 pub struct Taken {
     pub found: Found,
     pub held: Counts,
 }
 
 // The next microstep, or none.
-#[derive(Drop)]
+#[derive(Clone, Copy)]
 pub enum Next {
     Nothing,
     Microstep(u32),

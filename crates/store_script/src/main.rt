@@ -18,7 +18,7 @@ const IMAGE: usize = 225;
 
 const MOST_ACTIONS: u64 = 64;
 
-#[derive(Drop)]
+#[derive(Clone, Copy)]
 struct Image {
     bytes: [u8; IMAGE],
     len: usize,

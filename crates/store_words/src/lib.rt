@@ -20,7 +20,7 @@ pub type ValueRows = [u64; ROOM_FOR_ENTRIES * VALUE_WORDS];
 pub type BucketRows = [u64; ROOM_FOR_ENTRIES * BUCKET_WORDS];
 
 // A value is a u64 under action and tag.
-#[derive(Drop)]
+#[derive(Clone, Copy)]
 pub struct Value {
     pub action: u16,
     pub tag: GlobalTag,
@@ -28,7 +28,7 @@ pub struct Value {
 }
 
 // A bucket remembers the next microstep, under action and offset.
-#[derive(Drop)]
+#[derive(Clone, Copy)]
 pub struct Bucket {
     pub action: u16,
     pub offset: u64,

@@ -12,7 +12,7 @@ pub const VERSION: u8 = 1;
 const MAX_LEVEL: u8 = 15;
 
 // Why an image is refused.
-#[derive(Drop)]
+#[derive(Clone, Copy)]
 pub enum ImageRefusal {
     // under 5 bytes or wrong length: 1 at 0
     Length,
@@ -28,7 +28,7 @@ pub enum ImageRefusal {
     Row(usize),
 }
 
-#[derive(Drop)]
+#[derive(Clone, Copy)]
 pub enum Checked {
     Accepted,
     Refused(ImageRefusal),
@@ -65,7 +65,7 @@ pub fn place_of(refusal: ImageRefusal) -> usize
 // ---- the rules of a row
 
 // A field that is a key: its row's kind, its place in the row, and the kind that it names.
-#[derive(Drop)]
+#[derive(Clone, Copy)]
 pub struct KeyField {
     pub kind: u8,
     pub offset: u8,

@@ -11,7 +11,7 @@ use tags::LocalTag;
 const MAX_LEVEL: u8 = 15;
 
 // A rule that a row breaks.
-#[derive(Drop)]
+#[derive(Clone, Copy)]
 pub enum Rule {
     // none: the row is as it should be
     Kept,

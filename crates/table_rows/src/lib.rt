@@ -45,7 +45,7 @@ pub const KINDS: u8 = 9;
 pub const VERSIONS: usize = 1;
 
 // A kind of row: the least rows of it, and a row's bytes.
-#[derive(Drop)]
+#[derive(Clone, Copy)]
 pub struct Kind {
     pub least: u16,
     pub width: usize,
@@ -68,7 +68,7 @@ const TABLE: [Kind; KINDS as usize] = [
 ];
 
 // How many rows of each kind there may be, how many events may wait, and how many values and how many buckets may be held.
-#[derive(Drop)]
+#[derive(Clone, Copy)]
 pub struct Limits {
     pub most: [u16; KINDS as usize],
     pub waiting: usize,
@@ -83,7 +83,7 @@ const LIMITS: [Limits; VERSIONS] = [Limits {
 }];
 
 // The bytes of a row's first, second and third field, 0 for one that the kind does not have.
-#[derive(Drop)]
+#[derive(Clone, Copy)]
 pub struct Fields {
     pub first: u8,
     pub second: u8,

@@ -14,7 +14,7 @@ pub const COUNT_BYTES: usize = 2 * table_rows::KINDS as usize;
 pub const LARGEST_ROWS: usize = table_rows::LARGEST - table_rows::HEAD;
 
 // What the writer answers.
-#[derive(Drop)]
+#[derive(Clone, Copy)]
 pub enum Wrote {
     // the image stands at the buffer's front: how many bytes it has
     Image(usize),

@@ -10,41 +10,41 @@ ghost use Rattle.tags.specs.Views.{mapped_global, mapped_local, place_of, settle
 use refusals::Refusal;
 
 // A global tag: offset in nanoseconds, microstep.
-#[derive(Drop)]
+#[derive(Clone, Copy)]
 pub struct GlobalTag(pub u64, pub u32);
 
 // A local tag: the same fields on a scope's own scale. The scales stay apart.
-#[derive(Drop)]
+#[derive(Clone, Copy)]
 pub struct LocalTag(pub u64, pub u32);
 
 // What the delay by zero answers.
-#[derive(Drop)]
+#[derive(Clone, Copy)]
 pub enum DelayedGlobal {
     Tag(GlobalTag),
     Refused(Refusal),
 }
 
-#[derive(Drop)]
+#[derive(Clone, Copy)]
 pub enum DelayedLocal {
     Tag(LocalTag),
     Refused(Refusal),
 }
 
 // What a map answers: a tag of the other scale, or a refusal. To global, also whether the tag was held back: moved to G delayed by zero.
-#[derive(Drop)]
+#[derive(Clone, Copy)]
 pub enum MappedGlobal {
     Tag(GlobalTag, bool),
     Refused(Refusal),
 }
 
-#[derive(Drop)]
+#[derive(Clone, Copy)]
 pub enum MappedLocal {
     Tag(LocalTag),
     Refused(Refusal),
 }
 
 // A scope's clock: activation global G, activation local L, allowed, suspended local S.
-#[derive(Drop)]
+#[derive(Clone, Copy)]
 pub struct ScopeClock {
     pub activation_global: GlobalTag,
     pub activation_local: LocalTag,
@@ -55,11 +55,11 @@ pub struct ScopeClock {
 // ---- what the two scales share, on the fields alone
 
 // The fields of a tag of either scale.
-#[derive(Drop)]
+#[derive(Clone, Copy)]
 struct Fields(u64, u32);
 
 // A place on a scale before its limits are looked at: below zero, beyond 64 bits, or an offset and a microstep.
-#[derive(Drop)]
+#[derive(Clone, Copy)]
 enum Place {
     Below,
     Beyond,
@@ -67,7 +67,7 @@ enum Place {
 }
 
 // The fields of a tag within the limits, or a refusal.
-#[derive(Drop)]
+#[derive(Clone, Copy)]
 enum Settled {
     Tag(Fields),
     Refused(Refusal),
@@ -417,7 +417,7 @@ impl ScopeClock {
 
 // A tag on its queue's own scale: global in the root's queue, local in a scope's. Which of the two it is only the queue tells,
 // so it is made from either by name, and turned back by name where the queue is known.
-#[derive(Drop)]
+#[derive(Clone, Copy)]
 pub struct QueueTag(pub u64, pub u32);
 
 impl QueueTag {

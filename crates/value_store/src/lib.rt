@@ -21,7 +21,7 @@ use store_words::{
 use tags::GlobalTag;
 
 // Values and buckets, and how many of each are held; what stands in the rest is no part of the store.
-#[derive(Drop)]
+#[derive(Clone, Copy)]
 pub struct Store {
     pub values: [Value; ROOM_FOR_ENTRIES],
     pub held: usize,
@@ -30,7 +30,7 @@ pub struct Store {
 }
 
 // What a call answers.
-#[derive(Drop)]
+#[derive(Clone, Copy)]
 pub enum Answer {
     Done,
     Number(u64),
@@ -39,7 +39,7 @@ pub enum Answer {
 }
 
 // The answer, and the store after the call.
-#[derive(Drop)]
+#[derive(Clone, Copy)]
 pub struct Answered {
     pub answer: Answer,
     pub store: Store,
@@ -117,7 +117,7 @@ pub fn store_of(values: &ValueRows, buckets: &BucketRows, held: Counts) -> Store
 // ---- the calls on lent rows
 
 // An action, and what the call says of it.
-#[derive(Drop)]
+#[derive(Clone, Copy)]
 pub enum Call {
     Push(u16, GlobalTag, u64),
     NextMicrostep(u16, u64, u32),
@@ -128,7 +128,7 @@ pub enum Call {
 }
 
 // What a call on lent rows answers, and how many of each are held after it.
-#[derive(Drop)]
+#[derive(Clone, Copy)]
 pub struct Called {
     pub answer: Answer,
     pub held: Counts,

@@ -19,14 +19,14 @@ const LEVELS: usize = 256;
 const ROOM: usize = 1024;
 
 // A walk, and how many steps the script still has for it.
-#[derive(Drop)]
+#[derive(Clone, Copy)]
 struct Walking {
     walk: LevelWalk,
     steps: usize,
 }
 
 // What a walk gave: how far its answer goes, its levels, and the walk after its end with the steps that are left.
-#[derive(Drop)]
+#[derive(Clone, Copy)]
 struct Ended {
     end: usize,
     levels: usize,

@@ -1,0 +1,38 @@
+-- `key_set::KeySet::size` meets its contract: the ones counted and the keys of the words from i on are as many as the set has. Assumes nothing.
+use mathlib.Core.Path.{◌≡◌}
+use Prim.Native.Nat.{◌+◌, ◌*◌, ◌-◌}
+use native.Mathlib.Omega.{arith}
+use lib.ListN.{length, get_or}
+use borrow.Author.Rules.{rules}
+use mir.Val.{Fits}
+use mir.Syntax.{w64}
+use Rattle.key_set.specs.Sets.{word_count, keys_from, size_of}
+use Rattle.key_set.proofs.Counts.{counted_word, counted_fit, counted_all}
+use Rattle.key_set.proofs.KeySet.size.Goals as goal
+
+pub loop-i-init : goal.loop-i-init
+unfolding size_of
+loop-i-init c = omega arith
+
+pub overflow_cast-n : goal.overflow_cast-n
+overflow_cast-n c =
+    let l : length c.args.self.words ≡ word_count = search rules in
+    let f : Fits w64 (get_or c.args.self.words c.loop-i.i 0) = search rules in
+    omega (arith, counted_fit _ _ _ c.loop-i.invariant (omega arith) f.fits)
+
+pub overflow_add-n : goal.overflow_add-n
+overflow_add-n c =
+    let l : length c.args.self.words ≡ word_count = search rules in
+    let f : Fits w64 (get_or c.args.self.words c.loop-i.i 0) = search rules in
+    omega (arith, counted_fit _ _ _ c.loop-i.invariant (omega arith) f.fits)
+
+pub loop-i-preserved : goal.loop-i-preserved
+loop-i-preserved c =
+    let l : length c.args.self.words ≡ word_count = search rules in
+    let f : Fits w64 (get_or c.args.self.words c.loop-i.i 0) = search rules in
+    counted_word _ _ _ c.loop-i.invariant (omega arith) f.fits
+
+pub returns : goal.returns
+returns c =
+    let l : length c.args.self.words ≡ word_count = search rules in
+    counted_all _ _ _ c.loop-i.invariant (omega arith)
