@@ -8,9 +8,9 @@ ghost use Rattle.state_events.specs.Slots.{room_for_events};
 ghost use Rattle.call_pop_ready.specs.Gathering.{Grown};
 ghost use Rattle.state_room.specs.PartRows.{spare_room, Queued, Headed, Shows};
 ghost use Rattle.state_room.specs.Holds.{rows, were, are, Kept, Performs, reply_of as replied};
-ghost use Rattle.call_pop.specs.Pops.{reply_of as peekedReply};
+ghost use Rattle.call_pop.specs.Pops.{reply_of as peeked_reply};
 ghost use Rattle.value_store.specs.Views.{answer_of};
-ghost use Rattle.call_transition.specs.Transiting.{call_of as transitOf};
+ghost use Rattle.call_transition.specs.Transiting.{call_of as transit_of};
 ghost use Rattle.call_perform.specs.Calls.{marks, question_of, call_of, value_reply, answer_reply, reply_of, Idle, Tells};
 
 use call_pop::Peeked;
@@ -89,7 +89,7 @@ fn outcome_answer(o: Outcome) -> Answer
 }
 
 fn peek_answer(p: Peeked) -> Answer
-    ensures { answer_reply result ≡ peekedReply p }
+    ensures { answer_reply result ≡ peeked_reply p }
 {
     match p {
         Peeked::Nothing => Answer::Nothing,
@@ -166,7 +166,7 @@ fn transit(
 ) -> Performed
     requires kept { Kept image.now (rows scopes events values buckets given) }
     requires spare_room_in_bounds { spare_room ≤ length spare.old }
-    ensures performs { Performs (was image) (transitOf request) (were scopes events values buckets given) (answer_reply result.answer) (are scopes events values buckets result.ledger) }
+    ensures performs { Performs (was image) (transit_of request) (were scopes events values buckets given) (answer_reply result.answer) (are scopes events values buckets result.ledger) }
     ensures headed { Headed (is heads) (is events) result.ledger.counts }
     ensures idle { Idle result }
 {

@@ -7,7 +7,7 @@ ghost use Rattle.table_rows.specs.Lineage.{in_subtree};
 ghost use Rattle.table_schedule.specs.Schedule.{is_active};
 ghost use Rattle.table.specs.Check.{is_table};
 ghost use Rattle.state_room.specs.Padded.{padded};
-ghost use Rattle.machine.specs.Table.{scopes as scopes_in, reactors as reactorsIn};
+ghost use Rattle.machine.specs.Table.{scopes as scopes_in, reactors as reactors_in};
 ghost use Rattle.call_transition_plan.specs.Plans.{Marks, mode_after, Planned};
 ghost use Rattle.state_room.specs.PartRows.{most_reactors};
 
@@ -129,7 +129,7 @@ fn new_modes(
 pub fn plan_of(image: &[u8], modes: &[u16; MOST_REACTORS], request: Request) -> Plan
     requires image_value { is_table image.now ≡ true }
     requires modes_len { length modes.now ≡ most_reactors }
-    requires reactor_bound { request.reactor < reactorsIn image.now }
+    requires reactor_bound { request.reactor < reactors_in image.now }
     ensures { Planned (was image) (was modes) request result }
 {
     let target = table_rows::mode_scope(image, request.mode);

@@ -3,7 +3,7 @@
 // whole ones as there are. A new op comes in here in `op_of`; what else is made of an answer, beside `say`.
 ghost use Rattle.std.specs.Prelude.{◌≡◌, true, ◌+◌, ◌≤◌, length};
 ghost use Rattle.lists.specs.Lent.{was, is};
-ghost use Rattle.machine.specs.State.{State, fresh as freshState};
+ghost use Rattle.machine.specs.State.{State, fresh as fresh_state};
 ghost use Rattle.state_events.specs.Slots.{room_for_events};
 ghost use Rattle.machine.specs.Machine.{rules};
 ghost use Rattle.call_perform.specs.Calls.{reply_of};
@@ -41,7 +41,7 @@ pub struct Pieces {
 pub fn start(image: &[u8]) -> Room
     requires { is_table image.now ≡ true }
     ensures kept { Kept (was image) (rows_of result) }
-    ensures result_value { state_in (was image) (rows_of result) ≡ freshState (was image) }
+    ensures result_value { state_in (was image) (rows_of result) ≡ fresh_state (was image) }
 {
     state_fresh::room(image)
 }
@@ -393,7 +393,7 @@ pub fn open(day: &[u8]) -> Checked
 // All records of a day, and what is said of the bytes at its end.
 fn run_whole(image: &[u8], records: &[u8], out: &mut [u8]) -> usize
     requires { is_table image.now ≡ true }
-    ensures { Written (was out) 0 (fitting (length (was out)) (answers_of (was image) (freshState (was image)) (records_from (was records) 0))) (is out) result }
+    ensures { Written (was out) 0 (fitting (length (was out)) (answers_of (was image) (fresh_state (was image)) (records_from (was records) 0))) (is out) result }
 {
     let day = start(image);
     let piece = run_records(image, day, records, out);

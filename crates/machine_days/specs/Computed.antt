@@ -19,7 +19,7 @@ use Rattle.store.specs.Store.{is_value, is_bucket, following, larger, lacks, pus
 use Rattle.table.specs.Check.{is_table}
 use Rattle.machine.specs.Table.{scopes, has_parent, set_of}
 use Rattle.machine.specs.State.{Scope, State, ordinary, in_queue, at_head, accepted, without, fresh}
-use Rattle.machine.specs.Heads.{least_of, root_head, scope_head_of, head_at, scope_head, peek, controlled, control_only, taken as takenOff, take_scopes, taking, add_action, held_at, ready_of}
+use Rattle.machine.specs.Heads.{least_of, root_head, scope_head_of, head_at, scope_head, peek, controlled, control_only, taken as taken_off, take_scopes, taking, add_action, held_at, ready_of}
 use Rattle.machine.specs.Transition.{dropped, reset_scopes, reset_store, reset_modes, step1, prepared, leaving, staying, clock_after, maps, owns, stamp, is_later, movers, move_one, entering, turn_by, one_turn, turned, held, firsts, startup_rows, startups, step4, timer_image, timer_event, timer, timer_rows, reset_rows, reset_event, step5, plan_of, turns_on, transition}
 use Rattle.machine.specs.Machine.{Call, peek_tag, only_control, ordinary_work, active_now, ever_active, Reply, queue_rules, event_rules, image_rules, scope_rules, mode_rules, sized, rules, keys_ok, root_made, push_root, to_root, local_tag, action_placed, action_made, push_action, perform, step, run, replies}
 
@@ -45,7 +45,7 @@ pub record Day : Type 0 where
   pub end : State
 
 unfoldable pub day_of : Image → List Call → Day
-unfolding keep lose count_of any every distinct from upsert insert_by sort_by foldl scan walk be kinds kind_of versions limits count_place count place row_place field is_logical lineage_in lineage ancestors in_subtree under key_fields key_exists keys_exist parent_rule agrees scope_rule initial_rule reactor_rule mode_rule reaction_rule action_rule timer_rule own_rule row_rule wrong_length count_fits bad_count bad_row kind_fits bad_kind check_rows check within same_tag earlier delayed shifted to_local to_global within_clock bit has insert_key union_of names_mode is_modal is_current is_active reactions_of triggers_of startups_of resets_of is_value is_bucket following larger lacks pushed next_in next_microstep value_in taken is_before is_there is_spent cleared_before of_action bucket_of cleared moved covered_by has_bucket value_rules bucket_rules same_value same_bucket store_rules is_table has_parent set_of ordinary in_queue at_head accepted without fresh least_of root_head scope_head_of head_at scope_head peek controlled control_only takenOff take_scopes taking add_action held_at ready_of dropped reset_scopes reset_store reset_modes step1 prepared leaving staying clock_after maps owns stamp is_later movers move_one entering turn_by one_turn turned held firsts startup_rows startups step4 timer_image timer_event timer timer_rows reset_rows reset_event step5 plan_of turns_on transition queue_rules event_rules image_rules scope_rules mode_rules sized rules keys_ok root_made push_root to_root local_tag action_placed action_made push_action perform step run replies
+unfolding keep lose count_of any every distinct from upsert insert_by sort_by foldl scan walk be kinds kind_of versions limits count_place count place row_place field is_logical lineage_in lineage ancestors in_subtree under key_fields key_exists keys_exist parent_rule agrees scope_rule initial_rule reactor_rule mode_rule reaction_rule action_rule timer_rule own_rule row_rule wrong_length count_fits bad_count bad_row kind_fits bad_kind check_rows check within same_tag earlier delayed shifted to_local to_global within_clock bit has insert_key union_of names_mode is_modal is_current is_active reactions_of triggers_of startups_of resets_of is_value is_bucket following larger lacks pushed next_in next_microstep value_in taken is_before is_there is_spent cleared_before of_action bucket_of cleared moved covered_by has_bucket value_rules bucket_rules same_value same_bucket store_rules is_table has_parent set_of ordinary in_queue at_head accepted without fresh least_of root_head scope_head_of head_at scope_head peek controlled control_only taken_off take_scopes taking add_action held_at ready_of dropped reset_scopes reset_store reset_modes step1 prepared leaving staying clock_after maps owns stamp is_later movers move_one entering turn_by one_turn turned held firsts startup_rows startups step4 timer_image timer_event timer timer_rows reset_rows reset_event step5 plan_of turns_on transition queue_rules event_rules image_rules scope_rules mode_rules sized rules keys_ok root_made push_root to_root local_tag action_placed action_made push_action perform step run replies
 day_of img calls = record { replies = replies img (fresh img) calls; end = run img (fresh img) calls }
 
 -- a long day, without the test of the rules at every call

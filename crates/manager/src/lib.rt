@@ -24,7 +24,7 @@ ghost use Rattle.manager.specs.Arrays.{asks, is_refusal, step_on, shown_ready, n
 ghost use Rattle.table.specs.Check.{check};
 ghost use Rattle.manager.specs.Views.{joined, arrays_of, arrays_in, Blank, Unpacks, answered_of, called_of, work_reply, some_work};
 ghost use Rattle.manager.specs.Views.{TellsOrEleven, shown_of, ready_from, ready_in, popped_of};
-ghost use Rattle.value_store.specs.Views.{call_of as storeCall};
+ghost use Rattle.value_store.specs.Views.{call_of as store_call};
 ghost use Rattle.call_perform.specs.Calls.{value_call, call_of, answer_reply, reply_of, is_pop};
 ghost use Rattle.call_perform.specs.declared.Call.TheVariants as K;
 ghost use Rattle.machine.specs.Machine.{plain, network, control, action, transit, peek_tag, only_control, ordinary_work, active_now, ever_active, pop};
@@ -390,7 +390,7 @@ fn ready_of(p: Performed, keys: [u16; ROOM_FOR_EVENTS]) -> Ready
 
 // A call on the values that only asks.
 fn only_reads(call: value_store::Call) -> bool
-    ensures { result ≡ asks (value_call (storeCall call)) }
+    ensures { result ≡ asks (value_call (store_call call)) }
 {
     match call {
         value_store::Call::NextMicrostep(_, _, _) => true,

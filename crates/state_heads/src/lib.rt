@@ -2,7 +2,7 @@
 // Which head comes first is decided here; pops and the tellings use `root_head`, `scope_head` and `peek`. Whether a head's events were held back is `is_held`.
 ghost use Rattle.std.specs.Prelude.{◌≡◌, cond, get_or};
 ghost use Rattle.tags.specs.Views.{of_queue};
-ghost use Rattle.machine.specs.Heads.{no_tag, least, root_of, mapped_head, scope_head_of, held_at, sooner as soonerOf};
+ghost use Rattle.machine.specs.Heads.{no_tag, least, root_of, mapped_head, scope_head_of, held_at, sooner as sooner_of};
 ghost use Rattle.state_scopes.specs.Scopes.{most_scopes, scopes_of, scope_of};
 ghost use Rattle.state_queues.specs.Queue.{of_earliest, leasts_of};
 ghost use Rattle.state_heads.specs.Found.{head_of, head_here, best_of, head_in, least_head};
@@ -67,7 +67,7 @@ fn scope_head_of(s: Scope, i: u16, t: QueueTag) -> Head
 
 // The second where it is earlier, else the first.
 fn sooner(a: Head, b: Head) -> Head
-    ensures { head_of result ≡ soonerOf (head_of a) (head_of b) }
+    ensures { head_of result ≡ sooner_of (head_of a) (head_of b) }
 {
     match a {
         Head::Empty => b,
@@ -94,7 +94,7 @@ fn head_in(heads: &[u64; state_queues::HEADS], scopes: &[u64; state_scopes::ROOM
 
 // A head takes the place of the best so far, if there is one.
 fn is_sooner(found: bool, best: HeadAt, x: HeadAt) -> bool
-    ensures { soonerOf (best_of found best) (head_here x) ≡ cond result (head_here x) (best_of found best) }
+    ensures { sooner_of (best_of found best) (head_here x) ≡ cond result (head_here x) (best_of found best) }
 {
     if found {
         return x.tag.earlier(best.tag);
@@ -156,7 +156,7 @@ pub fn root_head(heads: &[u64; state_queues::HEADS]) -> Head
 
 // The least head over root and active scopes.
 pub fn peek(heads: &[u64; state_queues::HEADS], scopes: &[u64; state_scopes::ROOM], n: u16) -> Head
-    ensures { head_of result ≡ soonerOf (root_of (get_or (leasts_of heads.now) most_scopes no_tag)) (least_head (scopes_of scopes.now) (leasts_of heads.now) n) }
+    ensures { head_of result ≡ sooner_of (root_of (get_or (leasts_of heads.now) most_scopes no_tag)) (least_head (scopes_of scopes.now) (leasts_of heads.now) n) }
 {
     let root = root_head(heads);
     let local = scope_head(heads, scopes, n);

@@ -5,8 +5,8 @@ use Rattle.table_rows.specs.Bytes.{Image}
 use Rattle.table_rows.specs.Limits.{versions, limits, limits_fit}
 use Rattle.tags.specs.Tags.{Tag, zero_tag}
 use Rattle.tags.specs.Views.{of_global}
-use Rattle.store_words.specs.declared.Value as codeValue
-use Rattle.store_words.specs.declared.Bucket as codeBucket
+use Rattle.store_words.specs.declared.Value as code_value
+use Rattle.store_words.specs.declared.Bucket as code_bucket
 
 -- "A value is a u64 under action and tag"
 pub record Value : Type 0 where
@@ -34,8 +34,8 @@ blank_value = record { action = 0; tag = zero_tag; value = 0 }
 abbrev pub blank_bucket : Bucket
 blank_bucket = record { action = 0; offset = 0; next = 0 }
 
-abbrev pub of_value : codeValue.Value → Value
+abbrev pub of_value : code_value.Value → Value
 of_value v = record { action = v.action; tag = of_global v.tag; value = v.value }
 
-abbrev pub of_bucket : codeBucket.Bucket → Bucket
+abbrev pub of_bucket : code_bucket.Bucket → Bucket
 of_bucket b = record { action = b.action; offset = b.offset; next = b.next }

@@ -3,7 +3,7 @@
 ghost use Rattle.std.specs.Prelude.{◌≡◌, ◌+◌, get_or};
 ghost use Rattle.table.specs.Rules.{key, key_fields, key_count, key_exists, keys_exist, parent_rule, agrees, scope_rule, initial_rule};
 ghost use Rattle.table.specs.Rules.{reactor_rule, mode_rule, reaction_rule, action_rule, timer_rule, own_rule, row_rule};
-ghost use Rattle.table.specs.Check.{number_of, place_of, wrong_length, count_fits, bad_count, bad_row, check_rows, is_table, check as checkOf};
+ghost use Rattle.table.specs.Check.{number_of, place_of, wrong_length, count_fits, bad_count, bad_row, check_rows, is_table, check as check_of};
 
 use tags::LocalTag;
 
@@ -395,7 +395,7 @@ fn wrong_length(image: &[u8]) -> bool
 
 // Accepted, or the refusal, of any byte string.
 pub fn check(image: &[u8]) -> Checked
-    ensures { result ≡ checkOf image.now }
+    ensures { result ≡ check_of image.now }
 {
     if wrong_length(image) {
         return Checked::Refused(ImageRefusal::Length);

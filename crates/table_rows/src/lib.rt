@@ -9,7 +9,7 @@ ghost use Rattle.table_rows.specs.Rows.{row_place, field, is_logical};
 ghost use Rattle.table_rows.specs.Fields.{fields_of, field_of};
 ghost use Rattle.table_rows.specs.Limits.{limits, most};
 ghost use Rattle.table_rows.specs.Rows as fields;
-ghost use Rattle.table_rows.specs.Lineage.{in_subtree, under as underOf};
+ghost use Rattle.table_rows.specs.Lineage.{in_subtree, under as under_of};
 
 // Length, version and nine counts.
 pub const HEAD: usize = 23;
@@ -484,7 +484,7 @@ pub fn in_subtree(image: &[u8], top: u16, i: u16) -> bool
 
 // Scope i lies strictly under the scope `top`.
 pub fn under(image: &[u8], top: u16, i: u16) -> bool
-    ensures { result ≡ underOf image.now top i }
+    ensures { result ≡ under_of image.now top i }
 {
     let above = parent(image, i);
     if above < i {

@@ -8,7 +8,7 @@ ghost use Rattle.table_rows.specs.Kinds.{kind_of, place as place_of, count as co
 ghost use Rattle.table_rows.specs.Rows.{none};
 ghost use Rattle.tags.specs.Views.{of_local};
 ghost use Rattle.table.specs.Rules.{timer_tag};
-ghost use Rattle.table_schedule.specs.Schedule.{names_mode, is_modal, is_current, is_active, belongs as belongsTo, reactions_by, triggers_of, startups_of, resets_of};
+ghost use Rattle.table_schedule.specs.Schedule.{names_mode, is_modal, is_current, is_active, belongs as belongs_to, reactions_by, triggers_of, startups_of, resets_of};
 
 use key_set::KeySet;
 use tags::LocalTag;
@@ -87,7 +87,7 @@ pub fn is_active(image: &[u8], modes: &[u16], i: u16) -> bool
 // ---- sets of reactions
 
 fn belongs(image: &[u8], key: u16, subtree: bool, x: u16) -> bool
-    ensures { result ≡ belongsTo image.now key subtree x }
+    ensures { result ≡ belongs_to image.now key subtree x }
 {
     if subtree {
         return table_rows::in_subtree(image, key, x);
@@ -97,7 +97,7 @@ fn belongs(image: &[u8], key: u16, subtree: bool, x: u16) -> bool
 
 // The set with the reaction of a row whose first field is x, if that is the key, or a scope in its subtree.
 fn with_row(image: &[u8], key: u16, subtree: bool, x: u16, reaction: u16, set: KeySet) -> KeySet
-    ensures { result.words ≡ cond (belongsTo image.now key subtree x) (insert_key set.words reaction) set.words }
+    ensures { result.words ≡ cond (belongs_to image.now key subtree x) (insert_key set.words reaction) set.words }
 {
     let test = belongs(image, key, subtree, x);
     set.insert_if(test, reaction as usize)

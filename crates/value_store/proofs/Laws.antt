@@ -18,8 +18,8 @@ use Rattle.table_rows.specs.Limits.{limits}
 use Rattle.tags.specs.Tags.{Tag, at, within}
 use Rattle.tags.specs.Views.{of_global}
 use Rattle.tags.specs.declared.GlobalTag.{GlobalTag}
-use Rattle.store_words.specs.declared.Value as codeValue
-use Rattle.store_words.specs.declared.Bucket as codeBucket
+use Rattle.store_words.specs.declared.Value as code_value
+use Rattle.store_words.specs.declared.Bucket as code_bucket
 use Rattle.store_words.specs.Entries.{room_for_entries, held_fits, of_value, of_bucket, blank_value, blank_bucket}
 use Rattle.store_words.specs.Words.{values_of, buckets_of, HeldValues, HeldBuckets, decode_value, encode_value, value_words, long_value, decode_bucket, encode_bucket, bucket_words, long_bucket}
 use Rattle.lists.specs.Loops.{front_long}
@@ -58,7 +58,7 @@ map_all : {A B : Type 0} (f : A → B) (n : ℕ) (a : A) → map f (replicate n 
 map_all f zero a = refl
 map_all f (suc n) a = ap (f a ∷◌) (map_all f n a)
 
-pub new_is : (v : codeValue.Value) (b : codeBucket.Bucket) → of_value v ≡ blank_value → of_bucket b ≡ blank_bucket
+pub new_is : (v : code_value.Value) (b : code_bucket.Bucket) → of_value v ≡ blank_value → of_bucket b ≡ blank_bucket
     → record { values = map of_value (replicate room_for_entries v); held = 0; buckets = map of_bucket (replicate room_for_entries b); «open» = 0 } ≡ fresh_arrays
 new_is v b e f =
     ap (λ x. record { values = x; held = 0; buckets = map of_bucket (replicate room_for_entries b); «open» = 0 }) (map_all of_value room_for_entries v ∙ ap (replicate room_for_entries) e) ∙
