@@ -1,0 +1,14 @@
+-- `store_words::value_at` meets its contract: the four words of its row are decoded. Assumes nothing.
+use Rattle.lists.specs.Rows.{tab}
+use Rattle.store_words.specs.Entries.{room_for_entries}
+use Rattle.store_words.specs.Words.{value_words, decode_value, encode_value, long_value}
+use Rattle.lists.specs.Loops.{read_past, read_there}
+use borrow.Author.Rules.{rules}
+use Rattle.store_words.proofs.value_at.Goals as goal
+
+pub returns-then-k-ge-ROOM_FOR_ENTRIES : goal.returns-then-k-ge-ROOM_FOR_ENTRIES
+returns-then-k-ge-ROOM_FOR_ENTRIES c = search read_past
+
+pub returns : goal.returns
+unfolding decode_value tab
+returns c = read_there decode_value encode_value value_words room_for_entries long_value _ _ _ (search rules)

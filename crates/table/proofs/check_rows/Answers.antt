@@ -1,0 +1,28 @@
+-- `table::check_rows` meets its contract: what is left of the kinds decides. Assumes nothing.
+use borrow.Author.Rules.{rules}
+use Prim.Native.Nat.{◌-◌, ◌≤◌}
+use Rattle.lists.specs.Scan.{scan, scan_pass, scan_fail, scan_none}
+use mathlib.Core.Path.{◌≡◌, refl, sym, ◌∙◌}
+use Rattle.table_rows.specs.Kinds.{kind_count}
+use Rattle.table.specs.Check.{kind_fits, bad_kind}
+use Rattle.table.proofs.Laws.{kind_broken, kind_kept, rows_broken, rows_kept}
+use Rattle.table.proofs.check_rows.Goals as goal
+
+pub loop-k-init : goal.loop-k-init
+unfolding bad_kind
+loop-k-init c = (search rules, refl)
+
+pub returns-then-i-total : goal.returns-then-i-total
+returns-then-i-total c =
+    let row = c.bad_row-i.ensures in
+    let within = c.loop-k-test.true in
+    let broken = kind_broken _ _ row c.count-total.ensures c.if-i-total.true in
+    rows_broken _ _ (sym (c.loop-k.invariant.1 ∙ scan_fail _ _ _ within broken)) within row c.row_place-at.ensures.0
+
+pub loop-k-preserved : goal.loop-k-preserved
+loop-k-preserved c =
+    let kept = kind_kept _ _ c.bad_row-i.ensures c.count-total.ensures c.if-i-total.false in
+    (search rules, c.loop-k.invariant.1 ∙ scan_pass _ _ _ c.loop-k-test.true kept)
+
+pub returns : goal.returns
+returns c = rows_kept _ _ (sym (c.loop-k.invariant.1 ∙ scan_none _ _ _ c.loop-k-test.false)) c.loop-k-test.false

@@ -1,0 +1,6 @@
+-- `table::mode_rule` meets its contract. Assumes nothing.
+use Rattle.table.proofs.Laws.{rules}
+use Rattle.table.proofs.mode_rule.Goals as goal
+
+pub returns : goal.returns
+returns c = search rules

@@ -1,0 +1,6 @@
+-- `table::reactor_rule` meets its contract. Assumes nothing.
+use Rattle.table.proofs.Laws.{rules}
+use Rattle.table.proofs.reactor_rule.Goals as goal
+
+pub returns : goal.returns
+returns c = search rules
