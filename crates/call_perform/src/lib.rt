@@ -1,7 +1,6 @@
 // One call on the room: document 01, "The plain machine", all that it answers. Here the calls are told apart, once: the manager by value and the
 // run of a day come in by `perform`, with every queue's least tag lent. A new call gets its variant of `Call` and its line in `perform`.
 ghost use Rattle.std.specs.Prelude.{◌≡◌, ◌≤◌, length};
-ghost use Rattle.lists.specs.Lent.{was, is};
 ghost use Rattle.machine.specs.State.{State};
 ghost use Rattle.machine.specs.Machine as M;
 ghost use Rattle.state_events.specs.Slots.{room_for_events};
@@ -112,7 +111,7 @@ fn value_answer(said: value_store::Answer) -> Answer
 
 // Its mark, if the table has the scope: else 5.
 fn scope_answer(image: &[u8], scopes: &[u64; state_scopes::ROOM], i: u16, ever: bool) -> Answer
-    ensures { (s : State) → Shows s (was scopes) → answer_reply result ≡ (M.perform (was image) s (marks ever i)).reply }
+    ensures { (s : State) → Shows s scopes.now → answer_reply result ≡ (M.perform image.now s (marks ever i)).reply }
 {
     let n = table_rows::count(image, table_rows::SCOPE);
     if n <= i {
@@ -135,8 +134,8 @@ fn ask(
 ) -> Answer
     requires waiting_le_room_for_events { counts.waiting ≤ room_for_events }
     requires headed { Headed heads.now events.now counts }
-    ensures { (s : State) → Queued s.waiting s.work (was events) counts → Shows s (was scopes) →
-        answer_reply result ≡ (M.perform (was image) s (question_of question)).reply }
+    ensures { (s : State) → Queued s.waiting s.work events.now counts → Shows s scopes.now →
+        answer_reply result ≡ (M.perform image.now s (question_of question)).reply }
 {
     match question {
         Question::PeekTag => peek_answer(call_pop::peek_tag(image, scopes, heads)),
@@ -166,8 +165,8 @@ fn transit(
 ) -> Performed
     requires kept { Kept image.now (rows scopes events values buckets given) }
     requires spare_room_in_bounds { spare_room ≤ length spare.old }
-    ensures performs { Performs (was image) (transit_of request) (were scopes events values buckets given) (answer_reply result.answer) (are scopes events values buckets result.ledger) }
-    ensures headed { Headed (is heads) (is events) result.ledger.counts }
+    ensures performs { Performs image.now (transit_of request) (were scopes events values buckets given) (answer_reply result.answer) (are scopes events values buckets result.ledger) }
+    ensures headed { Headed heads.new events.new result.ledger.counts }
     ensures idle { Idle result }
 {
     let t = call_transition::apply_transition(
@@ -199,9 +198,9 @@ pub fn perform(
     requires kept { Kept image.now (rows scopes events values buckets given) }
     requires headed { Headed heads.old events.old given.counts }
     requires actions_len { (length actions.old ≡ room_for_events) × (spare_room ≤ length spare.old) }
-    ensures performs { Performs (was image) (call_of call (was keys)) (were scopes events values buckets given) (reply_of result (is actions)) (are scopes events values buckets result.ledger) }
-    ensures headed_2 { Headed (is heads) (is events) result.ledger.counts }
-    ensures grown { Grown 0 result.gathered.actions (was actions) (is actions) × (result.gathered.actions ≤ room_for_events) }
+    ensures performs { Performs image.now (call_of call keys.now) (were scopes events values buckets given) (reply_of result actions.new) (are scopes events values buckets result.ledger) }
+    ensures headed_2 { Headed heads.new events.new result.ledger.counts }
+    ensures grown { Grown 0 result.gathered.actions actions.old actions.new × (result.gathered.actions ≤ room_for_events) }
     ensures tells { Tells call result }
 {
     let counts = given.counts;

@@ -1,7 +1,6 @@
 // Pop and peek over the events and scopes in lent rows: document 01, "Pop at peek tag t", "Peek", "Control only"; the contracts cite the machine.
 // Callers lend every queue's least tag; `pop_next_event` keeps it.
 ghost use Rattle.std.specs.Prelude.{◌≡◌, ◌&&◌, ◌+◌, ◌≤◌, length, take};
-ghost use Rattle.lists.specs.Lent.{was, is};
 ghost use Rattle.lists.specs.Lists.{every};
 ghost use Rattle.tags.specs.Views.{of_global, of_queue};
 ghost use Rattle.machine.specs.State.{State};
@@ -100,7 +99,7 @@ fn peek_of(root: Head, local: Head) -> Peeked
 
 // Those at the head are held back, if any went.
 fn is_held_in(scopes: &[u64; state_scopes::ROOM], h: HeadAt, some: bool) -> bool
-    ensures { result ≡ (some && held_at (scopes_of (was scopes)) h.queue (of_queue h.stamp)) }
+    ensures { result ≡ (some && held_at (scopes_of scopes.now) h.queue (of_queue h.stamp)) }
 {
     if some {
         return state_heads::is_held(scopes, h);
@@ -120,8 +119,8 @@ fn take_at(
     requires waits { Waits events.old given.counts }
     requires keys_len { (length keys.old ≡ room_for_events) × (given.gathered.actions + given.counts.waiting ≤ room_for_events) }
     requires headed { Headed heads.old events.old given.counts }
-    ensures takes { Takes (scopes_of (was scopes)) (taken h.queue (of_queue h.stamp) (lent (was events) given.counts)) given result (was keys) (is events) (is keys) }
-    ensures headed_2 { Headed (is heads) (is events) result.counts }
+    ensures takes { Takes (scopes_of scopes.now) (taken h.queue (of_queue h.stamp) (lent events.old given.counts)) given result keys.old events.new keys.new }
+    ensures headed_2 { Headed heads.new events.new result.counts }
 {
     let none = KeySet::empty();
     let stamp = h.stamp;
@@ -161,8 +160,8 @@ fn take_head(
     requires waits { Waits events.old given.counts }
     requires keys_len { (length keys.old ≡ room_for_events) × (given.gathered.actions + given.counts.waiting ≤ room_for_events) }
     requires headed { Headed heads.old events.old given.counts }
-    ensures takes { Takes (scopes_of (was scopes)) (take_at_of (of_global t) (lent (was events) given.counts) (head_of h)) given result (was keys) (is events) (is keys) }
-    ensures headed_2 { Headed (is heads) (is events) result.counts }
+    ensures takes { Takes (scopes_of scopes.now) (take_at_of (of_global t) (lent events.old given.counts) (head_of h)) given result keys.old events.new keys.new }
+    ensures headed_2 { Headed heads.new events.new result.counts }
 {
     match h {
         Head::Empty => given,
@@ -191,8 +190,8 @@ fn take_scopes(
     requires keys_len { (length keys.old ≡ room_for_events) × (given.gathered.actions + given.counts.waiting ≤ room_for_events) }
     requires headed { Headed heads.old events.old given.counts }
     requires local_value { head_of turn.local ≡ scope_head image.now (scopes_of scopes.now) (waiting_in events.old given.counts) }
-    ensures takes { Takes (scopes_of (was scopes)) (take_scopes turn.turns (was image) (scopes_of (was scopes)) (of_global turn.tag) (lent (was events) given.counts)) given result (was keys) (is events) (is keys) }
-    ensures headed_2 { Headed (is heads) (is events) result.counts }
+    ensures takes { Takes (scopes_of scopes.now) (take_scopes turn.turns image.now (scopes_of scopes.now) (of_global turn.tag) (lent events.old given.counts)) given result keys.old events.new keys.new }
+    ensures headed_2 { Headed heads.new events.new result.counts }
 {
     let t = turn.tag;
     let n = table_rows::count(image, table_rows::SCOPE);
@@ -223,8 +222,8 @@ pub fn pop_next_event(
     requires waits { Waits events.old counts }
     requires keys_len { length keys.old ≡ room_for_events }
     requires headed { Headed heads.old events.old counts }
-    ensures pops { (s : State) → Queued s.waiting s.work (was events) counts → Shows s (was scopes) → Pops (perform (was image) s pop) result (was keys) (is events) (is keys) }
-    ensures headed_2 { Headed (is heads) (is events) result.counts }
+    ensures pops { (s : State) → Queued s.waiting s.work events.old counts → Shows s scopes.now → Pops (perform image.now s pop) result keys.old events.new keys.new }
+    ensures headed_2 { Headed heads.new events.new result.counts }
 {
     let n = table_rows::count(image, table_rows::SCOPE);
     let waiting = counts.waiting;
@@ -269,7 +268,7 @@ pub fn peek_tag(
     scopes: &[u64; state_scopes::ROOM],
     heads: &[u64; state_queues::HEADS],
 ) -> Peeked
-    ensures { (s : State) → Held (was heads) (heads_of s.waiting) → Shows s (was scopes) → reply_of result ≡ (perform (was image) s peek_tag).reply }
+    ensures { (s : State) → Held heads.now (heads_of s.waiting) → Shows s scopes.now → reply_of result ≡ (perform image.now s peek_tag).reply }
 {
     let n = table_rows::count(image, table_rows::SCOPE);
     let root = state_heads::root_head(heads);
@@ -292,7 +291,7 @@ fn is_controlled(s: Slot, t: GlobalTag) -> bool
 
 fn all_controlled(events: &[u64; state_events::ROOM], waiting: usize, t: GlobalTag) -> bool
     requires { waiting ≤ room_for_events }
-    ensures { result ≡ every (controlled (of_global t)) (take waiting (events_of (was events))) }
+    ensures { result ≡ every (controlled (of_global t)) (take waiting (events_of events.now)) }
 {
     let mut i: usize = 0;
     while i < waiting {
@@ -315,7 +314,7 @@ pub fn peek_is_control_only(
 ) -> bool
     requires waiting_le_room_for_events { counts.waiting ≤ room_for_events }
     requires headed { Headed heads.now events.now counts }
-    ensures { (s : State) → Queued s.waiting s.work (was events) counts → Shows s (was scopes) → flag result ≡ (perform (was image) s only_control).reply }
+    ensures { (s : State) → Queued s.waiting s.work events.now counts → Shows s scopes.now → flag result ≡ (perform image.now s only_control).reply }
 {
     let n = table_rows::count(image, table_rows::SCOPE);
     let waiting = counts.waiting;

@@ -2,7 +2,6 @@
 // Refusals in their order: 5, 6, 7, 8. A new one comes in at its place in `root_made` and `action_made`; the event joins in `give`, and a new
 // kind of push gets its variant of `Push` and its event in `event_of`. Callers lend every queue's least tag, which `push_with` keeps.
 ghost use Rattle.std.specs.Prelude.{◌≡◌, cond, ◌&&◌, ◌+◌, ◌<◌, get_or};
-ghost use Rattle.lists.specs.Lent.{was, is};
 ghost use Rattle.lists.specs.Walk as lists;
 ghost use Rattle.tags.specs.Views.{of_global, of_local, of_queue, of_clock, mapped_local};
 ghost use Rattle.tags.specs.Tags.{image_of};
@@ -80,7 +79,7 @@ fn both(a: bool, b: bool) -> bool
 }
 
 fn keys_of(image: &[u8], keys: &[u16]) -> Keyed
-    ensures { (result.known ≡ keys_ok (was image) (was keys)) × (result.set.words ≡ set_of (was keys)) }
+    ensures { (result.known ≡ keys_ok image.now keys.now) × (result.set.words ≡ set_of keys.now) }
 {
     let n = table_rows::count(image, table_rows::REACTION);
     let mut known = true;
@@ -149,7 +148,7 @@ fn maps(clock: ScopeClock, x: LocalTag) -> bool
 
 // The scope's local tag; 7 if it overruns, or in an active scope its global image.
 fn local_tag(scopes: &[u64; state_scopes::ROOM], i: u16, t: GlobalTag) -> MappedLocal
-    ensures { mapped_local result ≡ local_tag (get_or (scopes_of (was scopes)) i blank) (of_global t) }
+    ensures { mapped_local result ≡ local_tag (get_or (scopes_of scopes.now) i blank) (of_global t) }
 {
     let s = state_scopes::scope_at(scopes, i as usize);
     let clock = s.clock;
@@ -169,7 +168,7 @@ fn local_tag(scopes: &[u64; state_scopes::ROOM], i: u16, t: GlobalTag) -> Mapped
 
 // The action's events lie in the root's queue.
 fn to_root(image: &[u8], action: u16) -> bool
-    ensures { result ≡ to_root (was image) action }
+    ensures { result ≡ to_root image.now action }
 {
     if !table_rows::is_logical(image, action) {
         return true;
@@ -204,7 +203,7 @@ fn action_slot(p: ActionPush, set: KeySet, queue: u16, x: QueueTag) -> Made
 
 // To the root, or to its scope at the local tag.
 fn placed(image: &[u8], scopes: &[u64; state_scopes::ROOM], p: ActionPush, set: KeySet) -> Made
-    ensures { made_of result ≡ action_placed (was image) (scope_for (was image) (was scopes) p.action) p.action (of_global p.tag) p.terminal set.words }
+    ensures { made_of result ≡ action_placed image.now (scope_for image.now scopes.now p.action) p.action (of_global p.tag) p.terminal set.words }
 {
     let t = p.tag;
     if to_root(image, p.action) {
@@ -227,7 +226,7 @@ fn action_made(
     p: ActionPush,
     keyed: Keyed,
 ) -> Made
-    ensures { made_of result ≡ action_made (was image) (scope_for (was image) (was scopes) p.action) p.action (of_global p.tag) p.terminal keyed.known keyed.set.words }
+    ensures { made_of result ≡ action_made image.now (scope_for image.now scopes.now p.action) p.action (of_global p.tag) p.terminal keyed.known keyed.set.words }
 {
     let t = p.tag;
     let set = keyed.set;
@@ -256,7 +255,7 @@ fn tallied(ordinary: bool, work: usize) -> usize
 // The event comes last, or 8; or it was refused before.
 fn give(image: &[u8], events: &mut [u64; state_events::ROOM], counts: Counts, made: Made) -> Pushed
     requires { Waits events.old counts }
-    ensures { (s : State) → Queued s.waiting s.work (was events) counts → Pushes (pushed (was image) s (made_of made)) result (is events) }
+    ensures { (s : State) → Queued s.waiting s.work events.old counts → Pushes (pushed image.now s (made_of made)) result events.new }
 {
     let before = made.outcome;
     match before {
@@ -292,7 +291,7 @@ fn give(image: &[u8], events: &mut [u64; state_events::ROOM], counts: Counts, ma
 
 // The event of a push, or its refusal.
 fn event_of(image: &[u8], scopes: &[u64; state_scopes::ROOM], push: Push, keys: &[u16]) -> Made
-    ensures { made_of result ≡ made (was image) (was scopes) push (was keys) }
+    ensures { made_of result ≡ made image.now scopes.now push keys.now }
 {
     match push {
         Push::Plain(tag, terminal) => {
@@ -348,8 +347,8 @@ pub fn push_with(
 ) -> Pushed
     requires waits { Waits events.old counts }
     requires headed { Headed heads.old events.old counts }
-    ensures pushes { (s : State) → Queued s.waiting s.work (was events) counts → Shows s (was scopes) → Pushes (perform (was image) s (call_of push (was keys))) result (is events) }
-    ensures headed_2 { Headed (is heads) (is events) result.counts }
+    ensures pushes { (s : State) → Queued s.waiting s.work events.old counts → Shows s scopes.now → Pushes (perform image.now s (call_of push keys.now)) result events.new }
+    ensures headed_2 { Headed heads.new events.new result.counts }
 {
     let event = event_of(image, scopes, push, keys);
     let r = give(image, events, counts, event);

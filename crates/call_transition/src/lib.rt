@@ -3,7 +3,6 @@
 // those in use are saved in a lent spare before the steps.
 ghost use Rattle.std.specs.Prelude.{◌≡◌, ◌&&◌, ◌+◌, ◌≤◌, ltb, length, drop};
 ghost use Rattle.std.proofs.Math.Seq.{paste};
-ghost use Rattle.lists.specs.Lent.{was, is};
 ghost use Rattle.machine.specs.Table.{reactors, modes as modes_in};
 ghost use Rattle.state_room.specs.PartRows.{spare_room};
 ghost use Rattle.state_room.specs.Holds.{rows, were, are, Held, Steps, Performs, reply_of};
@@ -20,7 +19,7 @@ use store_words::{BucketRows, ValueRows};
 // ---- refusals before anything changes
 
 fn is_known(image: &[u8], request: Request) -> bool
-    ensures { result ≡ (ltb request.reactor (reactors (was image)) && ltb request.mode (modes_in (was image))) }
+    ensures { result ≡ (ltb request.reactor (reactors image.now) && ltb request.mode (modes_in image.now)) }
 {
     let reactors = table_rows::count(image, table_rows::REACTOR);
     let modes = table_rows::count(image, table_rows::MODE);
@@ -32,7 +31,7 @@ fn is_known(image: &[u8], request: Request) -> bool
 
 // 5, 10, 6, in this order.
 fn refusal_of(image: &[u8], request: Request) -> Outcome
-    ensures { result ≡ refusal_of (was image) request }
+    ensures { result ≡ refusal_of image.now request }
 {
     let c = request.c;
     if !is_known(image, request) {
@@ -68,7 +67,7 @@ fn begin(
     b: Beginning,
 ) -> Stepped
     requires { Held image.now (rows scopes events values buckets ledger) }
-    ensures { Steps (was image) (starts_on (was image) b.plan b.first.words) (were scopes events values buckets ledger) result.outcome (are scopes events values buckets result.ledger) }
+    ensures { Steps image.now (starts_on image.now b.plan b.first.words) (were scopes events values buckets ledger) result.outcome (are scopes events values buckets result.ledger) }
 {
     let first = b.first;
     let plan = b.plan;
@@ -96,7 +95,7 @@ fn turns_on(
     plan: Plan,
 ) -> Stepped
     requires { Held image.now (rows scopes events values buckets ledger) }
-    ensures { Steps (was image) (turns_on (was image) plan) (were scopes events values buckets ledger) result.outcome (are scopes events values buckets result.ledger) }
+    ensures { Steps image.now (turns_on image.now plan) (were scopes events values buckets ledger) result.outcome (are scopes events values buckets result.ledger) }
 {
     let first = call_transition_events::firsts(image, scopes, plan);
     let t = call_transition_scopes::turn_scopes(
@@ -125,7 +124,7 @@ fn steps(
 ) -> Stepped
     requires inner { Inner image.now plan }
     requires held { Held image.now (rows scopes events values buckets ledger) }
-    ensures { Steps (was image) (steps_on (was image) plan) (were scopes events values buckets ledger) result.outcome (are scopes events values buckets result.ledger) }
+    ensures { Steps image.now (steps_on image.now plan) (were scopes events values buckets ledger) result.outcome (are scopes events values buckets result.ledger) }
 {
     let next = call_transition_resets::reset(image, scopes, events, values, buckets, ledger, plan);
     turns_on(image, scopes, events, values, buckets, next, plan)
@@ -144,7 +143,7 @@ struct Fronts {
 
 fn fronts_of(image: &[u8], ledger: Ledger) -> Fronts
     requires { Few image.now ledger }
-    ensures { (result ≡ fronts_of (was image) ledger) × Fit result }
+    ensures { (result ≡ fronts_of image.now ledger) × Fit result }
 {
     let n = table_rows::count(image, table_rows::SCOPE);
     let counts = ledger.counts;
@@ -160,7 +159,7 @@ fn fronts_of(image: &[u8], ledger: Ledger) -> Fronts
 // The n words of one from a place on, over those of the other from a place on.
 fn copy(to: &mut [u64], at: usize, from: &[u64], start: usize, n: usize)
     requires { (at + n ≤ length to.old) × (start + n ≤ length from.now) }
-    ensures { is to ≡ paste (was to) at (drop start (was from)) n }
+    ensures { to.new ≡ paste to.old at (drop start from.now) n }
 {
     let mut i: usize = 0;
     while i < n {
@@ -181,7 +180,7 @@ fn save(
 )
     requires held { Held image.now (rows scopes events values buckets ledger) }
     requires spare_room_in_bounds { spare_room ≤ length spare.old }
-    ensures { saved_in (fronts_of (was image) ledger) ledger (is spare) ≡ were scopes events values buckets ledger }
+    ensures { saved_in (fronts_of image.now ledger) ledger spare.new ≡ were scopes events values buckets ledger }
 {
     let f = fronts_of(image, ledger);
     let a = f.scopes;
@@ -204,7 +203,7 @@ fn put_back(
     spare: &[u64],
 )
     requires { Few image.now ledger × (spare_room ≤ length spare.now) }
-    ensures { are scopes events values buckets ledger ≡ saved_in (fronts_of (was image) ledger) ledger (was spare) }
+    ensures { are scopes events values buckets ledger ≡ saved_in (fronts_of image.now ledger) ledger spare.now }
 {
     let f = fronts_of(image, ledger);
     let a = f.scopes;
@@ -241,7 +240,7 @@ pub fn apply_transition(
 ) -> Stepped
     requires held { Held image.now (rows scopes events values buckets ledger) }
     requires spare_room_in_bounds { spare_room ≤ length spare.old }
-    ensures { Performs (was image) (call_of request) (were scopes events values buckets ledger) (reply_of result.outcome) (are scopes events values buckets result.ledger) }
+    ensures { Performs image.now (call_of request) (were scopes events values buckets ledger) (reply_of result.outcome) (are scopes events values buckets result.ledger) }
 {
     let o = refusal_of(image, request);
     match o {

@@ -2,7 +2,6 @@
 // A refusal ends a step; its caller then puts the rows as given back. Each part takes the whole room, so that its contract is a step of the machine.
 // Where a timer's event waits, and at which tag, is in `timer_slot` and `timer_image`; callers use `firsts`, `startups` and `restarts`.
 ghost use Rattle.std.specs.Prelude.{◌≡◌, true, ◌&&◌, not, ◌≤◌};
-ghost use Rattle.lists.specs.Lent.{was};
 ghost use Rattle.key_set.specs.Sets.{has};
 ghost use Rattle.tags.specs.Tags.{tag_only};
 ghost use Rattle.tags.specs.Views.{of_global, mapped_global};
@@ -41,7 +40,7 @@ fn hold(
     tag: GlobalTag,
 ) -> Stepped
     requires { Held image.now (rows scopes events values buckets ledger) }
-    ensures { Steps (was image) (T.held (was image) action (of_global tag)) (were scopes events values buckets ledger) result.outcome (are scopes events values buckets result.ledger) }
+    ensures { Steps image.now (T.held image.now action (of_global tag)) (were scopes events values buckets ledger) result.outcome (are scopes events values buckets result.ledger) }
 {
     let held = ledger.held;
     let limit = table_rows::most_held(image);
@@ -77,7 +76,7 @@ fn accept(
     s: Slot,
 ) -> Stepped
     requires { Held image.now (rows scopes events values buckets ledger) }
-    ensures { Steps (was image) (λ t. accepted (was image) t (event_of s)) (were scopes events values buckets ledger) result.outcome (are scopes events values buckets result.ledger) }
+    ensures { Steps image.now (λ t. accepted image.now t (event_of s)) (were scopes events values buckets ledger) result.outcome (are scopes events values buckets result.ledger) }
 {
     let counts = ledger.counts;
     let work = more_work(s, counts.work);
@@ -131,7 +130,7 @@ fn is_first(active: KeySet, s: Scope, i: u16) -> bool
 // The scopes that are active from now on and never were before, as the rows say before the scopes change.
 pub fn firsts(image: &[u8], scopes: &[u64; state_scopes::ROOM], plan: Plan) -> KeySet
     requires { is_table image.now ≡ true }
-    ensures { Marks (first_time plan.now.words (was scopes)) (scopes_in (was image)) result.words }
+    ensures { Marks (first_time plan.now.words scopes.now) (scopes_in image.now) result.words }
 {
     let active = plan.now;
     let n = table_rows::count(image, table_rows::SCOPE);
@@ -165,7 +164,7 @@ fn hold_startup(
     j: u16,
 ) -> Stepped
     requires { Held image.now (rows scopes events values buckets ledger) }
-    ensures { Steps (was image) (λ s. value_step (was image) f s j) (were scopes events values buckets ledger) result.outcome (are scopes events values buckets result.ledger) }
+    ensures { Steps image.now (λ s. value_step image.now f s j) (were scopes events values buckets ledger) result.outcome (are scopes events values buckets result.ledger) }
 {
     let set = f.set;
     let there = f.there;
@@ -194,7 +193,7 @@ fn accept_startup(
     i: u16,
 ) -> Stepped
     requires { Held image.now (rows scopes events values buckets ledger) }
-    ensures { Steps (was image) (λ s. event_step (was image) f s i) (were scopes events values buckets ledger) result.outcome (are scopes events values buckets result.ledger) }
+    ensures { Steps image.now (λ s. event_step image.now f s i) (were scopes events values buckets ledger) result.outcome (are scopes events values buckets result.ledger) }
 {
     let set = f.set;
     let there = f.there;
@@ -212,7 +211,7 @@ fn accept_startup(
 // ---- 5. a timer
 
 fn timer_scope(image: &[u8], j: u16) -> u16
-    ensures { result ≡ T.timer_scope (was image) j }
+    ensures { result ≡ T.timer_scope image.now j }
 {
     let action = table_rows::timer_action(image, j);
     table_rows::action_scope(image, action)
@@ -220,7 +219,7 @@ fn timer_scope(image: &[u8], j: u16) -> u16
 
 // A timer's tag on the global scale, by its scope's clock. No scope that is restarted runs on global time itself: `timer_parent` of machine_rules_kept.
 fn timer_image(image: &[u8], scopes: &[u64; state_scopes::ROOM], j: u16) -> MappedGlobal
-    ensures { tag_only (mapped_global result) ≡ image_in (was image) (was scopes) j }
+    ensures { tag_only (mapped_global result) ≡ image_in image.now scopes.now j }
 {
     let i = timer_scope(image, j);
     let x = table_schedule::timer_tag(image, j);
@@ -230,7 +229,7 @@ fn timer_image(image: &[u8], scopes: &[u64; state_scopes::ROOM], j: u16) -> Mapp
 }
 
 fn timer_slot(image: &[u8], j: u16, g: GlobalTag) -> Slot
-    ensures { event_of result ≡ T.timer_event (was image) j (of_global g) }
+    ensures { event_of result ≡ T.timer_event image.now j (of_global g) }
 {
     let action = table_rows::timer_action(image, j);
     let queue = timer_scope(image, j);
@@ -260,7 +259,7 @@ fn put(
     s: Slot,
 ) -> Stepped
     requires { Held image.now (rows scopes events values buckets ledger) }
-    ensures { Steps (was image) (put_step (was image) (event_of s)) (were scopes events values buckets ledger) result.outcome (are scopes events values buckets result.ledger) }
+    ensures { Steps image.now (put_step image.now (event_of s)) (were scopes events values buckets ledger) result.outcome (are scopes events values buckets result.ledger) }
 {
     let stored = s.stored;
     let h = hold(
@@ -288,7 +287,7 @@ fn start_timer(
     j: u16,
 ) -> Stepped
     requires { Held image.now (rows scopes events values buckets ledger) }
-    ensures { Steps (was image) (λ s. timer_step (was image) inside.words s j) (were scopes events values buckets ledger) result.outcome (are scopes events values buckets result.ledger) }
+    ensures { Steps image.now (λ s. timer_step image.now inside.words s j) (were scopes events values buckets ledger) result.outcome (are scopes events values buckets result.ledger) }
 {
     let i = timer_scope(image, j);
     if !inside.contains(i as usize) {
@@ -343,7 +342,7 @@ fn take_row(
     j: u16,
 ) -> Stepped
     requires { Held image.now (rows scopes events values buckets ledger) }
-    ensures { Steps (was image) (λ s. row_step (was image) what f s j) (were scopes events values buckets ledger) result.outcome (are scopes events values buckets result.ledger) }
+    ensures { Steps image.now (λ s. row_step image.now what f s j) (were scopes events values buckets ledger) result.outcome (are scopes events values buckets result.ledger) }
 {
     match what {
         What::Value => hold_startup(image, scopes, events, values, buckets, ledger, f, j),
@@ -367,7 +366,7 @@ fn take_rows(
     f: Chosen,
 ) -> Stepped
     requires { Held image.now (rows scopes events values buckets ledger) }
-    ensures { Steps (was image) (all_rows (was image) what f) (were scopes events values buckets ledger) result.outcome (are scopes events values buckets result.ledger) }
+    ensures { Steps image.now (all_rows image.now what f) (were scopes events values buckets ledger) result.outcome (are scopes events values buckets result.ledger) }
 {
     let kind = kind_of(what);
     let n = table_rows::count(image, kind);
@@ -394,7 +393,7 @@ fn take_rows(
 
 // Some row of the kind has a scope of the set in its first field. An empty set, as of the first-time scopes on most days, has none.
 fn some_row(image: &[u8], kind: u8, set: KeySet) -> bool
-    ensures { result ≡ some_row (was image) kind set.words }
+    ensures { result ≡ some_row image.now kind set.words }
 {
     if set.is_empty() {
         return false;
@@ -422,7 +421,7 @@ fn start_all(
     f: Chosen,
 ) -> Stepped
     requires { Held image.now (rows scopes events values buckets ledger) }
-    ensures { Steps (was image) (startups_at (was image) f) (were scopes events values buckets ledger) result.outcome (are scopes events values buckets result.ledger) }
+    ensures { Steps image.now (startups_at image.now f) (were scopes events values buckets ledger) result.outcome (are scopes events values buckets result.ledger) }
 {
     let h = take_rows(
         image,
@@ -456,7 +455,7 @@ pub fn startups(
     plan: Plan,
 ) -> Stepped
     requires { Held image.now (rows scopes events values buckets ledger) }
-    ensures { Steps (was image) (startups_on (was image) plan first.words) (were scopes events values buckets ledger) result.outcome (are scopes events values buckets result.ledger) }
+    ensures { Steps image.now (startups_on image.now plan first.words) (were scopes events values buckets ledger) result.outcome (are scopes events values buckets result.ledger) }
 {
     let c = plan.c;
     if !some_row(image, table_rows::STARTUP, first) {
@@ -489,7 +488,7 @@ fn reset_reactions(
     plan: Plan,
 ) -> Stepped
     requires { Held image.now (rows scopes events values buckets ledger) }
-    ensures { Steps (was image) (resets_on (was image) plan) (were scopes events values buckets ledger) result.outcome (are scopes events values buckets result.ledger) }
+    ensures { Steps image.now (resets_on image.now plan) (were scopes events values buckets ledger) result.outcome (are scopes events values buckets result.ledger) }
 {
     let c = plan.c;
     let inside = plan.inside;
@@ -525,7 +524,7 @@ pub fn restarts(
     plan: Plan,
 ) -> Stepped
     requires { Held image.now (rows scopes events values buckets ledger) }
-    ensures { Steps (was image) (restarts_on (was image) plan) (were scopes events values buckets ledger) result.outcome (are scopes events values buckets result.ledger) }
+    ensures { Steps image.now (restarts_on image.now plan) (were scopes events values buckets ledger) result.outcome (are scopes events values buckets result.ledger) }
 {
     let set = plan.inside;
     let there = plan.c;

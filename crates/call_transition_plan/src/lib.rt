@@ -2,7 +2,6 @@
 // What the steps must know of the table and the modes comes in here, in `Plan` and `Planned`; they take it by value and work nothing out twice.
 ghost use Rattle.std.specs.Prelude.{◌≡◌, true, ◌&&◌, map, ◌≤◌, ◌<◌, length};
 ghost use Rattle.lists.specs.Lists.{from};
-ghost use Rattle.lists.specs.Lent.{was};
 ghost use Rattle.table_rows.specs.Lineage.{in_subtree};
 ghost use Rattle.table_schedule.specs.Schedule.{is_active};
 ghost use Rattle.table.specs.Check.{is_table};
@@ -40,7 +39,7 @@ pub struct Request {
 // The target scope's subtree, itself included.
 fn subtree(image: &[u8], target: u16) -> KeySet
     requires { is_table image.now ≡ true }
-    ensures { Marks (in_subtree (was image) target) (scopes_in (was image)) result.words }
+    ensures { Marks (in_subtree image.now target) (scopes_in image.now) result.words }
 {
     let n = table_rows::count(image, table_rows::SCOPE);
     let mut set = KeySet::empty();
@@ -56,7 +55,7 @@ fn subtree(image: &[u8], target: u16) -> KeySet
 // None for a history transition.
 fn subtree_if(image: &[u8], reset: bool, target: u16) -> KeySet
     requires { is_table image.now ≡ true }
-    ensures { Marks (λ i. reset && in_subtree (was image) target i) (scopes_in (was image)) result.words }
+    ensures { Marks (λ i. reset && in_subtree image.now target i) (scopes_in image.now) result.words }
 {
     if reset {
         return subtree(image, target);
@@ -67,7 +66,7 @@ fn subtree_if(image: &[u8], reset: bool, target: u16) -> KeySet
 // The scopes that are active by the modes.
 fn active_scopes(image: &[u8], modes: &[u16]) -> KeySet
     requires { is_table image.now ≡ true }
-    ensures { Marks (is_active (was image) (was modes)) (scopes_in (was image)) result.words }
+    ensures { Marks (is_active image.now modes.now) (scopes_in image.now) result.words }
 {
     let n = table_rows::count(image, table_rows::SCOPE);
     let mut set = KeySet::empty();
@@ -85,7 +84,7 @@ fn active_scopes(image: &[u8], modes: &[u16]) -> KeySet
 // A reactor's mode from now on: the one asked for, its initial one in the reset subtree, or as it was.
 fn mode_after(image: &[u8], modes: &[u16; MOST_REACTORS], request: Request, reactor: u16) -> u16
     requires { (length modes.now ≡ most_reactors) × (reactor < most_reactors) }
-    ensures { result ≡ mode_after (was image) (was modes) request reactor }
+    ensures { result ≡ mode_after image.now modes.now request reactor }
 {
     if reactor == request.reactor {
         return request.mode;
@@ -111,7 +110,7 @@ fn new_modes(
     n: u16,
 ) -> [u16; MOST_REACTORS]
     requires { (length modes.now ≡ most_reactors) × (n ≤ most_reactors) }
-    ensures { result ≡ padded 0 most_reactors (map (mode_after (was image) (was modes) request) (from 0 n)) }
+    ensures { result ≡ padded 0 most_reactors (map (mode_after image.now modes.now request) (from 0 n)) }
 {
     let mut out = [0u16; MOST_REACTORS];
     let mut i: u16 = 0;
@@ -130,7 +129,7 @@ pub fn plan_of(image: &[u8], modes: &[u16; MOST_REACTORS], request: Request) -> 
     requires image_value { is_table image.now ≡ true }
     requires modes_len { length modes.now ≡ most_reactors }
     requires reactor_bound { request.reactor < reactors_in image.now }
-    ensures { Planned (was image) (was modes) request result }
+    ensures { Planned image.now modes.now request result }
 {
     let target = table_rows::mode_scope(image, request.mode);
     let inside = subtree_if(image, request.reset, target);

@@ -1,7 +1,6 @@
 // What a reset clears, on the room's rows: document 01, "drop all local events and set L and S to zero; clear the values and buckets".
 // The modes are the plan's. What else a reset clears comes in here, in `reset`, and in the machine's `step1`.
 ghost use Rattle.std.specs.Prelude.{◌≡◌, true, ◌≤◌, map, length, get_or, set, take};
-ghost use Rattle.lists.specs.Lent.{was, is};
 ghost use Rattle.lists.specs.Lists.{lose, over};
 ghost use Rattle.table_rows.specs.Limits.{limits};
 ghost use Rattle.table.specs.Check.{is_table};
@@ -35,8 +34,8 @@ fn drop_events(
     inside: KeySet,
 ) -> state_room::Counts
     requires { Waits events.old counts }
-    ensures waits { Waits (is events) result }
-    ensures counts_value { (t : State) → dropped_in inside.words (queue_in t (was events) counts) ≡ queue_in t (is events) result }
+    ensures waits { Waits events.new result }
+    ensures counts_value { (t : State) → dropped_in inside.words (queue_in t events.old counts) ≡ queue_in t events.new result }
 {
     let which = Which {
         by_tag: false,
@@ -74,7 +73,7 @@ fn zeroed(s: Scope) -> Scope
 // The same in row i, where i is in the set.
 fn zero_if(scopes: &mut [u64; state_scopes::ROOM], inside: KeySet, i: u16)
     requires { scope.Whole scopes.old }
-    ensures { scope.Held (is scopes) (set (scopes_of (was scopes)) i (scope_after inside.words i (get_or (scopes_of (was scopes)) i blank))) }
+    ensures { scope.Held scopes.new (set (scopes_of scopes.old) i (scope_after inside.words i (get_or (scopes_of scopes.old) i blank))) }
 {
     let k = i as usize;
     if !inside.contains(k) {
@@ -89,7 +88,7 @@ fn zero_if(scopes: &mut [u64; state_scopes::ROOM], inside: KeySet, i: u16)
 fn zero_clocks(image: &[u8], scopes: &mut [u64; state_scopes::ROOM], inside: KeySet)
     requires image_value { is_table image.now ≡ true }
     requires scoped { Scoped (take (scopes_in image.now) (scopes_of scopes.old)) scopes.old }
-    ensures { Scoped (zeroed_scopes inside.words (take (scopes_in (was image)) (scopes_of (was scopes)))) (is scopes) }
+    ensures { Scoped (zeroed_scopes inside.words (take (scopes_in image.now) (scopes_of scopes.old))) scopes.new }
 {
     let n = table_rows::count(image, table_rows::SCOPE);
     let mut i: u16 = 0;
@@ -103,7 +102,7 @@ fn zero_clocks(image: &[u8], scopes: &mut [u64; state_scopes::ROOM], inside: Key
 
 // A logical action of the table whose scope is in the set.
 fn is_cleared(image: &[u8], inside: KeySet, a: u16) -> bool
-    ensures { result ≡ clears (was image) inside.words a }
+    ensures { result ≡ clears image.now inside.words a }
 {
     let n = table_rows::count(image, table_rows::ACTION);
     if a < n {
@@ -119,8 +118,8 @@ fn is_cleared(image: &[u8], inside: KeySet, a: u16) -> bool
 fn keep_values(image: &[u8], values: &mut ValueRows, inside: KeySet, n: usize) -> usize
     requires whole_values { WholeValues values.old }
     requires n_le_room_for_entries { n ≤ room_for_entries }
-    ensures value { result ≡ length (lose (clears_value (was image) inside.words) (take n (values_of (was values)))) }
-    ensures held_values { HeldValues (is values) (over (lose (clears_value (was image) inside.words) (take n (values_of (was values)))) (values_of (was values))) }
+    ensures value { result ≡ length (lose (clears_value image.now inside.words) (take n (values_of values.old))) }
+    ensures held_values { HeldValues values.new (over (lose (clears_value image.now inside.words) (take n (values_of values.old))) (values_of values.old)) }
 {
     let mut w: usize = 0;
     let mut i: usize = 0;
@@ -139,8 +138,8 @@ fn keep_values(image: &[u8], values: &mut ValueRows, inside: KeySet, n: usize) -
 fn keep_buckets(image: &[u8], buckets: &mut BucketRows, inside: KeySet, n: usize) -> usize
     requires whole_buckets { WholeBuckets buckets.old }
     requires n_le_room_for_entries { n ≤ room_for_entries }
-    ensures value { result ≡ length (lose (clears_bucket (was image) inside.words) (take n (buckets_of (was buckets)))) }
-    ensures held_buckets { HeldBuckets (is buckets) (over (lose (clears_bucket (was image) inside.words) (take n (buckets_of (was buckets)))) (buckets_of (was buckets))) }
+    ensures value { result ≡ length (lose (clears_bucket image.now inside.words) (take n (buckets_of buckets.old))) }
+    ensures held_buckets { HeldBuckets buckets.new (over (lose (clears_bucket image.now inside.words) (take n (buckets_of buckets.old))) (buckets_of buckets.old)) }
 {
     let mut w: usize = 0;
     let mut i: usize = 0;
@@ -164,8 +163,8 @@ fn clear_actions(
     held: store_calls::Counts,
 ) -> store_calls::Counts
     requires { Keeps (limits image.now).held values.old buckets.old held }
-    ensures keeps { Keeps (limits (was image)).held (is values) (is buckets) result }
-    ensures result_value { store_of (is values) (is buckets) result ≡ cleared_all (was image) inside.words (store_of (was values) (was buckets) held) }
+    ensures keeps { Keeps (limits image.now).held values.new buckets.new result }
+    ensures result_value { store_of values.new buckets.new result ≡ cleared_all image.now inside.words (store_of values.old buckets.old held) }
 {
     let n = held.values;
     let m = held.buckets;
@@ -192,7 +191,7 @@ pub fn reset(
 ) -> Ledger
     requires inner { Inner image.now plan }
     requires held { Held image.now (rows scopes events values buckets ledger) }
-    ensures { Resets (was image) plan (were scopes events values buckets ledger) (are scopes events values buckets result) }
+    ensures { Resets image.now plan (were scopes events values buckets ledger) (are scopes events values buckets result) }
 {
     let inside = plan.inside;
     let f = inside.lowest_from(0);

@@ -2,7 +2,6 @@
 // No test of the state rules is made on the way: every call keeps them (crate machine_rules_kept). Records come in pieces of any size; a piece's run takes as many
 // whole ones as there are. A new op comes in here in `op_of`; what else is made of an answer, beside `say`.
 ghost use Rattle.std.specs.Prelude.{◌≡◌, true, ◌+◌, ◌≤◌, length};
-ghost use Rattle.lists.specs.Lent.{was, is};
 ghost use Rattle.machine.specs.State.{State, fresh as fresh_state};
 ghost use Rattle.state_events.specs.Slots.{room_for_events};
 ghost use Rattle.machine.specs.Machine.{rules};
@@ -40,8 +39,8 @@ pub struct Pieces {
 // A fresh manager over an accepted table.
 pub fn start(image: &[u8]) -> Room
     requires { is_table image.now ≡ true }
-    ensures kept { Kept (was image) (rows_of result) }
-    ensures result_value { state_in (was image) (rows_of result) ≡ fresh_state (was image) }
+    ensures kept { Kept image.now (rows_of result) }
+    ensures result_value { state_in image.now (rows_of result) ≡ fresh_state image.now }
 {
     state_fresh::room(image)
 }
@@ -59,7 +58,7 @@ enum Next {
 
 fn next_at(bytes: &[u8], at: usize) -> Next
     requires { at ≤ length bytes.now }
-    ensures { of_next result ≡ next_at (was bytes) at }
+    ensures { of_next result ≡ next_at bytes.now at }
 {
     let left = bytes.len() - at;
     if left < day_records::LENGTH_BYTES {
@@ -80,7 +79,7 @@ fn next_at(bytes: &[u8], at: usize) -> Next
 // The record whose length counts n bytes, its reaction keys over the front of the array.
 fn read(bytes: &[u8], at: usize, n: usize, keys: &mut [u16; day_records::MOST_KEYS]) -> Parsed
     requires { (at + 4 + n ≤ length bytes.now) × (length keys.old ≡ most_keys) }
-    ensures { Parses result (was keys) (is keys) (body_at (was bytes) at n) }
+    ensures { Parses result keys.old keys.new (body_at bytes.now at n) }
 {
     let start = at + day_records::LENGTH_BYTES;
     let end = start + n;
@@ -166,10 +165,10 @@ fn take_record(
     requires kept { Kept image.now (rows scopes events values buckets given) }
     requires headed { Headed heads.old events.old given.counts }
     requires actions_len { (length actions.old ≡ room_for_events) × (key_count parsed ≤ length keys.now) × (spare_room ≤ length spare.old) }
-    ensures taking { Taking (was image) (were scopes events values buckets given) (of_parsed parsed (was keys))
-        (line_from (was image) result (is actions)) (are scopes events values buckets result.performed.ledger) }
-    ensures headed_2 { Headed (is heads) (is events) result.performed.ledger.counts }
-    ensures actions_len_2 { (length (is actions) ≡ room_for_events) × (result.performed.gathered.actions ≤ room_for_events) }
+    ensures taking { Taking image.now (were scopes events values buckets given) (of_parsed parsed keys.now)
+        (line_from image.now result actions.new) (are scopes events values buckets result.performed.ledger) }
+    ensures headed_2 { Headed heads.new events.new result.performed.ledger.counts }
+    ensures actions_len_2 { (length actions.new ≡ room_for_events) × (result.performed.gathered.actions ≤ room_for_events) }
 {
     match op_of(parsed) {
         Op::Call(call) => {
@@ -214,7 +213,7 @@ fn say_answer(
 ) -> usize
     requires at_in_bounds { at ≤ length out.old }
     requires actions_len { (length actions.now ≡ room_for_events) × (p.gathered.actions ≤ room_for_events) }
-    ensures { Written (was out) at (line_of (was image) (reply_of p (was actions))) (is out) result }
+    ensures { Written out.old at (line_of image.now (reply_of p actions.now)) out.new result }
 {
     if p.found {
         let tag = p.tag;
@@ -244,7 +243,7 @@ fn say(
 ) -> usize
     requires at_in_bounds { at ≤ length out.old }
     requires actions_len { (length actions.now ≡ room_for_events) × (t.performed.gathered.actions ≤ room_for_events) }
-    ensures { Written (was out) at (line_from (was image) t (was actions)) (is out) result }
+    ensures { Written out.old at (line_from image.now t actions.now) out.new result }
 {
     if t.malformed {
         return day_lines::write_refused(out, at, 1);
@@ -276,9 +275,9 @@ fn run_rows(
     out: &mut [u8],
 ) -> Run
     requires { Kept image.now (rows scopes events values buckets given) }
-    ensures kept { Kept (was image) (are scopes events values buckets result.ledger) }
-    ensures run_rows { RunRows (was image) (were scopes events values buckets given) (are scopes events values buckets result.ledger) result.used result.written result.ended
-        (was bytes) (was out) (is out) }
+    ensures kept { Kept image.now (are scopes events values buckets result.ledger) }
+    ensures run_rows { RunRows image.now (were scopes events values buckets given) (are scopes events values buckets result.ledger) result.used result.written result.ended
+        bytes.now out.old out.new }
 {
     let mut ledger = given;
     let mut heads = state_queues::heads(events, given.counts.waiting);
@@ -329,8 +328,8 @@ fn run_rows(
 // The same by value.
 pub fn run_records(image: &[u8], day: Room, bytes: &[u8], out: &mut [u8]) -> Pieces
     requires { Kept image.now (rows_of day) }
-    ensures kept { Kept (was image) (rows_of result.day) }
-    ensures pieced { Pieced (was image) (ran (was image) (was bytes) (state_in (was image) (rows_of day)) (length (was out))) result (was bytes) (was out) (is out) }
+    ensures kept { Kept image.now (rows_of result.day) }
+    ensures pieced { Pieced image.now (ran image.now bytes.now (state_in image.now (rows_of day)) (length out.old)) result bytes.now out.old out.new }
 {
     let mut scopes = day.scopes;
     let mut events = day.events;
@@ -370,7 +369,7 @@ pub const IMAGE_LENGTH_BYTES: usize = 4;
 
 // Where the image ends that a day begins with.
 pub fn image_end(day: &[u8]) -> usize
-    ensures { result ≡ image_end (was day) }
+    ensures { result ≡ image_end day.now }
 {
     let n = table_rows::four_bytes(day, 0);
     n as usize + IMAGE_LENGTH_BYTES
@@ -378,7 +377,7 @@ pub fn image_end(day: &[u8]) -> usize
 
 // The image by its length: cut short, longer than the largest, or checked.
 pub fn open(day: &[u8]) -> Checked
-    ensures { result ≡ opened (was day) }
+    ensures { result ≡ opened day.now }
 {
     let end = image_end(day);
     if day.len() < end {
@@ -393,7 +392,7 @@ pub fn open(day: &[u8]) -> Checked
 // All records of a day, and what is said of the bytes at its end.
 fn run_whole(image: &[u8], records: &[u8], out: &mut [u8]) -> usize
     requires { is_table image.now ≡ true }
-    ensures { Written (was out) 0 (fitting (length (was out)) (answers_of (was image) (fresh_state (was image)) (records_from (was records) 0))) (is out) result }
+    ensures { Written out.old 0 (fitting (length out.old) (answers_of image.now (fresh_state image.now) (records_from records.now 0))) out.new result }
 {
     let day = start(image);
     let piece = run_records(image, day, records, out);
@@ -413,7 +412,7 @@ fn run_whole(image: &[u8], records: &[u8], out: &mut [u8]) -> usize
 
 // The lines of a whole day, an image and its records, over the front of the buffer: as many as there are while the longest line still has room.
 pub fn run_day(day: &[u8], out: &mut [u8]) -> usize
-    ensures { Written (was out) 0 (fitting (length (was out)) (day_answers (was day))) (is out) result }
+    ensures { Written out.old 0 (fitting (length out.old) (day_answers day.now)) out.new result }
 {
     if out.len() < LONGEST {
         return 0;

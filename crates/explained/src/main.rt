@@ -2,7 +2,6 @@
 // asks, what stood before, the line that the bench answers, and what stands after, a fact a line, as numbers. Folder words makes words and pictures of
 // them. A new fact comes in here as a line with its name; what it says is computed in day_telling and table_broken_rules.
 ghost use Rattle.std.specs.Prelude.{◌≡◌, true, ◌<◌, ◌≤◌, length};
-ghost use Rattle.lists.specs.Lent.{was, is};
 ghost use Rattle.day_records.specs.Records.{most_keys};
 ghost use Rattle.state_events.specs.Slots.{Whole, room_for_events};
 ghost use Rattle.table.specs.Check.{is_table};
@@ -405,7 +404,7 @@ fn take(
 ) -> usize
     requires whole { Whole events.old }
     requires waiting_le_room_for_events { waiting ≤ room_for_events }
-    ensures { Whole (is events) × (result ≤ room_for_events) }
+    ensures { Whole events.new × (result ≤ room_for_events) }
 {
     let stamp = h.stamp;
     say_place(desk, b"take", scopes, h.queue, stamp);
@@ -430,7 +429,7 @@ fn take_root(
 ) -> usize
     requires whole { Whole events.old }
     requires waiting_le_room_for_events { waiting ≤ room_for_events }
-    ensures { Whole (is events) × (result ≤ room_for_events) }
+    ensures { Whole events.new × (result ≤ room_for_events) }
 {
     match root_head(events, waiting) {
         Head::Empty => waiting,
@@ -685,7 +684,7 @@ fn say_end(desk: &mut Desk) {
 fn tell(desk: &mut Desk, image: &[u8], day: Room, bytes: &[u8]) -> Room
     requires kept { Kept image.now (rows_of day) }
     requires in_bounds { 4 ≤ length bytes.now }
-    ensures { Kept (was image) (rows_of result) }
+    ensures { Kept image.now (rows_of result) }
 {
     begin_record(desk, bytes);
     let parsed = say_asked(desk, image, &bytes[LENGTH..]);
@@ -745,7 +744,7 @@ fn say_cut(desk: &mut Desk, said: u64, there: u64) {
 // The next record over the front of the space; how many bytes it has, or 0 where the run ends.
 fn read_record(desk: &mut Desk, space: &mut [u8]) -> usize
     requires { 4096 ≤ length space.old }
-    ensures { (result ≤ length (is space)) × (length (is space) ≡ length (was space)) }
+    ensures { (result ≤ length space.new) × (length space.new ≡ length space.old) }
 {
     let got = io::read_full(STDIN_FILENO, &mut space[..LENGTH]);
     if got == 0 {
@@ -830,7 +829,7 @@ fn say_no_image(desk: &mut Desk, said: u64, there: u64) {
 // The image by its length, over the front of the space; how many bytes it has, or 0 where it is cut short or longer than the largest.
 fn read_image(desk: &mut Desk, space: &mut [u8]) -> usize
     requires { largest ≤ length space.old }
-    ensures { result ≤ length (is space) }
+    ensures { result ≤ length space.new }
 {
     let got = io::read_full(STDIN_FILENO, &mut space[..LENGTH]);
     if got < LENGTH {

@@ -1,7 +1,6 @@
 // The proved functions for programs in C and Rust: document 01, "Numbers and byte slices are exported to the Rust harness as C functions".
 // harness/barnshiver.h says what each number and byte is; a new function comes in here, there, and in the wrapper (harness/src).
 ghost use Rattle.std.specs.Prelude.{◌≡◌, true, [], ◌∷◌, ◌+◌, ◌≤◌, min, length};
-ghost use Rattle.lists.specs.Lent.{was, is};
 ghost use Rattle.table.specs.Check.{is_table, check};
 ghost use Rattle.call_pop.specs.Pops.{reply_of};
 ghost use Rattle.byte_writer.specs.Written.{Written};
@@ -31,7 +30,7 @@ const NO_ROOM: u8 = 255;
 // Numbers of eight bytes.
 fn put_words(bytes: &mut [u8], at: usize, words: &[u64]) -> usize
     requires { at ≤ length bytes.old }
-    ensures { Written (was bytes) at (word_bytes (was words)) (is bytes) result }
+    ensures { Written bytes.old at (word_bytes words.now) bytes.new result }
 {
     let mut end = at;
     let mut i: usize = 0;
@@ -52,7 +51,7 @@ fn wide(key: u16) -> u64
 // The same of shorter numbers.
 fn put_keys(bytes: &mut [u8], at: usize, keys: &[u16]) -> usize
     requires { at ≤ length bytes.old }
-    ensures { Written (was bytes) at (word_bytes (was keys)) (is bytes) result }
+    ensures { Written bytes.old at (word_bytes keys.now) bytes.new result }
 {
     let mut end = at;
     let mut i: usize = 0;
@@ -92,8 +91,8 @@ fn behind(bytes: &[u8], at: usize, n: usize) -> usize
 // The records piece by piece, their lines given up.
 fn run_all(image: &[u8], records: &[u8]) -> Room
     requires { is_table image.now ≡ true }
-    ensures kept { Kept (was image) (rows_of result) }
-    ensures result_value { state_in (was image) (rows_of result) ≡ after_all (was image) (was records) }
+    ensures kept { Kept image.now (rows_of result) }
+    ensures result_value { state_in image.now (rows_of result) ≡ after_all image.now records.now }
 {
     let mut day = day_run::start(image);
     let mut lines = [0u8; SCRATCH];
@@ -149,7 +148,7 @@ fn flag_word(b: bool) -> u64
 // The words before the arrays.
 fn first_words(image: &[u8], day: Room) -> [u64; FIRST_WORDS]
     requires { Kept image.now (rows_of day) }
-    ensures { result ≡ first_words (was image) (state_in (was image) (rows_of day)) }
+    ensures { result ≡ first_words image.now (state_in image.now (rows_of day)) }
 {
     let scopes = day.scopes;
     let events = day.events;
@@ -176,7 +175,7 @@ fn first_words(image: &[u8], day: Room) -> [u64; FIRST_WORDS]
 // All bytes of a state, over the front.
 fn put_state(state: &mut [u8], image: &[u8], day: Room) -> usize
     requires { Kept image.now (rows_of day) }
-    ensures { Written (was state) 0 (state_bytes (was image) (state_in (was image) (rows_of day))) (is state) result }
+    ensures { Written state.old 0 (state_bytes image.now (state_in image.now (rows_of day))) state.new result }
 {
     let first = first_words(image, day);
     let ledger = day.ledger;
@@ -196,7 +195,7 @@ fn put_state(state: &mut [u8], image: &[u8], day: Room) -> usize
 // The state after a day's records, over the front of the bytes: 0. Or the image's refusal, and they stay as they were.
 #[unsafe(no_mangle)]
 pub extern "C" fn barnshiver_state_after(day: &[u8], state: &mut [u8]) -> u8
-    ensures { told result (is state) ≡ state_told (was day) (was state) }
+    ensures { told result state.new ≡ state_told day.now state.old }
 {
     if state.len() < STATE_BYTES {
         return NO_ROOM;
@@ -218,7 +217,7 @@ pub extern "C" fn barnshiver_state_after(day: &[u8], state: &mut [u8]) -> u8
 // The lines of a day's answers over the front of the buffer, as many as there are while the longest line still has room; how many bytes they take.
 #[unsafe(no_mangle)]
 pub extern "C" fn barnshiver_run_day(day: &[u8], lines: &mut [u8]) -> usize
-    ensures { Written (was lines) 0 (fitting (length (was lines)) (day_answers (was day))) (is lines) result }
+    ensures { Written lines.old 0 (fitting (length lines.old) (day_answers day.now)) lines.new result }
 {
     day_run::run_day(day, lines)
 }
@@ -248,7 +247,7 @@ const PLACE_BYTES: usize = 8;
 // Whether an image is a table: 0, or the refusal's number; and its place.
 #[unsafe(no_mangle)]
 pub extern "C" fn barnshiver_check_table(image: &[u8], place: &mut [u8]) -> u8
-    ensures { told result (is place) ≡ check_told (check (was image)) (was place) }
+    ensures { told result place.new ≡ check_told (check image.now) place.old }
 {
     if place.len() < PLACE_BYTES {
         return NO_ROOM;
@@ -267,7 +266,7 @@ const HALF: u64 = 4294967296;
 // The image of counts and rows over the front of the buffer; or the refusal, and the buffer stays as it was.
 #[unsafe(no_mangle)]
 pub extern "C" fn barnshiver_write_table(counts: &[u8], rows: &[u8], buffer: &mut [u8]) -> u64
-    ensures { told result (is buffer) ≡ write_told (writing (was counts) (was rows) (was buffer)) }
+    ensures { told result buffer.new ≡ write_told (writing counts.now rows.now buffer.old) }
 {
     let answer = table_writer::write(counts, rows, buffer);
     let number = table_writer::number_of(answer) as u64;
@@ -281,7 +280,7 @@ pub extern "C" fn barnshiver_write_table(counts: &[u8], rows: &[u8], buffer: &mu
 const REPORT_HEAD: usize = 24;
 
 fn report_head(report: &[u8]) -> usize
-    ensures { result ≡ min report_head (length (was report)) }
+    ensures { result ≡ min report_head (length report.now) }
 {
     if report.len() < REPORT_HEAD {
         return report.len();
@@ -293,7 +292,7 @@ fn report_head(report: &[u8]) -> usize
 // the high half and its place in the low one, or 255 in the high half for too little room; and both stay as they were.
 #[unsafe(no_mangle)]
 pub extern "C" fn barnshiver_rescue(day: &[u8], output: &mut [u8], report: &mut [u8]) -> u64
-    ensures { answered result (is output) (is report) ≡ rescue_bytes (was day) (was output) (was report) }
+    ensures { answered result output.new report.new ≡ rescue_bytes day.now output.old report.old }
 {
     let head = report_head(report);
     match day_rescue::rescue(day, output, &mut report[head..]) {
@@ -324,7 +323,7 @@ const TAG_BYTES: usize = 12;
 const MAPPED_BYTES: usize = 13;
 
 fn is_clock(clock: &[u8]) -> bool
-    ensures { result ≡ is_clock (was clock) }
+    ensures { result ≡ is_clock clock.now }
 {
     if clock.len() == CLOCK_BYTES {
         return day_records::is_bit(clock, 24);
@@ -333,7 +332,7 @@ fn is_clock(clock: &[u8]) -> bool
 }
 
 fn clock_in(clock: &[u8]) -> ScopeClock
-    ensures { of_clock result ≡ clock_in (was clock) }
+    ensures { of_clock result ≡ clock_in clock.now }
 {
     let g = day_records::tag_at(clock, 0);
     let l = day_records::tag_at(clock, 12);
@@ -348,7 +347,7 @@ fn clock_in(clock: &[u8]) -> ScopeClock
 }
 
 fn mapped_local(clock: &[u8], tag: GlobalTag) -> MappedLocal
-    ensures { mapped_local result ≡ mapped global_to_local (was clock) (at tag.0 tag.1) }
+    ensures { mapped_local result ≡ mapped global_to_local clock.now (at tag.0 tag.1) }
 {
     if is_clock(clock) {
         let c = clock_in(clock);
@@ -358,7 +357,7 @@ fn mapped_local(clock: &[u8], tag: GlobalTag) -> MappedLocal
 }
 
 fn mapped_global(clock: &[u8], tag: LocalTag) -> MappedGlobal
-    ensures { mapped_global result ≡ mapped local_to_global (was clock) (at tag.0 tag.1) }
+    ensures { mapped_global result ≡ mapped local_to_global clock.now (at tag.0 tag.1) }
 {
     if is_clock(clock) {
         let c = clock_in(clock);
@@ -369,7 +368,7 @@ fn mapped_global(clock: &[u8], tag: LocalTag) -> MappedGlobal
 
 // A tag as a record has it, over the front.
 fn put_tag(tag: &mut [u8], offset: u64, microstep: u32) -> usize
-    ensures { Written (was tag) 0 (tag_bytes (at offset microstep)) (is tag) result }
+    ensures { Written tag.old 0 (tag_bytes (at offset microstep)) tag.new result }
 {
     let next = byte_writer::put_number(tag, 0, 8, offset);
     byte_writer::put_number(tag, next, 4, microstep as u64)
@@ -383,7 +382,7 @@ pub extern "C" fn barnshiver_global_to_local(
     microstep: u32,
     tag: &mut [u8],
 ) -> u8
-    ensures { told result (is tag) ≡ map_told tag_bytes 12 (mapped global_to_local (was clock) (at offset microstep)) (was tag) }
+    ensures { told result tag.new ≡ map_told tag_bytes 12 (mapped global_to_local clock.now (at offset microstep)) tag.old }
 {
     if tag.len() < TAG_BYTES {
         return NO_ROOM;
@@ -405,7 +404,7 @@ pub extern "C" fn barnshiver_local_to_global(
     microstep: u32,
     tag: &mut [u8],
 ) -> u8
-    ensures { told result (is tag) ≡ map_told mapped_bytes 13 (mapped local_to_global (was clock) (at offset microstep)) (was tag) }
+    ensures { told result tag.new ≡ map_told mapped_bytes 13 (mapped local_to_global clock.now (at offset microstep)) tag.old }
 {
     if tag.len() < MAPPED_BYTES {
         return NO_ROOM;

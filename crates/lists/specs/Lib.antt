@@ -12,4 +12,3 @@ pub mod Marks
 pub mod Changes
 pub mod Every
 pub mod Each
-pub mod Lent

@@ -8,7 +8,6 @@
 //   push_value -> push_value, next_step -> next_value_microstep, take_value -> take_value,
 //   clear_before -> clear_values_older_than, move_value -> move_value, clear_action -> clear_values.
 ghost use Rattle.std.specs.Prelude.{false, cond, ◌||◌, ◌≡◌, List, [], map, ℕ, ◌≤◌, min, length, take, replicate};
-ghost use Rattle.lists.specs.Lent.{was, is};
 ghost use Rattle.tags.specs.Views.{of_clock, of_global};
 ghost use Rattle.store_words.specs.Entries.{room_for_entries, blank_value, blank_bucket, of_value, of_bucket};
 ghost use Rattle.store_words.specs.Words.{HeldValues, HeldBuckets};
@@ -89,7 +88,7 @@ fn lay_scopes(
     n: usize,
 )
     requires { scope.Held rows.old (replicate most_scopes scope.blank) }
-    ensures scoped { Scoped (take n (joined (map of_clock clocks) active ever)) (is rows) }
+    ensures scoped { Scoped (take n (joined (map of_clock clocks) active ever)) rows.new }
     ensures clocks_len { (length clocks ≡ most_scopes) × (length active ≡ most_scopes) × (length ever ≡ most_scopes) }
 {
     let end = at_most(n, MOST_SCOPES);
@@ -110,7 +109,7 @@ fn lay_scopes(
 
 fn lay_slots(rows: &mut [u64; state_events::ROOM], slots: [Slot; ROOM_FOR_EVENTS], n: usize)
     requires { slot.Held rows.old (replicate room_for_events slot.blank) }
-    ensures held { slot.Held (is rows) (padded slot.blank room_for_events (take n (map event_of slots))) }
+    ensures held { slot.Held rows.new (padded slot.blank room_for_events (take n (map event_of slots))) }
     ensures slots_len { length slots ≡ room_for_events }
 {
     let end = at_most(n, ROOM_FOR_EVENTS);
@@ -124,7 +123,7 @@ fn lay_slots(rows: &mut [u64; state_events::ROOM], slots: [Slot; ROOM_FOR_EVENTS
 
 fn lay_values(rows: &mut ValueRows, values: [Value; ROOM_FOR_ENTRIES], n: usize)
     requires { HeldValues rows.old (replicate room_for_entries blank_value) }
-    ensures held_values { HeldValues (is rows) (padded blank_value room_for_entries (take n (map of_value values))) }
+    ensures held_values { HeldValues rows.new (padded blank_value room_for_entries (take n (map of_value values))) }
     ensures values_len { length values ≡ room_for_entries }
 {
     let end = at_most(n, ROOM_FOR_ENTRIES);
@@ -138,7 +137,7 @@ fn lay_values(rows: &mut ValueRows, values: [Value; ROOM_FOR_ENTRIES], n: usize)
 
 fn lay_buckets(rows: &mut BucketRows, buckets: [Bucket; ROOM_FOR_ENTRIES], n: usize)
     requires { HeldBuckets rows.old (replicate room_for_entries blank_bucket) }
-    ensures held_buckets { HeldBuckets (is rows) (padded blank_bucket room_for_entries (take n (map of_bucket buckets))) }
+    ensures held_buckets { HeldBuckets rows.new (padded blank_bucket room_for_entries (take n (map of_bucket buckets))) }
     ensures buckets_len { length buckets ≡ room_for_entries }
 {
     let end = at_most(n, ROOM_FOR_ENTRIES);
@@ -159,7 +158,7 @@ fn unpack(
     m: Manager,
 ) -> Ledger
     requires { Blank scopes.old events.old values.old buckets.old }
-    ensures { Unpacks (was image) (arrays_of m) (are scopes events values buckets result) }
+    ensures { Unpacks image.now (arrays_of m) (are scopes events values buckets result) }
 {
     let scope_count = table_rows::count(image, table_rows::SCOPE);
     let reactor_count = table_rows::count(image, table_rows::REACTOR);
@@ -194,7 +193,7 @@ fn unpack(
 // ---- and back
 
 fn slots_of(rows: &[u64; state_events::ROOM]) -> [Slot; ROOM_FOR_EVENTS]
-    ensures { map event_of result ≡ events_of (was rows) }
+    ensures { map event_of result ≡ events_of rows.now }
 {
     let blank = Slot::blank();
     let mut out = [blank; ROOM_FOR_EVENTS];
@@ -208,7 +207,7 @@ fn slots_of(rows: &[u64; state_events::ROOM]) -> [Slot; ROOM_FOR_EVENTS]
 }
 
 fn clocks_of(rows: &[u64; state_scopes::ROOM]) -> [ScopeClock; MOST_SCOPES]
-    ensures { map of_clock result ≡ map (λ x. x.clock) (scopes_of (was rows)) }
+    ensures { map of_clock result ≡ map (λ x. x.clock) (scopes_of rows.now) }
 {
     let blank = ScopeClock::fresh(false);
     let mut out = [blank; MOST_SCOPES];
@@ -223,7 +222,7 @@ fn clocks_of(rows: &[u64; state_scopes::ROOM]) -> [ScopeClock; MOST_SCOPES]
 }
 
 fn active_of(rows: &[u64; state_scopes::ROOM]) -> [bool; MOST_SCOPES]
-    ensures { result ≡ map (λ x. x.active) (scopes_of (was rows)) }
+    ensures { result ≡ map (λ x. x.active) (scopes_of rows.now) }
 {
     let mut out = [false; MOST_SCOPES];
     let mut i: usize = 0;
@@ -236,7 +235,7 @@ fn active_of(rows: &[u64; state_scopes::ROOM]) -> [bool; MOST_SCOPES]
 }
 
 fn ever_of(rows: &[u64; state_scopes::ROOM]) -> [bool; MOST_SCOPES]
-    ensures { result ≡ map (λ x. x.ever) (scopes_of (was rows)) }
+    ensures { result ≡ map (λ x. x.ever) (scopes_of rows.now) }
 {
     let mut out = [false; MOST_SCOPES];
     let mut i: usize = 0;
@@ -465,7 +464,7 @@ struct Called {
 
 // To rows, 11, the call there, and back.
 fn step_on(m: Manager, image: &[u8], call: Call, keys: &[u16]) -> Called
-    ensures result_value { called_of result ≡ step_on (was image) (arrays_of m) (call_of call (was keys)) }
+    ensures result_value { called_of result ≡ step_on image.now (arrays_of m) (call_of call keys.now) }
     ensures actions_le_room_for_events { (result.performed.gathered.actions ≤ room_for_events) × TellsOrEleven call result.performed }
 {
     let mut scopes = state_scopes::blank_rows();
@@ -517,7 +516,7 @@ fn step_on(m: Manager, image: &[u8], call: Call, keys: &[u16]) -> Called
 // A call that is no pop.
 fn answer_to(m: Manager, image: &[u8], call: Call, keys: &[u16]) -> Answered
     requires { is_pop call ≡ false }
-    ensures { answered_of result ≡ step_on (was image) (arrays_of m) (call_of call (was keys)) }
+    ensures { answered_of result ≡ step_on image.now (arrays_of m) (call_of call keys.now) }
 {
     let c = step_on(m, image, call, keys);
     let p = c.performed;
@@ -529,7 +528,7 @@ fn answer_to(m: Manager, image: &[u8], call: Call, keys: &[u16]) -> Answered
 // One with no reaction keys.
 fn ask_of(m: Manager, image: &[u8], call: Call) -> Answered
     requires { is_pop call ≡ false }
-    ensures { answered_of result ≡ step_on (was image) (arrays_of m) (call_of call []) }
+    ensures { answered_of result ≡ step_on image.now (arrays_of m) (call_of call []) }
 {
     answer_to(m, image, call, &[])
 }
@@ -583,8 +582,8 @@ fn popped_of(c: Called) -> Popped
 impl Manager {
     // The initial modes, and nothing waits or is held.
     pub fn fresh(image: &[u8]) -> Fresh
-        ensures checked_value { result.checked ≡ check (was image) }
-        ensures manager_value { arrays_of result.manager ≡ fresh_over (was image) }
+        ensures checked_value { result.checked ≡ check image.now }
+        ensures manager_value { arrays_of result.manager ≡ fresh_over image.now }
     {
         let checked = table::check(image);
         match checked {
@@ -606,28 +605,28 @@ impl Manager {
 
     // A plain event, to the root at its tag.
     pub fn push_event(self, image: &[u8], tag: GlobalTag, terminal: bool, keys: &[u16]) -> Answered
-        ensures { answered_of result ≡ step_on (was image) (arrays_of self) (plain (of_global tag) terminal (was keys)) }
+        ensures { answered_of result ≡ step_on image.now (arrays_of self) (plain (of_global tag) terminal keys.now) }
     {
         answer_to(self, image, Call::Push(Push::Plain(tag, terminal)), keys)
     }
 
     // An event from the network, to the root at its tag.
     pub fn push_network_event(self, image: &[u8], tag: GlobalTag, keys: &[u16]) -> Answered
-        ensures { answered_of result ≡ step_on (was image) (arrays_of self) (network (of_global tag) (was keys)) }
+        ensures { answered_of result ≡ step_on image.now (arrays_of self) (network (of_global tag) keys.now) }
     {
         answer_to(self, image, Call::Push(Push::Network(tag)), keys)
     }
 
     // A control event, to the root at its tag.
     pub fn push_control_event(self, image: &[u8], tag: GlobalTag) -> Answered
-        ensures { answered_of result ≡ step_on (was image) (arrays_of self) (control (of_global tag)) }
+        ensures { answered_of result ≡ step_on image.now (arrays_of self) (control (of_global tag)) }
     {
         ask_of(self, image, Call::Push(Push::Control(tag)))
     }
 
     // An action's event, to the root or to its scope at the local tag.
     pub fn push_action_event(self, image: &[u8], push: ActionPush, keys: &[u16]) -> Answered
-        ensures { answered_of result ≡ step_on (was image) (arrays_of self) (action push.action (of_global push.tag) push.terminal (was keys)) }
+        ensures { answered_of result ≡ step_on image.now (arrays_of self) (action push.action (of_global push.tag) push.terminal keys.now) }
     {
         answer_to(self, image, Call::Push(Push::Action(push)), keys)
     }
@@ -636,7 +635,7 @@ impl Manager {
 
     // A reactor goes to one of its modes, by a reset or by history.
     pub fn apply_transition(self, image: &[u8], request: Request) -> Answered
-        ensures { answered_of result ≡ step_on (was image) (arrays_of self) (transit request.reactor request.mode request.reset (of_global request.c)) }
+        ensures { answered_of result ≡ step_on image.now (arrays_of self) (transit request.reactor request.mode request.reset (of_global request.c)) }
     {
         ask_of(self, image, Call::Transition(request))
     }
@@ -645,28 +644,28 @@ impl Manager {
 
     // The least head's tag over root and active scopes.
     pub fn peek_tag(self, image: &[u8]) -> Answered
-        ensures { answered_of result ≡ step_on (was image) (arrays_of self) peek_tag }
+        ensures { answered_of result ≡ step_on image.now (arrays_of self) peek_tag }
     {
         ask_of(self, image, Call::Ask(Question::PeekTag))
     }
 
     // Only control events of the root are at the peek tag.
     pub fn peek_is_control_only(self, image: &[u8]) -> Answered
-        ensures { answered_of result ≡ step_on (was image) (arrays_of self) only_control }
+        ensures { answered_of result ≡ step_on image.now (arrays_of self) only_control }
     {
         ask_of(self, image, Call::Ask(Question::ControlOnly))
     }
 
     // How many ordinary events wait, those of suspended scopes too.
     pub fn nonterminal_work(self, image: &[u8]) -> Answered
-        ensures { answered_of result ≡ step_on (was image) (arrays_of self) ordinary_work }
+        ensures { answered_of result ≡ step_on image.now (arrays_of self) ordinary_work }
     {
         ask_of(self, image, Call::Ask(Question::OrdinaryWork))
     }
 
     // Some ordinary event waits.
     pub fn has_nonterminal_work(self, image: &[u8]) -> Answered
-        ensures { answered_of result ≡ some_work (step_on (was image) (arrays_of self) ordinary_work) }
+        ensures { answered_of result ≡ some_work (step_on image.now (arrays_of self) ordinary_work) }
     {
         let r = ask_of(self, image, Call::Ask(Question::OrdinaryWork));
         let said = r.answer;
@@ -677,14 +676,14 @@ impl Manager {
 
     // The scope is active now.
     pub fn scope_active(self, image: &[u8], scope: u16) -> Answered
-        ensures { answered_of result ≡ step_on (was image) (arrays_of self) (active_now scope) }
+        ensures { answered_of result ≡ step_on image.now (arrays_of self) (active_now scope) }
     {
         ask_of(self, image, Call::Ask(Question::Active(scope)))
     }
 
     // The scope was active at some time.
     pub fn scope_ever_active(self, image: &[u8], scope: u16) -> Answered
-        ensures { answered_of result ≡ step_on (was image) (arrays_of self) (ever_active scope) }
+        ensures { answered_of result ≡ step_on image.now (arrays_of self) (ever_active scope) }
     {
         ask_of(self, image, Call::Ask(Question::EverActive(scope)))
     }
@@ -693,7 +692,7 @@ impl Manager {
 
     // Pushing again overwrites; the bucket rises to the largest pushed plus one, held at the limit.
     pub fn push_value(self, image: &[u8], action: u16, tag: GlobalTag, value: u64) -> Answered
-        ensures { answered_of result ≡ step_on (was image) (arrays_of self) (push_value action (of_global tag) value) }
+        ensures { answered_of result ≡ step_on image.now (arrays_of self) (push_value action (of_global tag) value) }
     {
         ask_of(
             self,
@@ -710,7 +709,7 @@ impl Manager {
         offset: u64,
         least: u32,
     ) -> Answered
-        ensures { answered_of result ≡ step_on (was image) (arrays_of self) (next_step action offset least) }
+        ensures { answered_of result ≡ step_on image.now (arrays_of self) (next_step action offset least) }
     {
         ask_of(
             self,
@@ -721,7 +720,7 @@ impl Manager {
 
     // "Nothing" for a value not held; the bucket stays.
     pub fn take_value(self, image: &[u8], action: u16, tag: GlobalTag) -> Answered
-        ensures { answered_of result ≡ step_on (was image) (arrays_of self) (take_value action (of_global tag)) }
+        ensures { answered_of result ≡ step_on image.now (arrays_of self) (take_value action (of_global tag)) }
     {
         ask_of(
             self,
@@ -732,7 +731,7 @@ impl Manager {
 
     // The action's values before the tag, and the buckets that have none left.
     pub fn clear_values_older_than(self, image: &[u8], action: u16, tag: GlobalTag) -> Answered
-        ensures { answered_of result ≡ step_on (was image) (arrays_of self) (clear_before action (of_global tag)) }
+        ensures { answered_of result ≡ step_on image.now (arrays_of self) (clear_before action (of_global tag)) }
     {
         ask_of(
             self,
@@ -743,7 +742,7 @@ impl Manager {
 
     // A take and then a push; nothing for equal tags or a value not held.
     pub fn move_value(self, image: &[u8], action: u16, old: GlobalTag, new: GlobalTag) -> Answered
-        ensures { answered_of result ≡ step_on (was image) (arrays_of self) (move_value action (of_global old) (of_global new)) }
+        ensures { answered_of result ≡ step_on image.now (arrays_of self) (move_value action (of_global old) (of_global new)) }
     {
         ask_of(
             self,
@@ -754,7 +753,7 @@ impl Manager {
 
     // All that the action has.
     pub fn clear_values(self, image: &[u8], action: u16) -> Answered
-        ensures { answered_of result ≡ step_on (was image) (arrays_of self) (clear_action action) }
+        ensures { answered_of result ≡ step_on image.now (arrays_of self) (clear_action action) }
     {
         ask_of(self, image, Call::Value(value_store::Call::Clear(action)))
     }
@@ -763,7 +762,7 @@ impl Manager {
 
     // The events at the peek tag: the root's, then the scopes'.
     pub fn pop_next_event(self, image: &[u8]) -> Popped
-        ensures { popped_of result ≡ popped (step_on (was image) (arrays_of self) pop) }
+        ensures { popped_of result ≡ popped (step_on image.now (arrays_of self) pop) }
     {
         let c = step_on(self, image, Call::Pop, &[]);
         popped_of(c)

@@ -10,7 +10,6 @@ ghost use Rattle.machine.specs.State.{fresh_scope, fresh};
 ghost use Rattle.state_scopes.specs.Scopes.{scope_of};
 ghost use Rattle.state_room.specs.Padded.{padded};
 ghost use Rattle.state_room.specs.PartRows.{Scoped, most_reactors};
-ghost use Rattle.lists.specs.Lent.{was};
 ghost use Rattle.state_room.specs.Holds.{rows_of, Holds};
 ghost use Rattle.state_fresh.specs.Fresh.{Bare};
 ghost use Rattle.store_words.specs.Entries.{room_for_entries, blank_value, blank_bucket};
@@ -24,7 +23,7 @@ use tags::ScopeClock;
 // Each reactor's initial mode, zeros behind them.
 fn modes(image: &[u8]) -> [u16; MOST_REACTORS]
     requires { is_table image.now ≡ true }
-    ensures { result ≡ padded 0 most_reactors (map (initial_mode (was image)) (from 0 (reactors (was image)))) }
+    ensures { result ≡ padded 0 most_reactors (map (initial_mode image.now) (from 0 (reactors image.now))) }
 {
     let n = table_rows::count(image, table_rows::REACTOR);
     let mut out = [0u16; MOST_REACTORS];
@@ -53,7 +52,7 @@ fn scope(active: bool) -> Scope
 // Each scope by these modes, blanks behind them.
 fn scopes(image: &[u8], modes: &[u16]) -> [u64; state_scopes::ROOM]
     requires { is_table image.now ≡ true }
-    ensures { Scoped (map (λ i. fresh_scope (is_active (was image) (was modes) i)) (from 0 (scopes_in (was image)))) result }
+    ensures { Scoped (map (λ i. fresh_scope (is_active image.now modes.now i)) (from 0 (scopes_in image.now))) result }
 {
     let n = table_rows::count(image, table_rows::SCOPE);
     let mut out = state_scopes::blank_rows();
@@ -102,7 +101,7 @@ pub fn bare(modes: [u16; MOST_REACTORS], scopes: [u64; state_scopes::ROOM]) -> R
 // A fresh manager's room over an accepted table.
 pub fn room(image: &[u8]) -> Room
     requires { is_table image.now ≡ true }
-    ensures { Holds (was image) (fresh (was image)) (rows_of result) }
+    ensures { Holds image.now (fresh image.now) (rows_of result) }
 {
     let first = modes(image);
     let n = table_rows::count(image, table_rows::REACTOR);

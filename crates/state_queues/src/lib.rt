@@ -4,7 +4,6 @@
 ghost use Rattle.std.specs.Prelude.{◌≡◌, ◌+◌, ◌≤◌, ◌<◌, length, get_or, set, take};
 ghost use Rattle.lists.specs.Lists.{lose, keep, count};
 ghost use Rattle.lists.specs.Lists as lists;
-ghost use Rattle.lists.specs.Lent.{was, is};
 ghost use Rattle.lists.specs.Lay.{lay};
 ghost use Rattle.machine.specs.State.{Event, ordinary, at_head};
 ghost use Rattle.machine.specs.Heads.{no_tag, least, lesser};
@@ -45,7 +44,7 @@ pub const HEADS: usize = QUEUES * LEAST_WORDS;
 pub fn accept(rows: &mut [u64; state_events::ROOM], n: usize, limit: usize, s: Slot) -> Accepted
     requires { slot.Whole rows.old }
     ensures value { result ≡ accepted_at limit n }
-    ensures held { slot.Held (is rows) (accepted_in limit n (event_of s) (events_of (was rows))) }
+    ensures held { slot.Held rows.new (accepted_in limit n (event_of s) (events_of rows.old)) }
 {
     if limit <= n {
         return Accepted::Refused(Refusal::Waiting);
@@ -115,7 +114,7 @@ fn put_none(heads: &mut [u64; HEADS], k: usize)
 // One event more; where its queue has an earlier one nothing is written.
 fn note(heads: &mut [u64; HEADS], d: Due)
     requires { Whole heads.old }
-    ensures { Held (is heads) (set (leasts_of (was heads)) (entry_of d.queue) (lesser (of_queue d.tag) (get_or (leasts_of (was heads)) (entry_of d.queue) no_tag))) }
+    ensures { Held heads.new (set (leasts_of heads.old) (entry_of d.queue) (lesser (of_queue d.tag) (get_or (leasts_of heads.old) (entry_of d.queue) no_tag))) }
 {
     let k = entry_of(d.queue);
     let t = d.tag;

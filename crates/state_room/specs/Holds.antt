@@ -1,7 +1,7 @@
 -- One room for the state: all rows and the ledger, the state that they hold, and what a step or a call does to them. Assumes nothing.
 use Rattle.std.specs.Prelude.{true, ◌≡◌, refl, List, ℕ, ◌≤◌, length, take, get_or}
 use Rattle.std.proofs.Common.{◌∙◌, sym, le_trans, arith}
-use Rattle.std.specs.Borrow.{Bor}
+use Rattle.std.specs.Borrow.{MutBor}
 use denote.Triple.Both.{Both}
 use Rattle.std.proofs.Math.Dec.{leb}
 use borrow.Author.Tests.{leb-true}
@@ -43,7 +43,7 @@ pub record Rows : Type 0 where
 -- ---- of lent arrays and a ledger
 
 abbrev pub Array : Type 0
-Array = Bor (List ℕ)
+Array = MutBor (List ℕ)
 
 -- in a `requires`
 abbrev pub rows : Array → Array → Array → Array → Ledger → Rows

@@ -10,7 +10,6 @@ ghost use Rattle.state_events.specs.Slots.{events_of, event_of, room_for_events}
 ghost use Rattle.state_scopes.specs.Scopes.{most_scopes, scopes_of, blank};
 ghost use Rattle.state_room.specs.PartRows.{most_reactors, waiting_in};
 ghost use Rattle.state_room.specs.Holds.{were};
-ghost use Rattle.lists.specs.Lent.{was};
 ghost use Rattle.state_rules.specs.Sound.{keys_below, event_keeps, sizes_of, scopes_sound, queue_sound, queue_rules_in, sound_in};
 
 use key_set::{Found, KeySet};
@@ -28,7 +27,7 @@ struct Sizes {
 }
 
 fn sizes_in(image: &[u8]) -> Sizes
-    ensures { result ≡ sizes_of (was image) }
+    ensures { result ≡ sizes_of image.now }
 {
     let scopes = table_rows::count(image, table_rows::SCOPE);
     let reactions = table_rows::count(image, table_rows::REACTION);
@@ -43,7 +42,7 @@ fn sizes_in(image: &[u8]) -> Sizes
 // ---- modes
 
 fn mode_exists(image: &[u8], m: u16) -> bool
-    ensures { result ≡ mode_rules (was image) m }
+    ensures { result ≡ mode_rules image.now m }
 {
     if m == table_rows::NONE {
         return true;
@@ -53,7 +52,7 @@ fn mode_exists(image: &[u8], m: u16) -> bool
 }
 
 fn modes_exist(image: &[u8], modes: &[u16]) -> bool
-    ensures { result ≡ every (mode_rules (was image)) (was modes) }
+    ensures { result ≡ every (mode_rules image.now) modes.now }
 {
     let mut i: usize = 0;
     while i < modes.len() {
@@ -70,7 +69,7 @@ fn modes_exist(image: &[u8], modes: &[u16]) -> bool
 
 fn clocks_within(scopes: &[u64; state_scopes::ROOM], n: usize) -> bool
     requires { n ≤ most_scopes }
-    ensures { result ≡ every (λ x. within_clock x.clock) (take n (scopes_of (was scopes))) }
+    ensures { result ≡ every (λ x. within_clock x.clock) (take n (scopes_of scopes.now)) }
 {
     let mut i: usize = 0;
     while i < n {
@@ -86,7 +85,7 @@ fn clocks_within(scopes: &[u64; state_scopes::ROOM], n: usize) -> bool
 
 // Scope i is active exactly if the modes say so, and counts as active before where it is.
 fn scope_keeps(image: &[u8], modes: &[u16], scopes: &[u64; state_scopes::ROOM], i: u16) -> bool
-    ensures { result ≡ scope_rules (was image) (was modes) (scopes_of (was scopes)) i }
+    ensures { result ≡ scope_rules image.now modes.now (scopes_of scopes.now) i }
 {
     let s = state_scopes::scope_at(scopes, i as usize);
     let current = table_schedule::is_active(image, modes, i);
@@ -98,7 +97,7 @@ fn scope_keeps(image: &[u8], modes: &[u16], scopes: &[u64; state_scopes::ROOM], 
 }
 
 fn scopes_keep(image: &[u8], modes: &[u16], scopes: &[u64; state_scopes::ROOM], n: u16) -> bool
-    ensures { result ≡ every (scope_rules (was image) (was modes) (scopes_of (was scopes))) (from 0 n) }
+    ensures { result ≡ every (scope_rules image.now modes.now (scopes_of scopes.now)) (from 0 n) }
 {
     let mut i: u16 = 0;
     while i < n {
@@ -126,7 +125,7 @@ fn keys_exist(set: KeySet, n: u16) -> bool
 // All keys exist, and tags are within limits.
 fn is_proper(image: &[u8], z: Sizes, s: Slot) -> bool
     requires { z ≡ sizes_of image.now }
-    ensures { result ≡ event_rules (was image) (event_of s) }
+    ensures { result ≡ event_rules image.now (event_of s) }
 {
     let tag = s.tag;
     let set = s.reactions;
@@ -149,7 +148,7 @@ fn is_proper(image: &[u8], z: Sizes, s: Slot) -> bool
 // Only scopes with a parent have local events.
 fn has_queue(image: &[u8], z: Sizes, s: Slot) -> bool
     requires { z ≡ sizes_of image.now }
-    ensures { result ≡ queue_rules (was image) (event_of s) }
+    ensures { result ≡ queue_rules image.now (event_of s) }
 {
     if s.queue == state_events::NONE {
         return true;
@@ -163,7 +162,7 @@ fn has_queue(image: &[u8], z: Sizes, s: Slot) -> bool
 
 // An event in an active scope maps within limits.
 fn has_image(scopes: &[u64; state_scopes::ROOM], s: Slot) -> bool
-    ensures { result ≡ image_rules (scopes_of (was scopes)) (event_of s) }
+    ensures { result ≡ image_rules (scopes_of scopes.now) (event_of s) }
 {
     if s.queue == state_events::NONE {
         return true;
@@ -183,7 +182,7 @@ fn has_image(scopes: &[u64; state_scopes::ROOM], s: Slot) -> bool
 
 fn event_keeps(image: &[u8], z: Sizes, scopes: &[u64; state_scopes::ROOM], s: Slot) -> bool
     requires { z ≡ sizes_of image.now }
-    ensures { result ≡ event_keeps (was image) (scopes_of (was scopes)) (event_of s) }
+    ensures { result ≡ event_keeps image.now (scopes_of scopes.now) (event_of s) }
 {
     if is_proper(image, z, s) {
         if has_queue(image, z, s) {
@@ -200,7 +199,7 @@ fn events_keep(
     n: usize,
 ) -> bool
     requires { n ≤ room_for_events }
-    ensures { result ≡ every (event_keeps (was image) (scopes_of (was scopes))) (take n (events_of (was events))) }
+    ensures { result ≡ every (event_keeps image.now (scopes_of scopes.now)) (take n (events_of events.now)) }
 {
     let z = sizes_in(image);
     let mut i: usize = 0;
@@ -217,7 +216,7 @@ fn events_keep(
 // How many of the events are ordinary.
 fn ordinary_work(events: &[u64; state_events::ROOM], n: usize) -> usize
     requires { n ≤ room_for_events }
-    ensures { result ≡ count ordinary (take n (events_of (was events))) }
+    ensures { result ≡ count ordinary (take n (events_of events.now)) }
 {
     let mut work: usize = 0;
     let mut i = n;
@@ -235,7 +234,7 @@ fn ordinary_work(events: &[u64; state_events::ROOM], n: usize) -> usize
 
 fn scopes_sound(image: &[u8], modes: &[u16], scopes: &[u64; state_scopes::ROOM], n: u16) -> bool
     requires { n ≤ most_scopes }
-    ensures { result ≡ scopes_sound (was image) (was modes) (scopes_of (was scopes)) n }
+    ensures { result ≡ scopes_sound image.now modes.now (scopes_of scopes.now) n }
 {
     if !modes_exist(image, modes) {
         return false;
@@ -253,7 +252,7 @@ fn queue_sound(
     counts: Counts,
 ) -> bool
     requires { counts.waiting ≤ room_for_events }
-    ensures { result ≡ queue_sound (was image) (scopes_of (was scopes)) (waiting_in (was events) counts) counts.work }
+    ensures { result ≡ queue_sound image.now (scopes_of scopes.now) (waiting_in events.now counts) counts.work }
 {
     let n = counts.waiting;
     if !events_keep(image, scopes, events, n) {
@@ -272,7 +271,7 @@ fn queue_rules(
     counts: Counts,
 ) -> bool
     requires { length modes.now ≡ most_reactors }
-    ensures { result ≡ (leb counts.waiting (limits (was image)).waiting && queue_rules_in (was image) (was modes) (was scopes) (was events) counts) }
+    ensures { result ≡ (leb counts.waiting (limits image.now).waiting && queue_rules_in image.now modes.now scopes.now events.now counts) }
 {
     let waiting = counts.waiting;
     let limit = table_rows::most_waiting(image);
@@ -302,7 +301,7 @@ pub fn keeps_rules(
     buckets: &BucketRows,
     ledger: Ledger,
 ) -> bool
-    ensures { result ≡ sound_in (was image) (were scopes events values buckets ledger) }
+    ensures { result ≡ sound_in image.now (were scopes events values buckets ledger) }
 {
     let modes = ledger.modes;
     let counts = ledger.counts;

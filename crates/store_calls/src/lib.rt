@@ -2,7 +2,6 @@
 // boomerang_runtime's action/store.rs (`ActionStore`). Two arrays of rows are lent, with how many of each are held; a row that is freed is blank.
 // Refusal 9 is decided here, by the limit that is given: that of the image. A new call comes in here and in `Call` of value_store.
 ghost use Rattle.std.specs.Prelude.{◌≡◌, ◌≤◌, take};
-ghost use Rattle.lists.specs.Lent.{was, is};
 ghost use Rattle.tags.specs.Views.{of_global};
 ghost use Rattle.store_words.specs.Entries.{room_for_entries};
 ghost use Rattle.store_words.specs.Words.{values_of, buckets_of};
@@ -70,7 +69,7 @@ pub fn push(
     value: u64,
 ) -> Changed
     requires { Lent limit values.old buckets.old held }
-    ensures { Did (was values) (was buckets) held (pushed limit (store_of (was values) (was buckets) held) action (of_global tag) value) (is values) (is buckets) result }
+    ensures { Did values.old buckets.old held (pushed limit (store_of values.old buckets.old held) action (of_global tag) value) values.new buckets.new result }
 {
     let n = held.values;
     let m = held.buckets;
@@ -125,7 +124,7 @@ fn unless_last(microstep: u32) -> Next
 // The larger of the bucket's and the least, or the least if no bucket.
 pub fn next_microstep(buckets: &BucketRows, n: usize, action: u16, offset: u64, least: u32) -> Next
     requires { n ≤ room_for_entries }
-    ensures { next_of result ≡ at_least (next_in action offset (take n (buckets_of (was buckets)))) least }
+    ensures { next_of result ≡ at_least (next_in action offset (take n (buckets_of buckets.now))) least }
 {
     let j = store::find_bucket(buckets, n, BucketTest::At(action, offset));
     if n <= j {
@@ -144,8 +143,8 @@ pub fn take(
     tag: GlobalTag,
 ) -> Taken
     requires { Lent room_for_entries values.old buckets.old held }
-    ensures found_value { found_of result.found ≡ value_in action (of_global tag) (take held.values (values_of (was values))) }
-    ensures laid { Laid (was values) (was buckets) held (taken (store_of (was values) (was buckets) held) action (of_global tag)) (is values) (is buckets) result.held }
+    ensures found_value { found_of result.found ≡ value_in action (of_global tag) (take held.values (values_of values.old)) }
+    ensures laid { Laid values.old buckets.old held (taken (store_of values.old buckets.old held) action (of_global tag)) values.new buckets.new result.held }
 {
     let n = held.values;
     let i = store::find_value(values, n, ValueTest::At(action, tag));
@@ -175,7 +174,7 @@ pub fn clear_older_than(
     tag: GlobalTag,
 ) -> Counts
     requires { Lent room_for_entries values.old buckets.old held }
-    ensures { Laid (was values) (was buckets) held (cleared_before (store_of (was values) (was buckets) held) action (of_global tag)) (is values) (is buckets) result }
+    ensures { Laid values.old buckets.old held (cleared_before (store_of values.old buckets.old held) action (of_global tag)) values.new buckets.new result }
 {
     let n = held.values;
     let m = held.buckets;
@@ -191,7 +190,7 @@ pub fn clear_older_than(
 // All that the action has.
 pub fn clear(values: &mut ValueRows, buckets: &mut BucketRows, held: Counts, action: u16) -> Counts
     requires { Lent room_for_entries values.old buckets.old held }
-    ensures { Laid (was values) (was buckets) held (cleared (store_of (was values) (was buckets) held) action) (is values) (is buckets) result }
+    ensures { Laid values.old buckets.old held (cleared (store_of values.old buckets.old held) action) values.new buckets.new result }
 {
     let n = held.values;
     let m = held.buckets;
@@ -214,7 +213,7 @@ pub fn move_value(
     new: GlobalTag,
 ) -> Changed
     requires { Lent limit values.old buckets.old held }
-    ensures { Did (was values) (was buckets) held (moved limit (store_of (was values) (was buckets) held) action (of_global old) (of_global new)) (is values) (is buckets) result }
+    ensures { Did values.old buckets.old held (moved limit (store_of values.old buckets.old held) action (of_global old) (of_global new)) values.new buckets.new result }
 {
     let n = held.values;
     let m = held.buckets;

@@ -2,7 +2,6 @@
 // Activity, modality and sets of reactions; single fields and subtrees are crate table_rows. Every question is total.
 // A new question over the table's rows comes in here.
 ghost use Rattle.std.specs.Prelude.{◌≡◌, cond, ℕ, ◌+◌, ◌^◌, ◌<◌, ◌≤◌, get_or};
-ghost use Rattle.lists.specs.Lent.{was};
 ghost use Rattle.key_set.specs.Sets.{insert_key};
 ghost use Rattle.table_rows.specs.Kinds.{kind_of, place as place_of, count as count_of};
 ghost use Rattle.table_rows.specs.Rows.{none};
@@ -106,7 +105,7 @@ fn with_row(image: &[u8], key: u16, subtree: bool, x: u16, reaction: u16, set: K
 // The reactions of so many rows that begin at the place and have their reaction at the byte `gap`, where they end. One reader goes from row to row.
 fn gather(image: &[u8], at: usize, mut left: u16, key: u16, subtree: bool, gap: usize) -> KeySet
     requires { (at < 2 ^ 28) × (gap ≤ 4) }
-    ensures { (k : ℕ) → at ≡ place_of (was image) k → left ≡ count_of (was image) k → (kind_of k).width ≡ gap + 2 → result.words ≡ reactions_by (was image) k key subtree gap }
+    ensures { (k : ℕ) → at ≡ place_of image.now k → left ≡ count_of image.now k → (kind_of k).width ≡ gap + 2 → result.words ≡ reactions_by image.now k key subtree gap }
 {
     let mut reader = table_reader::new(image, at);
     let mut set = KeySet::empty();

@@ -2,7 +2,6 @@
 // Each call goes to rows, tests, works there, and comes back; the run of a day works on the rows themselves.
 // A new call is a case of `Call`; `Store` and the manager both go through `call_rows`.
 ghost use Rattle.std.specs.Prelude.{◌≡◌, ◌&&◌, map};
-ghost use Rattle.lists.specs.Lent.{was, is};
 ghost use Rattle.tags.specs.Tags.{at, within};
 ghost use Rattle.tags.specs.Views.{of_global};
 ghost use Rattle.table_rows.specs.Limits.{limits};
@@ -220,7 +219,7 @@ fn perform(
     call: Call,
 ) -> Called
     requires { Lent limit values.old buckets.old held }
-    ensures { DidCall (was values) (was buckets) held (performed limit (store_of (was values) (was buckets) held) (call_of call)) (is values) (is buckets) result }
+    ensures { DidCall values.old buckets.old held (performed limit (store_of values.old buckets.old held) (call_of call)) values.new buckets.new result }
 {
     match call {
         Call::Push(action, tag, value) => {
@@ -270,7 +269,7 @@ pub fn call_rows(
     call: Call,
 ) -> Called
     requires { Lent (limits image.now).held values.old buckets.old held }
-    ensures { DidCall (was values) (was buckets) held (called (was image) (store_of (was values) (was buckets) held) (call_of call)) (is values) (is buckets) result }
+    ensures { DidCall values.old buckets.old held (called image.now (store_of values.old buckets.old held) (call_of call)) values.new buckets.new result }
 {
     let actions = table_rows::count(image, table_rows::ACTION);
     let action = call.action();

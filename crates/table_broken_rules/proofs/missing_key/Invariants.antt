@@ -1,0 +1,15 @@
+-- `table_broken_rules::missing_key` meets its contract: what is left of the fields decides. Assumes nothing.
+use borrow.Author.Rules.{rules}
+use Prim.Native.Nat.{◌-◌, ◌≤◌}
+use mathlib.Core.Path.{◌≡◌, refl, sym, ap, ◌∙◌}
+use Rattle.lists.specs.Tests.{flag}
+use Rattle.lists.specs.Scan.{scan, scan_pass, scan_fail, scan_none}
+use Rattle.table.specs.Rules.{key_count, key_exists}
+use Rattle.table_broken_rules.specs.BrokenRules.{field_at, missing_key}
+use Rattle.table_broken_rules.proofs.missing_key.Given as goal
+
+abbrev pub invariant-loop-j : goal.invariant-loop-j
+invariant-loop-j l = (l.j ≤ key_count) × (missing_key l.image l.k l.i ≡ scan (λ n. key_exists l.image l.k l.i (field_at n)) l.j (key_count - l.j))
+
+abbrev pub decreases-loop-j : goal.decreases-loop-j
+decreases-loop-j l = key_count - l.j

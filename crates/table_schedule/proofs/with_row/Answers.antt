@@ -1,0 +1,6 @@
+-- `table_schedule::with_row` meets its contract. Assumes nothing.
+use borrow.Author.Rules.{rules}
+use Rattle.table_schedule.proofs.with_row.Goals as goal
+
+pub returns : goal.returns
+returns c = rw (← c.belongs-test.ensures) c.insert_if.ensures
