@@ -2,7 +2,7 @@
 -- Assumes nothing.
 use mathlib.Core.Path.{◌≡◌}
 use Prim.Native.Nat.{ℕ, ◌+◌, ◌-◌, ◌*◌, ◌^◌, ◌≤◌}
-use lib.Seq.{foldl}
+use Rattle.lists.specs.Lists.{foldl}
 use Rattle.key_set.specs.Sets.{insert_key}
 use Rattle.table_rows.specs.Kinds.{kind_of, count as count_of, place as place_of}
 use Rattle.table_rows.specs.Rows.{row_place}
