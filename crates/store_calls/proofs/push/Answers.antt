@@ -13,12 +13,12 @@ returns-then-limit-j c = search push_no_bucket
 pub set_value-a-requires : goal.set_value-a-requires
 set_value-a-requires c =
     let lent = c.requires in
-    (lent.values, (c.find_value-i.ensures, omega (arith, lent.few_values, lent.room, c.if-limit-i.false)))
+    record { whole_values = lent.values; i_value = c.find_value-i.ensures; n_le_room_for_entries = omega (arith, lent.few_values, lent.room, c.if-limit-i.false) }
 
 pub raise_bucket-b-requires : goal.raise_bucket-b-requires
 raise_bucket-b-requires c =
     let lent = c.requires in
-    (lent.buckets, (c.find_bucket-j.ensures, omega (arith, lent.few_buckets, lent.room, c.if-limit-j.false)))
+    record { whole_buckets = lent.buckets; i_value = c.find_bucket-j.ensures; n_le_room_for_entries = omega (arith, lent.few_buckets, lent.room, c.if-limit-j.false) }
 
 pub returns : goal.returns
 returns c = search push_done
