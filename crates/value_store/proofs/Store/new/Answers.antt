@@ -1,0 +1,7 @@
+-- `value_store::Store::new` meets its contract: all blank. Assumes nothing.
+use Rattle.value_store.proofs.Laws.{new_is}
+use borrow.Author.Rules.{rules}
+use Rattle.value_store.proofs.Store.new.Goals as goal
+
+pub returns : goal.returns
+returns c = new_is _ _ c.blank-v.ensures c.blank-b.ensures

@@ -1,0 +1,20 @@
+-- `value_store::buckets_of` meets its contract: invariant: the first i buckets are those of the rows. Assumes nothing.
+use mathlib.Core.Path.{◌≡◌, refl}
+use mathlib.Core.List.{map}
+use Prim.Native.Nat.{◌-◌, ◌≤◌}
+use lib.ListN.{take, length}
+use Rattle.store_words.specs.Entries.{room_for_entries, of_bucket}
+use Rattle.store_words.specs.Words.{buckets_of}
+use Rattle.lists.specs.Loops.{things_more, things_all}
+use borrow.Author.Rules.{rules}
+use native.Mathlib.Omega.{arith}
+use Rattle.value_store.proofs.buckets_of.Goals as goal
+
+pub loop-i-init : goal.loop-i-init
+loop-i-init c = (omega arith, search rules, refl)
+
+pub loop-i-preserved : goal.loop-i-preserved
+loop-i-preserved c = (omega arith, search rules, search things_more)
+
+pub returns : goal.returns
+returns c = search things_all
