@@ -1,0 +1,8 @@
+-- `state_events::copy_slot` meets its contract: a row is the words of its slot. Assumes nothing.
+use Rattle.state_events.proofs.SlotLaws.{copied}
+use borrow.Author.Rules.{rules}
+use Rattle.state_events.proofs.copy_slot.Goals as goal
+
+pub returns : goal.returns
+returns c =
+    copied _ _ _ c.requires.whole c.requires.from_lt_room_for_events.0 c.requires.from_lt_room_for_events.1 c.row_at-row.ensures c.put_row.ensures
