@@ -1,0 +1,18 @@
+-- `state_queues::remove` meets its contract: what stays is laid over the rows. Assumes nothing.
+use Rattle.state_queues.specs.Queue.{goes_of}
+use Rattle.state_queues.proofs.TakeLaws.{remove_room, remove_held}
+use borrow.Author.Rules.{rules}
+use Rattle.state_queues.proofs.remove.Goals as goal
+
+pub clear-requires : goal.clear-requires
+clear-requires c =
+    record { whole = c.compact-r.ensures.held.whole; w_le_n = (remove_room (goes_of c.args.which) c.args.rows.now c.args.n c.compact-r.result.count c.compact-r.ensures.count_value, c.requires.n_le_room_for_events) }
+
+pub returns : goal.returns
+returns c =
+    record {
+      count_value = c.compact-r.ensures.count_value;
+      ordinary_value = c.compact-r.ensures.ordinary_value;
+      held = remove_held (goes_of c.args.which) c.args.rows.now c.args.n c.compact-r.result.count c.compact-r.new.rows c.clear.new.rows c.requires.n_le_room_for_events
+          c.compact-r.ensures.count_value c.compact-r.ensures.held c.clear.ensures;
+    }
