@@ -1,0 +1,26 @@
+use mathlib.Core.Path.{ap, ◌∙◌}
+use Rattle.state_fresh.proofs.scopes.Goals as goal
+-- `state_fresh::scopes` meets its contract: the scopes before i stand. Assumes nothing.
+use Prim.Native.Nat.{◌-◌, ◌≤◌}
+use mathlib.Core.Path.{◌≡◌}
+use mathlib.Core.List.{map}
+use Rattle.lists.specs.Lists.{from}
+use Rattle.table_schedule.specs.Schedule.{is_active}
+use Rattle.machine.specs.Table.{scopes}
+use Rattle.state_room.specs.PartRows.{Scoped}
+use Rattle.machine.specs.State.{fresh_scope}
+use Rattle.state_fresh.proofs.FreshLaws.{scopes_none, scopes_more}
+use borrow.Author.Rules.{rules}
+use Rattle.state_fresh.proofs.scopes.Statement.{statement}
+use Rattle.state_fresh.proofs.scopes.Tie as tie
+
+pub loop-i-init : goal.loop-i-init
+loop-i-init c = (search rules, c.count-n.ensures, scopes_none _ c.blank_rows-out.ensures)
+
+pub loop-i-preserved : goal.loop-i-preserved
+loop-i-preserved c =
+    let l = c.loop-i in
+    (search rules, l.invariant.1, scopes_more _ l.i _ l.out _ l.invariant.2 (c.scope-s.ensures ∙ ap fresh_scope c.is_active-active.ensures) c.put_scope.ensures)
+
+pub returns : goal.returns
+returns c = let l = c.loop-i in let e : l.i ≡ scopes c.args.image.now = search rules in rw (← e) l.invariant.2
