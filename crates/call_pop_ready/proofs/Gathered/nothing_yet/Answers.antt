@@ -1,0 +1,6 @@
+-- `call_pop_ready::Gathered::nothing_yet` meets its contract. Assumes nothing.
+use borrow.Author.Rules.{rules}
+use Rattle.call_pop_ready.proofs.Gathered.nothing_yet.Goals as goal
+
+pub returns : goal.returns
+returns c = rw c.empty-none.ensures

@@ -1,0 +1,15 @@
+-- `call_pop_ready::sift` meets its contract: one event a turn is gathered or stays. Assumes nothing.
+use Prim.Native.Nat.{◌-◌}
+use mathlib.Core.Path.{refl, ap, ◌∙◌}
+use native.Mathlib.Omega.{arith}
+use Rattle.state_events.specs.Slots.{event_of}
+use Rattle.state_queues.specs.Queue.{goes_of, one_if}
+use Rattle.call_pop_ready.proofs.SiftLaws.{Sifting, sifting_none, sifting_room, sifting_keys, sifting_goes, sifting_lower, sifting_stays, sifting_all, sifting_held}
+use borrow.Author.Rules.{rules}
+use Rattle.call_pop_ready.proofs.sift.Given as goal
+
+abbrev pub invariant-loop-i : goal.invariant-loop-i
+invariant-loop-i l = Sifting l.which.queue (goes_of l.which) l.initial.rows l.n l.initial.out l.initial.keys l.i l.w l.ordinary l.lowest l.rows l.out l.keys
+
+abbrev pub decreases-loop-i : goal.decreases-loop-i
+decreases-loop-i l = l.n - l.i
