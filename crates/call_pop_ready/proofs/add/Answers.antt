@@ -15,5 +15,5 @@ pub returns : goal.returns
 returns c =
     let a = c.args in
     let l : a.g.actions < length a.keys.now = omega (arith, c.requires.0) in
-    added a.keys.now c.add_key-count.new.keys (gathering_of a.g a.keys.now) a.g.actions c.add_key-count.result (event_of a.s) l c.add_key-count.ensures.value c.add_key-count.ensures.keys_after refl
-    c.either.ensures (c.either-2.ensures ∙ ap (λ x. a.g.work || x) c.is_ordinary-ordinary.ensures) c.either-3.ensures c.union-both.ensures
+    let whole = added a.keys.now c.add_key-count.new.keys (gathering_of a.g a.keys.now) a.g.actions c.add_key-count.result (event_of a.s) l c.add_key-count.ensures.value c.add_key-count.ensures.keys_after refl
+    c.either.ensures (c.either-2.ensures ∙ ap (λ x. a.g.work || x) c.is_ordinary-ordinary.ensures) c.either-3.ensures c.union-both.ensures in record { keys_after = whole.0; actions_bound = whole.1 }

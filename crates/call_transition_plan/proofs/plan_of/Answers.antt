@@ -27,8 +27,8 @@ returns c =
     let a = c.args in
     record {
       c = refl;
-      c.mode_scope-target.ensures = c.mode_scope-target.ensures;
+      target = c.mode_scope-target.ensures;
       inside = rw (← c.mode_scope-target.ensures) c.subtree_if-inside.ensures;
       now = rw (← (filled_take a.image.now a.modes.now a.request c.requires.image_value c.requires.modes_len c.requires.reactor_bound _ _ c.count-n.ensures c.new_modes-after.ensures)) c.active_scopes-now.ensures;
-      c.new_modes-after.ensures = filled_new a.image.now a.modes.now a.request c.requires.image_value c.requires.modes_len c.requires.reactor_bound _ _ c.count-n.ensures c.new_modes-after.ensures;
+      modes = filled_new a.image.now a.modes.now a.request c.requires.image_value c.requires.modes_len c.requires.reactor_bound _ _ c.count-n.ensures c.new_modes-after.ensures;
     }

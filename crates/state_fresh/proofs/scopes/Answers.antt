@@ -1,6 +1,5 @@
-use mathlib.Core.Path.{ap, ◌∙◌}
-use Rattle.state_fresh.proofs.scopes.Goals as goal
 -- `state_fresh::scopes` meets its contract: the scopes before i stand. Assumes nothing.
+use mathlib.Core.Path.{ap, ◌∙◌}
 use Prim.Native.Nat.{◌-◌, ◌≤◌}
 use mathlib.Core.Path.{◌≡◌}
 use mathlib.Core.List.{map}
@@ -11,8 +10,7 @@ use Rattle.state_room.specs.PartRows.{Scoped}
 use Rattle.machine.specs.State.{fresh_scope}
 use Rattle.state_fresh.proofs.FreshLaws.{scopes_none, scopes_more}
 use borrow.Author.Rules.{rules}
-use Rattle.state_fresh.proofs.scopes.Statement.{statement}
-use Rattle.state_fresh.proofs.scopes.Tie as tie
+use Rattle.state_fresh.proofs.scopes.Goals as goal
 
 pub loop-i-init : goal.loop-i-init
 loop-i-init c = (search rules, c.count-n.ensures, scopes_none _ c.blank_rows-out.ensures)
