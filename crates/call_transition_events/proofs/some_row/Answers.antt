@@ -1,0 +1,37 @@
+-- `call_transition_events::some_row` meets its contract: what is left of the rows decides. Assumes nothing.
+use Prim.Native.Nat.{◌-◌}
+use mathlib.Core.Path.{◌≡◌, sym, ◌∙◌}
+use native.Mathlib.Nat.{sub-zero}
+use Rattle.lists.specs.Lists.{any, from}
+use Rattle.lists.specs.Steps.{any_next, any_found, any_none}
+use Rattle.lists.specs.Marks.{any_no}
+use Rattle.key_set.proofs.Laws.{empty_has}
+use Rattle.call_transition_plan.proofs.PlanLaws.{row_has}
+use Rattle.call_transition_events.specs.Starting.{row_in, some_row}
+use borrow.Author.Rules.{rules}
+use Rattle.call_transition_events.proofs.some_row.Goals as goal
+
+pub loop-j-init : goal.loop-j-init
+loop-j-init c = rw (sub-zero, c.count-n.ensures)
+
+pub returns-then-is_empty : goal.returns-then-is_empty
+returns-then-is_empty c =
+    let a = c.args in
+    sym (any_no (row_in a.image.now a.kind a.set.words) (λ j. empty_has a.set.words (sym c.is_empty.ensures ∙ c.if-is_empty.true) _) _)
+
+pub returns-then-contains : goal.returns-then-contains
+returns-then-contains c =
+    let a = c.args in
+    let found = any_found (row_in a.image.now a.kind a.set.words) _ _ c.loop-j-test.true in
+    sym (c.loop-j.invariant ∙ found (row_has _ c.field16-scope.ensures c.contains.ensures c.if-contains.true))
+
+pub loop-j-preserved : goal.loop-j-preserved
+loop-j-preserved c =
+    let a = c.args in
+    let next = any_next (row_in a.image.now a.kind a.set.words) _ _ c.loop-j-test.true in
+    c.loop-j.invariant ∙ next (row_has _ c.field16-scope.ensures c.contains.ensures c.if-contains.false)
+
+pub returns : goal.returns
+returns c =
+    let a = c.args in
+    sym (c.loop-j.invariant ∙ any_none (row_in a.image.now a.kind a.set.words) _ _ c.loop-j-test.false)
