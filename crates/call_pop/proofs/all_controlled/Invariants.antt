@@ -1,0 +1,19 @@
+-- `call_pop::all_controlled` meets its contract: the first events are controlled, one more a turn. Assumes nothing.
+use Prim.Native.Nat.{◌-◌, ◌≤◌}
+use mathlib.Core.Path.{◌≡◌, refl, sym, ◌∙◌}
+use lib.ListN.{take, drop}
+use native.Mathlib.Omega.{arith}
+use borrow.Author.Rules.{rules}
+use Rattle.lists.specs.Lists.{every}
+use Rattle.tags.specs.Views.{of_global}
+use Rattle.machine.specs.Heads.{controlled}
+use Rattle.state_events.specs.Slots.{events_of, event_of}
+use Rattle.state_events.proofs.SlotLaws.{events_long}
+use Rattle.call_pop.proofs.PopLaws.{each_pass, each_fail, each_end}
+use Rattle.call_pop.proofs.all_controlled.Given as goal
+
+abbrev pub invariant-loop-i : goal.invariant-loop-i
+invariant-loop-i l = (l.i ≤ l.waiting) × (every (controlled (of_global l.t)) (take l.waiting (events_of l.events)) ≡ every (controlled (of_global l.t)) (drop l.i (take l.waiting (events_of l.events))))
+
+abbrev pub decreases-loop-i : goal.decreases-loop-i
+decreases-loop-i l = l.waiting - l.i
