@@ -6,7 +6,7 @@ ghost use Rattle.machine.specs.Machine as M;
 ghost use Rattle.state_events.specs.Slots.{room_for_events};
 ghost use Rattle.call_pop_ready.specs.Gathering.{Grown};
 ghost use Rattle.state_room.specs.PartRows.{spare_room, Queued, Headed, Shows};
-ghost use Rattle.state_room.specs.Holds.{rows, were, are, Kept, Performs, reply_of as replied};
+ghost use Rattle.state_room.specs.Holds.{rows, Kept, Performs, reply_of as replied};
 ghost use Rattle.call_pop.specs.Pops.{reply_of as peeked_reply};
 ghost use Rattle.value_store.specs.Views.{answer_of};
 ghost use Rattle.call_transition.specs.Transiting.{call_of as transit_of};
@@ -163,9 +163,9 @@ fn transit(
     given: Ledger,
     request: Request,
 ) -> Performed
-    requires kept { Kept image.now (rows scopes events values buckets given) }
+    requires kept { Kept image.now (rows scopes.old events.old values.old buckets.old given) }
     requires spare_room_in_bounds { spare_room ≤ length spare.old }
-    ensures performs { Performs image.now (transit_of request) (were scopes events values buckets given) (answer_reply result.answer) (are scopes events values buckets result.ledger) }
+    ensures performs { Performs image.now (transit_of request) (rows scopes.old events.old values.old buckets.old given) (answer_reply result.answer) (rows scopes.new events.new values.new buckets.new result.ledger) }
     ensures headed { Headed heads.new events.new result.ledger.counts }
     ensures idle { Idle result }
 {
@@ -195,10 +195,10 @@ pub fn perform(
     call: Call,
     keys: &[u16],
 ) -> Performed
-    requires kept { Kept image.now (rows scopes events values buckets given) }
+    requires kept { Kept image.now (rows scopes.old events.old values.old buckets.old given) }
     requires headed { Headed heads.old events.old given.counts }
     requires actions_len { (length actions.old ≡ room_for_events) × (spare_room ≤ length spare.old) }
-    ensures performs { Performs image.now (call_of call keys.now) (were scopes events values buckets given) (reply_of result actions.new) (are scopes events values buckets result.ledger) }
+    ensures performs { Performs image.now (call_of call keys.now) (rows scopes.old events.old values.old buckets.old given) (reply_of result actions.new) (rows scopes.new events.new values.new buckets.new result.ledger) }
     ensures headed_2 { Headed heads.new events.new result.ledger.counts }
     ensures grown { Grown 0 result.gathered.actions actions.old actions.new × (result.gathered.actions ≤ room_for_events) }
     ensures tells { Tells call result }

@@ -5,7 +5,7 @@ ghost use Rattle.std.specs.Prelude.{◌≡◌, ◌&&◌, ◌+◌, ◌≤◌, ltb
 ghost use Rattle.std.proofs.Math.Seq.{paste};
 ghost use Rattle.machine.specs.Table.{reactors, modes as modes_in};
 ghost use Rattle.state_room.specs.PartRows.{spare_room};
-ghost use Rattle.state_room.specs.Holds.{rows, were, are, Held, Steps, Performs, reply_of};
+ghost use Rattle.state_room.specs.Holds.{rows, Held, Steps, Performs, reply_of};
 ghost use Rattle.call_transition_plan.specs.Plans.{Inner};
 ghost use Rattle.call_transition.specs.Transiting.{call_of, refusal_of, starts_on, turns_on, steps_on};
 ghost use Rattle.call_transition.specs.Saving.{Few, Fit, fronts_of, saved_in};
@@ -66,8 +66,8 @@ fn begin(
     ledger: Ledger,
     b: Beginning,
 ) -> Stepped
-    requires { Held image.now (rows scopes events values buckets ledger) }
-    ensures { Steps image.now (starts_on image.now b.plan b.first.words) (were scopes events values buckets ledger) result.outcome (are scopes events values buckets result.ledger) }
+    requires { Held image.now (rows scopes.now events.old values.old buckets.old ledger) }
+    ensures { Steps image.now (starts_on image.now b.plan b.first.words) (rows scopes.now events.old values.old buckets.old ledger) result.outcome (rows scopes.now events.new values.new buckets.new result.ledger) }
 {
     let first = b.first;
     let plan = b.plan;
@@ -94,8 +94,8 @@ fn turns_on(
     ledger: Ledger,
     plan: Plan,
 ) -> Stepped
-    requires { Held image.now (rows scopes events values buckets ledger) }
-    ensures { Steps image.now (turns_on image.now plan) (were scopes events values buckets ledger) result.outcome (are scopes events values buckets result.ledger) }
+    requires { Held image.now (rows scopes.old events.old values.old buckets.old ledger) }
+    ensures { Steps image.now (turns_on image.now plan) (rows scopes.old events.old values.old buckets.old ledger) result.outcome (rows scopes.new events.new values.new buckets.new result.ledger) }
 {
     let first = call_transition_events::firsts(image, scopes, plan);
     let t = call_transition_scopes::turn_scopes(
@@ -123,8 +123,8 @@ fn steps(
     plan: Plan,
 ) -> Stepped
     requires inner { Inner image.now plan }
-    requires held { Held image.now (rows scopes events values buckets ledger) }
-    ensures { Steps image.now (steps_on image.now plan) (were scopes events values buckets ledger) result.outcome (are scopes events values buckets result.ledger) }
+    requires held { Held image.now (rows scopes.old events.old values.old buckets.old ledger) }
+    ensures { Steps image.now (steps_on image.now plan) (rows scopes.old events.old values.old buckets.old ledger) result.outcome (rows scopes.new events.new values.new buckets.new result.ledger) }
 {
     let next = call_transition_resets::reset(image, scopes, events, values, buckets, ledger, plan);
     turns_on(image, scopes, events, values, buckets, next, plan)
@@ -178,9 +178,9 @@ fn save(
     ledger: Ledger,
     spare: &mut [u64],
 )
-    requires held { Held image.now (rows scopes events values buckets ledger) }
+    requires held { Held image.now (rows scopes.now events.now values.now buckets.now ledger) }
     requires spare_room_in_bounds { spare_room ≤ length spare.old }
-    ensures { saved_in (fronts_of image.now ledger) ledger spare.new ≡ were scopes events values buckets ledger }
+    ensures { saved_in (fronts_of image.now ledger) ledger spare.new ≡ rows scopes.now events.now values.now buckets.now ledger }
 {
     let f = fronts_of(image, ledger);
     let a = f.scopes;
@@ -203,7 +203,7 @@ fn put_back(
     spare: &[u64],
 )
     requires { Few image.now ledger × (spare_room ≤ length spare.now) }
-    ensures { are scopes events values buckets ledger ≡ saved_in (fronts_of image.now ledger) ledger spare.now }
+    ensures { rows scopes.new events.new values.new buckets.new ledger ≡ saved_in (fronts_of image.now ledger) ledger spare.now }
 {
     let f = fronts_of(image, ledger);
     let a = f.scopes;
@@ -238,9 +238,9 @@ pub fn apply_transition(
     ledger: Ledger,
     request: Request,
 ) -> Stepped
-    requires held { Held image.now (rows scopes events values buckets ledger) }
+    requires held { Held image.now (rows scopes.old events.old values.old buckets.old ledger) }
     requires spare_room_in_bounds { spare_room ≤ length spare.old }
-    ensures { Performs image.now (call_of request) (were scopes events values buckets ledger) (reply_of result.outcome) (are scopes events values buckets result.ledger) }
+    ensures { Performs image.now (call_of request) (rows scopes.old events.old values.old buckets.old ledger) (reply_of result.outcome) (rows scopes.new events.new values.new buckets.new result.ledger) }
 {
     let o = refusal_of(image, request);
     match o {

@@ -11,7 +11,7 @@ ghost use Rattle.machine.specs.State.{tally, accepted};
 ghost use Rattle.machine.specs.Transition as T;
 ghost use Rattle.state_events.specs.Slots.{event_of, room_for_events};
 ghost use Rattle.state_scopes.specs.Scopes.{scope_of};
-ghost use Rattle.state_room.specs.Holds.{rows, were, are, Held, Steps};
+ghost use Rattle.state_room.specs.Holds.{rows, Held, Steps};
 ghost use Rattle.call_transition_plan.specs.Plans.{Marks};
 ghost use Rattle.call_transition_events.specs.Starting.{first_time, startups_on, restarts_on, some_row, value_step, event_step, put_step};
 ghost use Rattle.call_transition_events.specs.Starting.{image_in, timer_step, kind_over, row_step, all_rows, startups_at, resets_on};
@@ -39,8 +39,8 @@ fn hold(
     action: u16,
     tag: GlobalTag,
 ) -> Stepped
-    requires { Held image.now (rows scopes events values buckets ledger) }
-    ensures { Steps image.now (T.held image.now action (of_global tag)) (were scopes events values buckets ledger) result.outcome (are scopes events values buckets result.ledger) }
+    requires { Held image.now (rows scopes.now events.old values.old buckets.old ledger) }
+    ensures { Steps image.now (T.held image.now action (of_global tag)) (rows scopes.now events.old values.old buckets.old ledger) result.outcome (rows scopes.now events.new values.new buckets.new result.ledger) }
 {
     let held = ledger.held;
     let limit = table_rows::most_held(image);
@@ -75,8 +75,8 @@ fn accept(
     ledger: Ledger,
     s: Slot,
 ) -> Stepped
-    requires { Held image.now (rows scopes events values buckets ledger) }
-    ensures { Steps image.now (λ t. accepted image.now t (event_of s)) (were scopes events values buckets ledger) result.outcome (are scopes events values buckets result.ledger) }
+    requires { Held image.now (rows scopes.now events.old values.old buckets.old ledger) }
+    ensures { Steps image.now (λ t. accepted image.now t (event_of s)) (rows scopes.now events.old values.old buckets.old ledger) result.outcome (rows scopes.now events.new values.new buckets.new result.ledger) }
 {
     let counts = ledger.counts;
     let work = more_work(s, counts.work);
@@ -163,8 +163,8 @@ fn hold_startup(
     f: Chosen,
     j: u16,
 ) -> Stepped
-    requires { Held image.now (rows scopes events values buckets ledger) }
-    ensures { Steps image.now (λ s. value_step image.now f s j) (were scopes events values buckets ledger) result.outcome (are scopes events values buckets result.ledger) }
+    requires { Held image.now (rows scopes.now events.old values.old buckets.old ledger) }
+    ensures { Steps image.now (λ s. value_step image.now f s j) (rows scopes.now events.old values.old buckets.old ledger) result.outcome (rows scopes.now events.new values.new buckets.new result.ledger) }
 {
     let set = f.set;
     let there = f.there;
@@ -192,8 +192,8 @@ fn accept_startup(
     f: Chosen,
     i: u16,
 ) -> Stepped
-    requires { Held image.now (rows scopes events values buckets ledger) }
-    ensures { Steps image.now (λ s. event_step image.now f s i) (were scopes events values buckets ledger) result.outcome (are scopes events values buckets result.ledger) }
+    requires { Held image.now (rows scopes.now events.old values.old buckets.old ledger) }
+    ensures { Steps image.now (λ s. event_step image.now f s i) (rows scopes.now events.old values.old buckets.old ledger) result.outcome (rows scopes.now events.new values.new buckets.new result.ledger) }
 {
     let set = f.set;
     let there = f.there;
@@ -258,8 +258,8 @@ fn put(
     ledger: Ledger,
     s: Slot,
 ) -> Stepped
-    requires { Held image.now (rows scopes events values buckets ledger) }
-    ensures { Steps image.now (put_step image.now (event_of s)) (were scopes events values buckets ledger) result.outcome (are scopes events values buckets result.ledger) }
+    requires { Held image.now (rows scopes.now events.old values.old buckets.old ledger) }
+    ensures { Steps image.now (put_step image.now (event_of s)) (rows scopes.now events.old values.old buckets.old ledger) result.outcome (rows scopes.now events.new values.new buckets.new result.ledger) }
 {
     let stored = s.stored;
     let h = hold(
@@ -286,8 +286,8 @@ fn start_timer(
     inside: KeySet,
     j: u16,
 ) -> Stepped
-    requires { Held image.now (rows scopes events values buckets ledger) }
-    ensures { Steps image.now (λ s. timer_step image.now inside.words s j) (were scopes events values buckets ledger) result.outcome (are scopes events values buckets result.ledger) }
+    requires { Held image.now (rows scopes.now events.old values.old buckets.old ledger) }
+    ensures { Steps image.now (λ s. timer_step image.now inside.words s j) (rows scopes.now events.old values.old buckets.old ledger) result.outcome (rows scopes.now events.new values.new buckets.new result.ledger) }
 {
     let i = timer_scope(image, j);
     if !inside.contains(i as usize) {
@@ -341,8 +341,8 @@ fn take_row(
     f: Chosen,
     j: u16,
 ) -> Stepped
-    requires { Held image.now (rows scopes events values buckets ledger) }
-    ensures { Steps image.now (λ s. row_step image.now what f s j) (were scopes events values buckets ledger) result.outcome (are scopes events values buckets result.ledger) }
+    requires { Held image.now (rows scopes.now events.old values.old buckets.old ledger) }
+    ensures { Steps image.now (λ s. row_step image.now what f s j) (rows scopes.now events.old values.old buckets.old ledger) result.outcome (rows scopes.now events.new values.new buckets.new result.ledger) }
 {
     match what {
         What::Value => hold_startup(image, scopes, events, values, buckets, ledger, f, j),
@@ -365,8 +365,8 @@ fn take_rows(
     what: What,
     f: Chosen,
 ) -> Stepped
-    requires { Held image.now (rows scopes events values buckets ledger) }
-    ensures { Steps image.now (all_rows image.now what f) (were scopes events values buckets ledger) result.outcome (are scopes events values buckets result.ledger) }
+    requires { Held image.now (rows scopes.now events.old values.old buckets.old ledger) }
+    ensures { Steps image.now (all_rows image.now what f) (rows scopes.now events.old values.old buckets.old ledger) result.outcome (rows scopes.now events.new values.new buckets.new result.ledger) }
 {
     let kind = kind_of(what);
     let n = table_rows::count(image, kind);
@@ -420,8 +420,8 @@ fn start_all(
     ledger: Ledger,
     f: Chosen,
 ) -> Stepped
-    requires { Held image.now (rows scopes events values buckets ledger) }
-    ensures { Steps image.now (startups_at image.now f) (were scopes events values buckets ledger) result.outcome (are scopes events values buckets result.ledger) }
+    requires { Held image.now (rows scopes.now events.old values.old buckets.old ledger) }
+    ensures { Steps image.now (startups_at image.now f) (rows scopes.now events.old values.old buckets.old ledger) result.outcome (rows scopes.now events.new values.new buckets.new result.ledger) }
 {
     let h = take_rows(
         image,
@@ -454,8 +454,8 @@ pub fn startups(
     first: KeySet,
     plan: Plan,
 ) -> Stepped
-    requires { Held image.now (rows scopes events values buckets ledger) }
-    ensures { Steps image.now (startups_on image.now plan first.words) (were scopes events values buckets ledger) result.outcome (are scopes events values buckets result.ledger) }
+    requires { Held image.now (rows scopes.now events.old values.old buckets.old ledger) }
+    ensures { Steps image.now (startups_on image.now plan first.words) (rows scopes.now events.old values.old buckets.old ledger) result.outcome (rows scopes.now events.new values.new buckets.new result.ledger) }
 {
     let c = plan.c;
     if !some_row(image, table_rows::STARTUP, first) {
@@ -487,8 +487,8 @@ fn reset_reactions(
     ledger: Ledger,
     plan: Plan,
 ) -> Stepped
-    requires { Held image.now (rows scopes events values buckets ledger) }
-    ensures { Steps image.now (resets_on image.now plan) (were scopes events values buckets ledger) result.outcome (are scopes events values buckets result.ledger) }
+    requires { Held image.now (rows scopes.now events.old values.old buckets.old ledger) }
+    ensures { Steps image.now (resets_on image.now plan) (rows scopes.now events.old values.old buckets.old ledger) result.outcome (rows scopes.now events.new values.new buckets.new result.ledger) }
 {
     let c = plan.c;
     let inside = plan.inside;
@@ -523,8 +523,8 @@ pub fn restarts(
     ledger: Ledger,
     plan: Plan,
 ) -> Stepped
-    requires { Held image.now (rows scopes events values buckets ledger) }
-    ensures { Steps image.now (restarts_on image.now plan) (were scopes events values buckets ledger) result.outcome (are scopes events values buckets result.ledger) }
+    requires { Held image.now (rows scopes.now events.old values.old buckets.old ledger) }
+    ensures { Steps image.now (restarts_on image.now plan) (rows scopes.now events.old values.old buckets.old ledger) result.outcome (rows scopes.now events.new values.new buckets.new result.ledger) }
 {
     let set = plan.inside;
     let there = plan.c;

@@ -13,7 +13,7 @@ ghost use Rattle.state_scopes.specs.Scopes.{scope_of, scopes_of, blank};
 ghost use Rattle.state_scopes.specs.Scopes as scope;
 ghost use Rattle.state_room.specs.PartRows.{Waits, Scoped};
 ghost use Rattle.call_transition_plan.specs.Plans.{Inner};
-ghost use Rattle.state_room.specs.Holds.{rows, were, are, Held};
+ghost use Rattle.state_room.specs.Holds.{rows, Held};
 ghost use Rattle.state_room.specs.Parts.{Keeps, queue_in};
 ghost use Rattle.call_transition_resets.specs.Resetting.{dropped_in, zeroed_scope, scope_after, clears, clears_value, clears_bucket, cleared_all, zeroed_scopes, Resets};
 
@@ -190,8 +190,8 @@ pub fn reset(
     plan: Plan,
 ) -> Ledger
     requires inner { Inner image.now plan }
-    requires held { Held image.now (rows scopes events values buckets ledger) }
-    ensures { Resets image.now plan (were scopes events values buckets ledger) (are scopes events values buckets result) }
+    requires held { Held image.now (rows scopes.old events.old values.old buckets.old ledger) }
+    ensures { Resets image.now plan (rows scopes.old events.old values.old buckets.old ledger) (rows scopes.new events.new values.new buckets.new result) }
 {
     let inside = plan.inside;
     let f = inside.lowest_from(0);

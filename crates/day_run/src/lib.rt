@@ -14,7 +14,7 @@ ghost use Rattle.day_lines.specs.Lines.{line_of};
 ghost use Rattle.day_run.specs.Days.{next_at, body_at, ran, answers_of, fitting, image_end, opened, day_answers};
 ghost use Rattle.day_run.specs.Views.{of_next, op_of, line_from, Kept, Taking, RunRows, Pieced};
 ghost use Rattle.state_room.specs.PartRows.{spare_room, Headed};
-ghost use Rattle.state_room.specs.Holds.{Holds, rows, were, are, rows_of, state_in};
+ghost use Rattle.state_room.specs.Holds.{Holds, rows, rows_of, state_in};
 
 use call_perform::{Answer, Call, Performed};
 use call_push::{ActionPush, Push};
@@ -162,11 +162,11 @@ fn take_record(
     parsed: Parsed,
     keys: &[u16],
 ) -> Taken
-    requires kept { Kept image.now (rows scopes events values buckets given) }
+    requires kept { Kept image.now (rows scopes.old events.old values.old buckets.old given) }
     requires headed { Headed heads.old events.old given.counts }
     requires actions_len { (length actions.old ≡ room_for_events) × (key_count parsed ≤ length keys.now) × (spare_room ≤ length spare.old) }
-    ensures taking { Taking image.now (were scopes events values buckets given) (of_parsed parsed keys.now)
-        (line_from image.now result actions.new) (are scopes events values buckets result.performed.ledger) }
+    ensures taking { Taking image.now (rows scopes.old events.old values.old buckets.old given) (of_parsed parsed keys.now)
+        (line_from image.now result actions.new) (rows scopes.new events.new values.new buckets.new result.performed.ledger) }
     ensures headed_2 { Headed heads.new events.new result.performed.ledger.counts }
     ensures actions_len_2 { (length actions.new ≡ room_for_events) × (result.performed.gathered.actions ≤ room_for_events) }
 {
@@ -274,9 +274,9 @@ fn run_rows(
     bytes: &[u8],
     out: &mut [u8],
 ) -> Run
-    requires { Kept image.now (rows scopes events values buckets given) }
-    ensures kept { Kept image.now (are scopes events values buckets result.ledger) }
-    ensures run_rows { RunRows image.now (were scopes events values buckets given) (are scopes events values buckets result.ledger) result.used result.written result.ended
+    requires { Kept image.now (rows scopes.old events.old values.old buckets.old given) }
+    ensures kept { Kept image.now (rows scopes.new events.new values.new buckets.new result.ledger) }
+    ensures run_rows { RunRows image.now (rows scopes.old events.old values.old buckets.old given) (rows scopes.new events.new values.new buckets.new result.ledger) result.used result.written result.ended
         bytes.now out.old out.new }
 {
     let mut ledger = given;

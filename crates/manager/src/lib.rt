@@ -18,7 +18,7 @@ ghost use Rattle.state_scopes.specs.Scopes as scope;
 ghost use Rattle.state_events.specs.Slots.{room_for_events};
 ghost use Rattle.state_room.specs.Padded.{padded};
 ghost use Rattle.state_room.specs.PartRows.{Scoped, most_reactors};
-ghost use Rattle.state_room.specs.Holds.{were, are, rows_of};
+ghost use Rattle.state_room.specs.Holds.{rows_of, rows};
 ghost use Rattle.manager.specs.Arrays.{asks, is_refusal, step_on, shown_ready, no_ready, popped, fresh_over};
 ghost use Rattle.table.specs.Check.{check};
 ghost use Rattle.manager.specs.Views.{joined, arrays_of, arrays_in, Blank, Unpacks, answered_of, called_of, work_reply, some_work};
@@ -158,7 +158,7 @@ fn unpack(
     m: Manager,
 ) -> Ledger
     requires { Blank scopes.old events.old values.old buckets.old }
-    ensures { Unpacks image.now (arrays_of m) (are scopes events values buckets result) }
+    ensures { Unpacks image.now (arrays_of m) (rows scopes.new events.new values.new buckets.new result) }
 {
     let scope_count = table_rows::count(image, table_rows::SCOPE);
     let reactor_count = table_rows::count(image, table_rows::REACTOR);
@@ -254,7 +254,7 @@ fn pack(
     buckets: &BucketRows,
     ledger: Ledger,
 ) -> Manager
-    ensures { arrays_of result ≡ arrays_in (were scopes events values buckets ledger) }
+    ensures { arrays_of result ≡ arrays_in (rows scopes.now events.now values.now buckets.now ledger) }
 {
     let modes = ledger.modes;
     let clocks = clocks_of(scopes);
@@ -438,7 +438,7 @@ fn left_by(
     p: Performed,
 ) -> Manager
     ensures { (ks keys : List ℕ) → arrays_of result ≡
-        cond (asks (call_of call ks) || is_refusal (reply_of p keys)) (arrays_of m) (arrays_in (were scopes events values buckets p.ledger)) }
+        cond (asks (call_of call ks) || is_refusal (reply_of p keys)) (arrays_of m) (arrays_in (rows scopes.now events.now values.now buckets.now p.ledger)) }
 {
     let answer = p.answer;
     let ledger = p.ledger;

@@ -1,8 +1,6 @@
 -- One room for the state: all rows and the ledger, the state that they hold, and what a step or a call does to them. Assumes nothing.
 use Rattle.std.specs.Prelude.{true, ◌≡◌, refl, List, ℕ, ◌≤◌, length, take, get_or}
 use Rattle.std.proofs.Common.{◌∙◌, sym, le_trans, arith}
-use Rattle.std.specs.Borrow.{MutBor}
-use denote.Triple.Both.{Both}
 use Rattle.std.proofs.Math.Dec.{leb}
 use borrow.Author.Tests.{leb-true}
 use Rattle.lists.specs.Tests.{and_left, and_right}
@@ -40,21 +38,9 @@ pub record Rows : Type 0 where
   pub buckets : List ℕ
   pub ledger : Ledger
 
--- ---- of lent arrays and a ledger
-
-abbrev pub Array : Type 0
-Array = MutBor (List ℕ)
-
--- in a `requires`
-abbrev pub rows : Array → Array → Array → Array → Ledger → Rows
-rows xs es vs bs l = record { scopes = xs.now; events = es.now; values = vs.now; buckets = bs.now; ledger = l }
-
--- in an `ensures`: when the call began, and at its end
-abbrev pub were : Both Array Array → Both Array Array → Both Array Array → Both Array Array → Ledger → Rows
-were xs es vs bs l = rows xs.entry es.entry vs.entry bs.entry l
-
-abbrev pub are : Both Array Array → Both Array Array → Both Array Array → Both Array Array → Ledger → Rows
-are xs es vs bs l = rows xs.exit es.exit vs.exit bs.exit l
+-- of lent arrays and a ledger
+abbrev pub rows : List ℕ → List ℕ → List ℕ → List ℕ → Ledger → Rows
+rows xs es vs bs l = record { scopes = xs; events = es; values = vs; buckets = bs; ledger = l }
 
 -- of a room by value
 abbrev pub rows_of : Room → Rows

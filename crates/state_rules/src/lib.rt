@@ -9,7 +9,7 @@ ghost use Rattle.table_rows.specs.Limits.{limits};
 ghost use Rattle.state_events.specs.Slots.{events_of, event_of, room_for_events};
 ghost use Rattle.state_scopes.specs.Scopes.{most_scopes, scopes_of, blank};
 ghost use Rattle.state_room.specs.PartRows.{most_reactors, waiting_in};
-ghost use Rattle.state_room.specs.Holds.{were};
+ghost use Rattle.state_room.specs.Holds.{rows};
 ghost use Rattle.state_rules.specs.Sound.{keys_below, event_keeps, sizes_of, scopes_sound, queue_sound, queue_rules_in, sound_in};
 
 use key_set::{Found, KeySet};
@@ -301,7 +301,7 @@ pub fn keeps_rules(
     buckets: &BucketRows,
     ledger: Ledger,
 ) -> bool
-    ensures { result ≡ sound_in image.now (were scopes events values buckets ledger) }
+    ensures { result ≡ sound_in image.now (rows scopes.now events.now values.now buckets.now ledger) }
 {
     let modes = ledger.modes;
     let counts = ledger.counts;
