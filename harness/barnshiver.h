@@ -1,5 +1,5 @@
 /*
- * barnshiver.h: the functions of libexports.a (`rt staticlib exports`), for x86-64 Linux.
+ * barnshiver.h: the functions of libexports.a (`tools/harness archive`), for x86-64 Linux.
  *
  * Each is proved to meet its contract. They keep nothing between calls, allocate nothing, and answer on any input. Of the C
  * library the archive needs memcpy and memset, and nothing else. "01" is the scope's document and "02" that of the changes;

@@ -1,4 +1,4 @@
-//! Links the archive that `rt staticlib exports` writes: ../target/staticlib, or the folder that BARNSHIVER_LIB names.
+//! Links the archive that `tools/harness archive` writes: ../target/staticlib, or the folder that BARNSHIVER_LIB names.
 //! With the feature `standin` nothing is linked.
 
 use std::env;
@@ -18,7 +18,7 @@ fn main() {
     let archive = folder.join("libexports.a");
     if !archive.is_file() {
         panic!(
-            "{} is not there: run `rt staticlib exports` in the repository's root first",
+            "{} is not there: run `tools/harness archive` first",
             archive.display()
         );
     }

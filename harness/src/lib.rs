@@ -1,7 +1,7 @@
 //! Barnshiver's proved functions for a Rust program: clock maps, the table check, the writer of tables, runs of gate days,
 //! the rescue of damaged ones, and a [`Gate`] over them. `barnshiver.h` has the same for C.
 //!
-//! The archive `target/staticlib/libexports.a` (`rt staticlib exports`) is linked; it has code for x86-64 alone. Nothing in
+//! The archive `target/staticlib/libexports.a` (`tools/harness archive`) is linked; it has code for x86-64 alone. Nothing in
 //! this wrapper is proved; it hands slices over and takes answers apart. "01" is the scope's document.
 //!
 //! ```

@@ -306,7 +306,7 @@ fn answers_stand_aside_with_the_first_difference_first() {
 fn only_calls_that_the_rust_agrees_on_become_theorems() {
     let theorems = |text: &str| antt::file(&[("a.txt".to_string(), text.as_bytes().to_vec())]);
     let written = theorems(&format!("# shown\n{T2} pop")).unwrap();
-    assert!(written.contains("-- shown\nabbrev pub a-image : Image"));
+    assert!(written.contains("-- shown\nabbrev pub a_image : Image"));
     assert!(written.contains("replies =\n          nothing ∷\n          [];"));
     let outside = theorems(&format!("{T2} transition 0 1 history 5 4294967295"));
     assert!(outside.unwrap_err().contains("leaves the domain"));

@@ -1,5 +1,6 @@
 // The proved functions for programs in C and Rust: document 01, "Numbers and byte slices are exported to the Rust harness as C functions".
-// harness/barnshiver.h says what each number and byte is; a new function comes in here, there, and in the wrapper (harness/src).
+// The crate exports_c exports them; harness/barnshiver.h says what each number and byte is. A new function comes in here, there, in that header, and in the
+// wrapper (harness/src).
 ghost use Rattle.std.specs.Prelude.{◌≡◌, true, [], ◌∷◌, ◌+◌, ◌≤◌, min, length};
 ghost use Rattle.table.specs.Check.{is_table, check};
 ghost use Rattle.call_pop.specs.Pops.{reply_of};
@@ -193,8 +194,7 @@ fn put_state(state: &mut [u8], image: &[u8], day: Room) -> usize
 }
 
 // The state after a day's records, over the front of the bytes: 0. Or the image's refusal, and they stay as they were.
-#[unsafe(no_mangle)]
-pub extern "C" fn barnshiver_state_after(day: &[u8], state: &mut [u8]) -> u8
+pub fn barnshiver_state_after(day: &[u8], state: &mut [u8]) -> u8
     ensures { told result state.new ≡ state_told day.now state.old }
 {
     if state.len() < STATE_BYTES {
@@ -215,8 +215,7 @@ pub extern "C" fn barnshiver_state_after(day: &[u8], state: &mut [u8]) -> u8
 // ---- the run of a day
 
 // The lines of a day's answers over the front of the buffer, as many as there are while the longest line still has room; how many bytes they take.
-#[unsafe(no_mangle)]
-pub extern "C" fn barnshiver_run_day(day: &[u8], lines: &mut [u8]) -> usize
+pub fn barnshiver_run_day(day: &[u8], lines: &mut [u8]) -> usize
     ensures { Written lines.old 0 (fitting (length lines.old) (day_answers day.now)) lines.new result }
 {
     day_run::run_day(day, lines)
@@ -245,8 +244,7 @@ fn place_in(checked: Checked) -> u64
 const PLACE_BYTES: usize = 8;
 
 // Whether an image is a table: 0, or the refusal's number; and its place.
-#[unsafe(no_mangle)]
-pub extern "C" fn barnshiver_check_table(image: &[u8], place: &mut [u8]) -> u8
+pub fn barnshiver_check_table(image: &[u8], place: &mut [u8]) -> u8
     ensures { told result place.new ≡ check_told (check image.now) place.old }
 {
     if place.len() < PLACE_BYTES {
@@ -264,8 +262,7 @@ pub extern "C" fn barnshiver_check_table(image: &[u8], place: &mut [u8]) -> u8
 const HALF: u64 = 4294967296;
 
 // The image of counts and rows over the front of the buffer; or the refusal, and the buffer stays as it was.
-#[unsafe(no_mangle)]
-pub extern "C" fn barnshiver_write_table(counts: &[u8], rows: &[u8], buffer: &mut [u8]) -> u64
+pub fn barnshiver_write_table(counts: &[u8], rows: &[u8], buffer: &mut [u8]) -> u64
     ensures { told result buffer.new ≡ write_told (writing counts.now rows.now buffer.old) }
 {
     let answer = table_writer::write(counts, rows, buffer);
@@ -290,8 +287,7 @@ fn report_head(report: &[u8]) -> usize
 
 // Image and kept records of a damaged day over the front of the output, the report over the front of its bytes: 0. Or the image's refusal, its number in
 // the high half and its place in the low one, or 255 in the high half for too little room; and both stay as they were.
-#[unsafe(no_mangle)]
-pub extern "C" fn barnshiver_rescue(day: &[u8], output: &mut [u8], report: &mut [u8]) -> u64
+pub fn barnshiver_rescue(day: &[u8], output: &mut [u8], report: &mut [u8]) -> u64
     ensures { answered result output.new report.new ≡ rescue_bytes day.now output.old report.old }
 {
     let head = report_head(report);
@@ -375,8 +371,7 @@ fn put_tag(tag: &mut [u8], offset: u64, microstep: u32) -> usize
 }
 
 // A global tag on the scope's local scale: 0, or the refusal's number, and the bytes stay as they were.
-#[unsafe(no_mangle)]
-pub extern "C" fn barnshiver_global_to_local(
+pub fn barnshiver_global_to_local(
     clock: &[u8],
     offset: u64,
     microstep: u32,
@@ -397,8 +392,7 @@ pub extern "C" fn barnshiver_global_to_local(
 }
 
 // A local tag on the global scale likewise, and behind it whether it was held back: 1, or 0.
-#[unsafe(no_mangle)]
-pub extern "C" fn barnshiver_local_to_global(
+pub fn barnshiver_local_to_global(
     clock: &[u8],
     offset: u64,
     microstep: u32,

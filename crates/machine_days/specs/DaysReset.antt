@@ -29,7 +29,7 @@ reset_drops_calls =
     pop ∷
     []
 
-pub reset_drops_lem : day_of reset_drops_image reset_drops_calls ≡
+pub reset_drops : day_of reset_drops_image reset_drops_calls ≡
     record {
       replies =
           ok ∷
@@ -56,7 +56,7 @@ pub reset_drops_lem : day_of reset_drops_image reset_drops_calls ≡
           };
     }
 unfolding day_of
-reset_drops_lem = refl
+reset_drops = refl
 
 pub reset_drops_asked : asked_of reset_drops_image reset_drops_calls ≡
     ((nothing ∷ flag false ∷ number 0 ∷ flag true ∷ flag true ∷ flag false ∷ flag true ∷ flag true ∷ flag true ∷ flag false ∷ flag true ∷ []) ∷
@@ -581,7 +581,7 @@ reset_rows_calls =
     pop ∷
     []
 
-pub reset_rows_lem : day_of reset_rows_image reset_rows_calls ≡
+pub reset_rows : day_of reset_rows_image reset_rows_calls ≡
     record {
       replies =
           ok ∷
@@ -604,7 +604,7 @@ pub reset_rows_lem : day_of reset_rows_image reset_rows_calls ≡
           };
     }
 unfolding day_of
-reset_rows_lem = refl
+reset_rows = refl
 
 pub reset_rows_asked : asked_of reset_rows_image reset_rows_calls ≡
     ((nothing ∷ flag false ∷ number 0 ∷ flag true ∷ flag true ∷ flag false ∷ flag false ∷ flag true ∷ flag true ∷ flag false ∷ flag false ∷ []) ∷
