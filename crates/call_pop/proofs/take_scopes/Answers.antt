@@ -27,8 +27,8 @@ take_head-out-requires c =
 
 pub loop-turns-preserved : goal.loop-turns-preserved
 loop-turns-preserved c =
-    let d = scope_head_lem c.args.image.now c.args.scopes.now (take c.take_head-out.result.counts.waiting (events_of c.take_head-out.new.1.0)) c.count-n.ensures c.take_head-out.ensures.1 c.scope_head-local.ensures in
-    (going_next c.loop-turns.invariant.0 (omega (arith, c.loop-turns-test.true)) (sym c.is_at.ensures ∙ c.if-is_at.true) c.take_head-out.ensures.0 d, c.take_head-out.ensures.1)
+    let d = scope_head_lem c.args.image.now c.args.scopes.now (take c.take_head-out.result.counts.waiting (events_of c.take_head-out.new.events)) c.count-n.ensures c.take_head-out.ensures.headed_2 c.scope_head-local.ensures in
+    (going_next c.loop-turns.invariant.0 (omega (arith, c.loop-turns-test.true)) (sym c.is_at.ensures ∙ c.if-is_at.true) c.take_head-out.ensures.takes d, c.take_head-out.ensures.headed_2)
 
 pub returns-else-is_at : goal.returns-else-is_at
 returns-else-is_at c = let l = c.loop-turns in record { takes = going_stop l.invariant.0 (sym c.is_at.ensures ∙ c.if-is_at.false); headed_2 = l.invariant.1 }
