@@ -1,0 +1,22 @@
+-- `call_transition::refusal_of` meets its contract. Assumes nothing.
+use borrow.Author.Tests.{not-true, not-false}
+use Rattle.call_transition.proofs.TransitLaws.{refused_key, refused_target, refused_tag, refused_none}
+use borrow.Author.Rules.{rules}
+use Rattle.std.proofs.lemmas.Bool.{not_from_false, not_from_true}
+use Rattle.call_transition.proofs.refusal_of.Goals as goal
+
+pub returns-then-not-is_known : goal.returns-then-not-is_known
+returns-then-not-is_known c = refused_key _ _ c.is_known.ensures c.if-not-is_known.true
+
+pub returns-then-owner-request : goal.returns-then-owner-request
+returns-then-owner-request c = refused_target _ _ c.is_known.ensures c.if-not-is_known.false c.mode_reactor-owner.ensures c.if-owner-request.true
+
+pub returns-then-not-within : goal.returns-then-not-within
+returns-then-not-within c =
+    refused_tag _ _ c.is_known.ensures c.if-not-is_known.false c.mode_reactor-owner.ensures c.if-owner-request.false c.within.ensures
+    c.if-not-within.true
+
+pub returns : goal.returns
+returns c =
+    refused_none _ _ c.is_known.ensures c.if-not-is_known.false c.mode_reactor-owner.ensures c.if-owner-request.false c.within.ensures
+    c.if-not-within.false
