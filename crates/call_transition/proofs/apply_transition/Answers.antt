@@ -31,7 +31,7 @@ returns-in-Done-outcome c =
     let a = c.args in
     let p = c.plan_of-p in
     let k = moded_steps a.image.now a.ledger.modes a.request p.result p.ensures _ refl _ _ c.steps-r.ensures in
-    performs_done a.image.now a.request c.refusal_of-o.ensures c.enum_told-in-Done-1.given.1 _ _ _ k c.in-Done-outcome.is
+    performs_done a.image.now a.request c.refusal_of-o.ensures c.in-Done.is _ _ _ k c.in-Done-outcome.is
 
 pub returns-in-Refused-outcome : goal.returns-in-Refused-outcome
 returns-in-Refused-outcome c =
@@ -39,5 +39,5 @@ returns-in-Refused-outcome c =
     let p = c.plan_of-p in
     let k = moded_steps a.image.now a.ledger.modes a.request p.result p.ensures _ refl _ _ c.steps-r.ensures in
     let b = c.put_back.ensures ∙ c.save.ensures in
-    performs_refused a.image.now a.request c.refusal_of-o.ensures c.enum_told-in-Done-1.given.1 _ _ _ k b
-    c.enum_told-in-Refused-outcome-1.given.1
+    performs_refused a.image.now a.request c.refusal_of-o.ensures c.in-Done.is _ _ _ k b
+    c.in-Refused-outcome.is

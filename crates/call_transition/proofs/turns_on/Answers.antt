@@ -11,7 +11,7 @@ firsts-first-requires c = c.requires.holds.table
 
 pub begin-requires : goal.begin-requires
 begin-requires c =
-    steps_held _ (all_turns c.args.image.now c.args.plan) _ _ _ c.requires c.turn_scopes-t.ensures c.enum_told-1.given.1
+    steps_held _ (all_turns c.args.image.now c.args.plan) _ _ _ c.requires c.turn_scopes-t.ensures c.in-Done.is
 
 pub returns-in-Done : goal.returns-in-Done
 returns-in-Done c =
@@ -19,7 +19,7 @@ returns-in-Done c =
     let f = c.firsts-first in
     turns_steps a.image.now a.plan f.result.words _ f.ensures _ _
     (steps_then _ (all_turns a.image.now a.plan) (starts_on a.image.now a.plan f.result.words) _ _ _ _ _
-    c.turn_scopes-t.ensures c.enum_told-1.given.1 c.begin.ensures)
+    c.turn_scopes-t.ensures c.in-Done.is c.begin.ensures)
 
 pub returns-in-Refused : goal.returns-in-Refused
 returns-in-Refused c =
