@@ -20,7 +20,7 @@ pub two_there-count-requires : goal.two_there-count-requires
 two_there-count-requires c = omega (arith, count_inside _ c.form_of-form.ensures, c.if-body-form.false)
 
 pub overflow_mul-more : goal.overflow_mul-more
-overflow_mul-more c = let l = more_small _ c.form_of-form.ensures _ c.two_there-count.type-inv in search rules
+overflow_mul-more c = let l = more_small _ c.form_of-form.ensures _ c.two_there-count.type_inv in search rules
 
 pub overflow_add-result : goal.overflow_add-result
 overflow_add-result c = let l = fixed_small _ c.form_of-form.ensures in search rules
