@@ -1,0 +1,7 @@
+-- `day_telling::local_words` meets its contract. Assumes nothing.
+use Rattle.day_telling.proofs.Laws.{local_words_are}
+use borrow.Author.Rules.{rules}
+use Rattle.day_telling.proofs.local_words.Goals as goal
+
+pub returns : goal.returns
+returns c = local_words_are _ _ _ c.scope_at-s.ensures c.to_local-image.ensures c.of_local-m.ensures.0 c.of_local-m.ensures.1.0 c.of_local-m.ensures.1.1

@@ -1,0 +1,29 @@
+-- `day_telling::write_words` meets its contract: one number more a turn. Assumes nothing.
+use borrow.Author.Rules.{rules}
+use Prim.Native.Nat.{◌-◌, ◌≤◌}
+use lib.ListN.{length, take}
+use Rattle.byte_writer.specs.Written.{Written}
+use Rattle.byte_writer.proofs.WrittenLaws.{written_none, written_room, written_long}
+use Rattle.day_telling.specs.Facts.{words_text}
+use Rattle.day_telling.proofs.Laws.{written_word, words_all}
+use Rattle.day_telling.proofs.write_words.Goals as goal
+
+pub loop-i-init : goal.loop-i-init
+unfolding words_text
+loop-i-init c = (search rules, written_none _ _ c.requires)
+
+pub put-space-requires : goal.put-space-requires
+put-space-requires c = written_room c.loop-i.invariant.1
+
+pub write_decimal-end-requires : goal.write_decimal-end-requires
+write_decimal-end-requires c = written_room c.put-space.ensures
+
+pub loop-i-preserved : goal.loop-i-preserved
+loop-i-preserved c =
+    (search rules, written_word _ _ c.loop-i-test.true c.loop-i.invariant.1 c.put-space.ensures c.write_decimal-end.ensures)
+
+pub shape_of-buffer : goal.shape_of-buffer
+shape_of-buffer c = written_long c.loop-i.invariant.1
+
+pub returns : goal.returns
+returns c = words_all _ _ c.loop-i-test.false c.loop-i.invariant.1
