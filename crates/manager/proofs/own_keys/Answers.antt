@@ -1,0 +1,18 @@
+-- `manager::own_keys` meets its contract: invariant: the first i keys, and zeros behind them. Assumes nothing.
+use mathlib.Core.Path.{◌≡◌}
+use Prim.Native.Nat.{◌-◌, ◌≤◌}
+use lib.ListN.{length, take}
+use Rattle.state_room.specs.Padded.{padded}
+use Rattle.state_events.specs.Slots.{room_for_events}
+use Rattle.manager.proofs.Front.{end_few, numbers_none, numbers_next, numbers_all}
+use borrow.Author.Rules.{rules}
+use Rattle.manager.proofs.own_keys.Goals as goal
+
+pub loop-i-init : goal.loop-i-init
+loop-i-init c = (search rules, search end_few, search rules, search numbers_none)
+
+pub loop-i-preserved : goal.loop-i-preserved
+loop-i-preserved c = (search rules, search rules, search rules, search numbers_next)
+
+pub returns : goal.returns
+returns c = record { value = search numbers_all; keys_len = search rules }
