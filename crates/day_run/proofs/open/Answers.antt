@@ -1,0 +1,18 @@
+use Rattle.day_run.proofs.WholeLaws.{open_short, open_large, open_checked}
+use lib.Seq.{length-take-le}
+use mathlib.Core.Path.{sym}
+use borrow.Author.Rules.{rules}
+use Rattle.day_run.proofs.open.Goals as goal
+
+pub returns-then-day-end : goal.returns-then-day-end
+returns-then-day-end c = open_short c.args.day.now _ c.image_end-end.ensures c.if-day-end.true
+
+pub returns-then-end-gt-LARGEST : goal.returns-then-end-gt-LARGEST
+returns-then-end-gt-LARGEST c = open_large c.args.day.now _ c.image_end-end.ensures c.if-end-gt-LARGEST.true
+
+pub slice_bounds-check-end : goal.slice_bounds-check-end
+slice_bounds-check-end c = sym (length-take-le _ _ c.if-day-end.false)
+
+pub returns : goal.returns
+returns c =
+    open_checked c.args.day.now _ c.image_end-end.ensures c.if-day-end.false c.if-end-gt-LARGEST.false c.check.ensures
