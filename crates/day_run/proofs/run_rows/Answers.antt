@@ -79,7 +79,7 @@ returns-after-loop-out c =
     let whole = ends_here i.0 (stops_room i.0 c.loop-out-test.false) i.3 in record { kept = whole.0; run_rows = whole.1 }
 
 pub shape_of-out-after-loop-out : goal.shape_of-out-after-loop-out
-shape_of-out-after-loop-out c = written_long (returns c).1.lines
+shape_of-out-after-loop-out c = written_long (returns-after-loop-out c).run_rows.lines
 
 pub returns-in-Pending : goal.returns-in-Pending
 returns-in-Pending c =
@@ -87,7 +87,7 @@ returns-in-Pending c =
     let whole = ends_here i.0 (stops_pending i.0 c.loop-out-test.true (told c.in-Pending.is c.next_at.ensures)) i.3 in record { kept = whole.0; run_rows = whole.1 }
 
 pub shape_of-out-in-Pending : goal.shape_of-out-in-Pending
-shape_of-out-in-Pending c = written_long (returns-2 c).1.lines
+shape_of-out-in-Pending c = written_long (returns-in-Pending c).run_rows.lines
 
 pub returns-in-Broken : goal.returns-in-Broken
 returns-in-Broken c =
@@ -95,4 +95,4 @@ returns-in-Broken c =
     let whole = ends_broken g (stops_broken g c.loop-out-test.true (told c.in-Broken.is c.next_at.ensures)) c.write_refused-written.ensures in record { kept = whole.0; run_rows = whole.1 }
 
 pub shape_of-out-in-Broken : goal.shape_of-out-in-Broken
-shape_of-out-in-Broken c = written_long (returns-3 c).1.lines
+shape_of-out-in-Broken c = written_long (returns-in-Broken c).run_rows.lines

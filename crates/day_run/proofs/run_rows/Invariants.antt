@@ -18,6 +18,10 @@ use Rattle.day_run.proofs.RunLaws.{Running, running_begins, room_left, told, fit
 use borrow.Author.Rules.{rules}
 use Rattle.day_run.proofs.run_rows.Given as goal
 
+-- the rows of the lent arrays
+abbrev room : List ℕ → List ℕ → List ℕ → List ℕ → Ledger → Rows
+room xs es vs bs l = record { scopes = xs; events = es; values = vs; buckets = bs; ledger = l }
+
 abbrev pub invariant-loop-out : goal.invariant-loop-out
 invariant-loop-out l = Running l.image l.bytes (room l.initial.scopes l.initial.events l.initial.values l.initial.buckets l.initial.ledger) l.initial.out (room l.scopes l.events l.values l.buckets l.ledger) l.used l.written l.out ×
     (length l.keys ≡ most_keys) × (length l.actions ≡ room_for_events) × (l.ended ≡ false) × Held l.heads (heads_of (take l.ledger.counts.waiting (events_of l.events))) ×
