@@ -1,0 +1,14 @@
+-- `day_rescue::stretch` meets its contract. Assumes nothing.
+use Prim.Native.Nat.{◌-◌}
+use mathlib.Core.Path.{sym, ◌∙◌}
+use native.Mathlib.Omega.{arith}
+use borrow.Author.Rules.{rules}
+use Rattle.day_rescue.specs.Places.{Stretched}
+use Rattle.day_rescue.proofs.WalkLaws.{stretch_none, size_inside, stretch_next, stretch_goes}
+use Rattle.day_rescue.proofs.stretch.Given as goal
+
+abbrev pub invariant-loop-at : goal.invariant-loop-at
+invariant-loop-at l = Stretched l.bytes l.end l.from l.at l.records
+
+abbrev pub decreases-loop-at : goal.decreases-loop-at
+decreases-loop-at l = l.end - l.at
