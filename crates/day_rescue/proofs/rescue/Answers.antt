@@ -7,16 +7,6 @@ use borrow.Author.Rules.{rules}
 use Rattle.std.proofs.lemmas.Bool.{not_from_false, not_from_true}
 use Rattle.day_rescue.proofs.rescue.Goals as goal
 
-part-rescue-piece-start-2 : tie.Need-slice-bounds-rescue-piece-start-2
-part-rescue-piece-start-2 c =
-    let w = c.before.before.before in
-    let e = w.before.before.before in
-    let c₁ = e.before in
-    let c₂ = c₁.before.before.before.before in
-    let a = c₂.before.before.before.before.args in
-    let s = begun a.day.now a.out.now a.list.now c₂.«open».ensures c₁.before.before.enum_told.given.1 c₁.before.roomy.ensures (flag_yes refl c₁.if1.false) in
-    end_output s e.image-end.ensures w.write-text.ensures
-
 pub returns-then-not-roomy : goal.returns-then-not-roomy
 returns-then-not-roomy c =
     let a = c.args in
@@ -62,3 +52,9 @@ returns-else-not-roomy c =
     let a = c.args in
     let s = begun a.day.now a.out.now a.list.now c.«open».ensures c.in-Accepted.is c.roomy.ensures (flag_yes refl (not_from_true _ c.if-not-roomy.false)) in
     saved_all s c.image_end-end.ensures c.write_text.ensures c.rescue_piece-piece.ensures
+
+pub slice_bounds-rescue_piece-start-in-Accepted : goal.slice_bounds-rescue_piece-start-in-Accepted
+slice_bounds-rescue_piece-start-in-Accepted c =
+    let a = c.args in
+    let s = begun a.day.now a.out.now a.list.now c.«open».ensures c.in-Accepted.is c.roomy.ensures (flag_yes refl (not_from_true _ c.if-not-roomy.false)) in
+    end_output s c.image_end-end.ensures c.write_text.ensures
