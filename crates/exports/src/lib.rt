@@ -371,12 +371,7 @@ fn put_tag(tag: &mut [u8], offset: u64, microstep: u32) -> usize
 }
 
 // A global tag on the scope's local scale: 0, or the refusal's number, and the bytes stay as they were.
-pub fn barnshiver_global_to_local(
-    clock: &[u8],
-    offset: u64,
-    microstep: u32,
-    tag: &mut [u8],
-) -> u8
+pub fn barnshiver_global_to_local(clock: &[u8], offset: u64, microstep: u32, tag: &mut [u8]) -> u8
     ensures { told result tag.new ≡ map_told tag_bytes 12 (mapped global_to_local clock.now (at offset microstep)) tag.old }
 {
     if tag.len() < TAG_BYTES {
@@ -392,12 +387,7 @@ pub fn barnshiver_global_to_local(
 }
 
 // A local tag on the global scale likewise, and behind it whether it was held back: 1, or 0.
-pub fn barnshiver_local_to_global(
-    clock: &[u8],
-    offset: u64,
-    microstep: u32,
-    tag: &mut [u8],
-) -> u8
+pub fn barnshiver_local_to_global(clock: &[u8], offset: u64, microstep: u32, tag: &mut [u8]) -> u8
     ensures { told result tag.new ≡ map_told mapped_bytes 13 (mapped local_to_global clock.now (at offset microstep)) tag.old }
 {
     if tag.len() < MAPPED_BYTES {

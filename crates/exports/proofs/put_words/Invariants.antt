@@ -1,0 +1,15 @@
+use Prim.Native.Nat.{◌-◌, ◌≤◌}
+use lib.ListN.{length, take}
+use borrow.Author.Rules.{rules}
+use Rattle.byte_writer.specs.Written.{Written}
+use Rattle.byte_writer.proofs.WrittenLaws.{written_room, written_long}
+use Rattle.exports.specs.Told.{word_bytes}
+use Rattle.exports.proofs.ToldLaws.{words_none, words_on, words_all}
+use mathlib.Core.Path.{refl}
+use Rattle.exports.proofs.put_words.Given as goal
+
+abbrev pub invariant-loop-i : goal.invariant-loop-i
+invariant-loop-i l = (l.i ≤ length l.words) × Written l.initial.bytes l.initial.end (word_bytes (take l.i l.words)) l.bytes l.end
+
+abbrev pub decreases-loop-i : goal.decreases-loop-i
+decreases-loop-i l = length l.words - l.i
