@@ -7,4 +7,4 @@ returns-then-place-lt-PLACE_BYTES c = short_place c.args.place.now _ c.if-place-
 
 pub returns : goal.returns
 returns c =
-    check_told_lem c.if-place-lt-PLACE_BYTES.false c.check-checked.ensures c.IsPlace-in.ensures c.number_in.ensures c.put_number.ensures
+    check_told_lem c.if-place-lt-PLACE_BYTES.false c.check-checked.ensures c.place_in-at.ensures c.number_in.ensures c.put_number.ensures
