@@ -75,3 +75,52 @@ pub fn write_all<W: Write>(writer: &mut W, buf: &[u8]) -> bool
 {
     writer.write_all(buf).is_ok()
 }
+
+#[cfg(test)]
+mod tests {
+    use super::*;
+    use std::io;
+    use std::io::{Cursor, ErrorKind};
+
+    // No read of it succeeds.
+    #[derive(Drop)]
+    struct Broken;
+
+    impl Read for Broken {
+        fn read(&mut self, _buf: &mut [u8]) -> io::Result<usize> {
+            Err(io::Error::from(ErrorKind::Other))
+        }
+    }
+
+    #[test]
+    fn short_reads_are_joined(rt: HostRuntime) {
+        let mut input = b"ab".as_slice().chain(b"cde".as_slice());
+        let mut buf = [0u8; 4];
+        assert_eq!(rt; read_full(&mut input, &mut buf), 4);
+        assert!(rt; buf == *b"abcd");
+        assert_eq!(rt; read_full(&mut input, &mut buf), 1);
+        assert!(rt; buf == *b"ebcd");
+        assert_eq!(rt; read_full(&mut input, &mut buf), 0);
+    }
+
+    #[test]
+    fn a_failed_read_keeps_what_came_before(rt: HostRuntime) {
+        let mut input = b"ab".as_slice().chain(Broken);
+        let mut buf = [0u8; 4];
+        let got = read_piece(&mut input, &mut buf);
+        assert!(rt; got.failed);
+        assert_eq!(rt; got.count, 2);
+        assert!(rt; buf == *b"ab\0\0");
+        let none = read_piece(&mut input, &mut buf[..0]);
+        assert!(rt; !none.failed);
+    }
+
+    #[test]
+    fn a_full_writer_is_told(rt: HostRuntime) {
+        let mut room = Cursor::new([0u8; 4]);
+        assert!(rt; write_all(&mut room, b"abc"));
+        assert!(rt; write_all(&mut room, b""));
+        assert!(rt; !write_all(&mut room, b"de"));
+        assert!(rt; room.into_inner() == *b"abcd");
+    }
+}
