@@ -1,6 +1,8 @@
 // The facts of a gate day, made of document 01's sentences: an image and its records from standard input; to standard output, for each record, what it
 // asks, what stood before, the line that the bench answers, and what stands after, a fact a line, as numbers. Folder words makes words and pictures of
 // them. A new fact comes in here as a line with its name; what it says is computed in day_telling and table_broken_rules.
+#![tactic(auto)]
+
 ghost use Rattle.std.specs.Prelude.{◌≡◌, true, ◌<◌, ◌≤◌, length};
 ghost use Rattle.day_records.specs.Records.{most_keys};
 ghost use Rattle.state_events.specs.Slots.{Whole, room_for_events};
@@ -11,10 +13,10 @@ ghost use Rattle.day_run.specs.Views.{Kept};
 
 use day_records::Parsed;
 use key_set::KeySet;
-use libc::{STDIN_FILENO, STDOUT_FILENO};
 use state_heads::{Head, HeadAt};
 use state_queues::{Earliest, Which};
 use state_room::Room;
+use std::io::{Stdin, Stdout};
 use table::{Checked, ImageRefusal};
 use tags::{GlobalTag, QueueTag};
 
@@ -32,7 +34,7 @@ const LINE: usize = 256;
 // So many bytes may be on their way; then they go.
 const ROOM: usize = 8192;
 
-// The desk: how many bytes are on their way; the offsets whose times this record has told, each in the cell that its remainder gives; and,
+// The desk's cells: how many bytes are on their way; the offsets whose times this record has told, each in the cell that its remainder gives; and,
 // from cell FRONT on, the bytes.
 const FRONT: usize = 64;
 
@@ -40,12 +42,17 @@ const CELLS: usize = 8256;
 
 const TIMES: u64 = 61;
 
-type Desk = [u64; CELLS];
+// The desk, and where its bytes go.
+#[derive(Clone, Copy)]
+struct Desk {
+    output: Stdout,
+    cells: [u64; CELLS],
+}
 
 fn filled(desk: &Desk) -> usize
     ensures { result ≤ 8192 }
 {
-    let n = desk[0] as usize;
+    let n = desk.cells[0] as usize;
     if n < ROOM {
         return n;
     }
@@ -58,12 +65,12 @@ fn flush(desk: &mut Desk) {
     let mut chunk = [0u8; ROOM];
     let mut i: usize = 0;
     while i < n {
-        let byte = desk[FRONT + i] % 256;
+        let byte = desk.cells[FRONT + i] % 256;
         chunk[i] = byte as u8;
         i += 1;
     }
-    io::write_all(STDOUT_FILENO, &chunk[..n]);
-    desk[0] = 0;
+    streams::write_all(&mut desk.output, &chunk[..n]);
+    desk.cells[0] = 0;
 }
 
 fn widened(byte: u8) -> u64 {
@@ -83,11 +90,11 @@ fn put(desk: &mut Desk, bytes: &[u8]) {
             break;
         }
         let byte = widened(bytes[i]);
-        desk[FRONT + at] = byte;
+        desk.cells[FRONT + at] = byte;
         at += 1;
         i += 1;
     }
-    desk[0] = at as u64;
+    desk.cells[0] = at as u64;
 }
 
 fn say(desk: &mut Desk, name: &[u8], words: &[u64]) {
@@ -104,10 +111,10 @@ fn say_two(desk: &mut Desk, name: &[u8], first: u64, second: u64) {
 // An offset's hours, minutes, seconds and nanoseconds, once a record; that of zero need not be told.
 fn say_time(desk: &mut Desk, offset: u64) {
     let cell = (offset % TIMES) as usize + 1;
-    if desk[cell] == offset {
+    if desk.cells[cell] == offset {
         return;
     }
-    desk[cell] = offset;
+    desk.cells[cell] = offset;
     let words = day_telling::time_words(offset);
     say(desk, b"time", &words);
 }
@@ -116,7 +123,7 @@ fn say_time(desk: &mut Desk, offset: u64) {
 fn forget_times(desk: &mut Desk) {
     let mut i: usize = 1;
     while i < FRONT {
-        desk[i] = 0;
+        desk.cells[i] = 0;
         i += 1;
     }
 }
@@ -266,7 +273,7 @@ fn say_refused(desk: &mut Desk, image: &[u8], refusal: ImageRefusal) {
 
 // The line of the table's check.
 fn say_table(desk: &mut Desk, checked: Checked) {
-    let mut line = io::buffer();
+    let mut line = streams::buffer();
     let n = day_lines::write_table(&mut line, 0, checked);
     say_answer(desk, &line[..n]);
 }
@@ -689,7 +696,7 @@ fn tell(desk: &mut Desk, image: &[u8], day: Room, bytes: &[u8]) -> Room
     begin_record(desk, bytes);
     let parsed = say_asked(desk, image, &bytes[LENGTH..]);
     say_before(desk, image, day, parsed);
-    let mut output = io::buffer();
+    let mut output = streams::buffer();
     let piece = day_run::run_records(image, day, bytes, &mut output);
     let after = piece.day;
     let written = piece.written;
@@ -700,13 +707,13 @@ fn tell(desk: &mut Desk, image: &[u8], day: Room, bytes: &[u8]) -> Room
 }
 
 // How many bytes of standard input are left.
-fn rest() -> u64 {
+fn rest(mut input: Stdin) -> u64 {
     let mut total: u64 = 0;
     let mut turns: u64 = 1000000000000;
     while 0 < turns {
         turns -= 1;
-        let mut space = io::large_buffer();
-        let got = io::read_full(STDIN_FILENO, &mut space);
+        let mut space = streams::large_buffer();
+        let got = streams::read_full(&mut input, &mut space);
         if got == 0 {
             return total;
         }
@@ -726,43 +733,43 @@ fn bounded(n: usize) -> u64
 }
 
 // How many bytes are not read, and the end.
-fn end_run(desk: &mut Desk) {
-    let left = rest();
+fn end_run(desk: &mut Desk, input: Stdin) {
+    let left = rest(input);
     say_two(desk, b"unread", left, 0);
     say_end(desk);
 }
 
 // A record that ends the run: how many bytes its length says, and how many there are.
-fn say_cut(desk: &mut Desk, said: u64, there: u64) {
+fn say_cut(desk: &mut Desk, input: Stdin, said: u64, there: u64) {
     say_two(desk, b"cut", said, there);
-    let mut line = io::buffer();
+    let mut line = streams::buffer();
     let n = day_lines::write_refused(&mut line, 0, 1);
     say_answer(desk, &line[..n]);
-    end_run(desk);
+    end_run(desk, input);
 }
 
 // The next record over the front of the space; how many bytes it has, or 0 where the run ends.
-fn read_record(desk: &mut Desk, space: &mut [u8]) -> usize
+fn read_record(desk: &mut Desk, mut input: Stdin, space: &mut [u8]) -> usize
     requires { 4096 ≤ length space.old }
     ensures { (result ≤ length space.new) × (length space.new ≡ length space.old) }
 {
-    let got = io::read_full(STDIN_FILENO, &mut space[..LENGTH]);
+    let got = streams::read_full(&mut input, &mut space[..LENGTH]);
     if got == 0 {
         return 0;
     }
     if got < LENGTH {
-        say_cut(desk, 0, got as u64);
+        say_cut(desk, input, 0, got as u64);
         return 0;
     }
     let n = table_rows::four_bytes(space, 0) as usize;
     if day_records::MOST_BYTES < n {
-        say_cut(desk, n as u64, 0);
+        say_cut(desk, input, n as u64, 0);
         return 0;
     }
     let end = LENGTH + n;
-    let more = io::read_full(STDIN_FILENO, &mut space[LENGTH..end]);
+    let more = streams::read_full(&mut input, &mut space[LENGTH..end]);
     if more < n {
-        say_cut(desk, n as u64, more as u64);
+        say_cut(desk, input, n as u64, more as u64);
         return 0;
     }
     end
@@ -778,20 +785,20 @@ fn say_start(desk: &mut Desk, image: &[u8], day: Room)
 }
 
 // The records, one after another.
-fn run(desk: &mut Desk, image: &[u8])
+fn run(desk: &mut Desk, input: Stdin, image: &[u8])
     requires { is_table image.now ≡ true }
 {
     let mut day = day_run::start(image);
     say_start(desk, image, day);
-    let mut input = io::buffer();
+    let mut record = streams::buffer();
     let mut turns: u64 = 1000000000000000;
     while 0 < turns {
         turns -= 1;
-        let end = read_record(desk, &mut input);
+        let end = read_record(desk, input, &mut record);
         if end < LENGTH {
             return;
         }
-        day = tell(desk, image, day, &input[..end]);
+        day = tell(desk, image, day, &record[..end]);
     }
 }
 
@@ -803,7 +810,7 @@ fn say_checked(desk: &mut Desk, image: &[u8], checked: Checked) {
 }
 
 // The image, checked, and its rows; or why it is refused.
-fn answer(desk: &mut Desk, image: &[u8]) {
+fn answer(desk: &mut Desk, input: Stdin, image: &[u8]) {
     let checked = table::check(image);
     say_checked(desk, image, checked);
     match checked {
@@ -814,7 +821,7 @@ fn answer(desk: &mut Desk, image: &[u8]) {
         Checked::Refused(refusal) => say_refused(desk, image, refusal),
     }
     if table::accepted(image) {
-        run(desk, image);
+        run(desk, input, image);
     }
 }
 
@@ -827,11 +834,11 @@ fn say_no_image(desk: &mut Desk, said: u64, there: u64) {
 }
 
 // The image by its length, over the front of the space; how many bytes it has, or 0 where it is cut short or longer than the largest.
-fn read_image(desk: &mut Desk, space: &mut [u8]) -> usize
+fn read_image(desk: &mut Desk, mut input: Stdin, space: &mut [u8]) -> usize
     requires { largest ≤ length space.old }
     ensures { result ≤ length space.new }
 {
-    let got = io::read_full(STDIN_FILENO, &mut space[..LENGTH]);
+    let got = streams::read_full(&mut input, &mut space[..LENGTH]);
     if got < LENGTH {
         say_no_image(desk, 0, got as u64);
         return 0;
@@ -842,7 +849,7 @@ fn read_image(desk: &mut Desk, space: &mut [u8]) -> usize
         return 0;
     }
     let end = LENGTH + n;
-    let more = io::read_full(STDIN_FILENO, &mut space[LENGTH..end]);
+    let more = streams::read_full(&mut input, &mut space[LENGTH..end]);
     if more < n {
         say_no_image(desk, n as u64, more as u64);
         return 0;
@@ -850,11 +857,14 @@ fn read_image(desk: &mut Desk, space: &mut [u8]) -> usize
     end
 }
 
-fn main() {
-    let mut desk = [0u64; CELLS];
-    let mut space = io::buffer();
-    let end = read_image(&mut desk, &mut space);
+fn main(rt: HostRuntime) {
+    let mut desk = Desk {
+        output: rt.stdout(),
+        cells: [0u64; CELLS],
+    };
+    let mut space = streams::buffer();
+    let end = read_image(&mut desk, rt.stdin(), &mut space);
     if 0 < end {
-        answer(&mut desk, &space[..end]);
+        answer(&mut desk, rt.stdin(), &space[..end]);
     }
 }

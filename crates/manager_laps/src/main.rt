@@ -2,6 +2,8 @@
 // Standard input, big-endian, at most 65,536 bytes: number of laps 4, how many bytes the records have that fill the manager 4, then a gate day, an image and its
 // records. Those behind the first make up a lap; where there are none, a lap asks for the least tag.
 // Standard output: 8 bytes mixed of every answer, in order.
+#![tactic(auto)]
+
 ghost use Rattle.std.specs.Prelude.{◌≤◌, length};
 ghost use Rattle.day_records.specs.Records.{most_keys};
 
@@ -9,7 +11,6 @@ use call_perform::Answer;
 use call_push::ActionPush;
 use call_transition_plan::Request;
 use day_records::Parsed;
-use libc::{STDIN_FILENO, STDOUT_FILENO};
 use manager::{Answered, Manager, Pop, Popped};
 use tags::GlobalTag;
 
@@ -167,11 +168,11 @@ fn laps(input: &[u8]) -> u64
     ran.sum
 }
 
-fn main() {
-    let mut input = io::large_buffer();
-    let end = io::read_full(STDIN_FILENO, &mut input);
+fn main(rt: HostRuntime) {
+    let mut input = streams::large_buffer();
+    let end = streams::read_full(&mut rt.stdin(), &mut input);
     let sum = laps(&input[..end]);
     let mut out = [0u8; 8];
     byte_writer::put_number(&mut out, 0, 8, sum);
-    io::write_all(STDOUT_FILENO, &out);
+    streams::write_all(&mut rt.stdout(), &out);
 }

@@ -2,13 +2,17 @@
 // standard output, a line for each dropped run to standard error, and to descriptor 4 one line of what it came to: "rescued RECORDS BYTES RUNS" (the
 // records kept, the bytes and the runs dropped), the table's refusal in the bench's words, or "unread", "unwritten" or "untold" where a read, a write or
 // the list's write failed. A file of any size runs in the memory of a small one. What is kept is day_rescue's.
+#![tactic(auto)]
+
 ghost use Rattle.std.specs.Prelude.{◌≡◌, ◌≤◌, length};
 
 use day_rescue::Run;
-use libc::{STDERR_FILENO, STDIN_FILENO, STDOUT_FILENO};
+use std::fs;
+use std::fs::OpenOptions;
 use table::Checked;
 
-const VERDICT: i32 = 4;
+// The name of descriptor 4.
+const VERDICT: &str = "/dev/fd/4";
 
 // Room for the runs of a piece: 16 and 3 for each byte.
 const LIST: usize = 196624;
@@ -25,42 +29,47 @@ struct Filled {
 }
 
 // Standard input behind what is there, until the buffer is full.
-fn fill(buffer: &mut [u8], from: usize) -> Filled
+fn fill(rt: HostRuntime, buffer: &mut [u8], from: usize) -> Filled
     requires { from ≤ length buffer.old }
     ensures { (result.total ≤ length buffer.new) × (length buffer.new ≡ length buffer.old) }
 {
-    let mut total = from;
-    let mut over = false;
-    let mut failed = false;
-    while total < buffer.len() {
-        let got = libc::read(STDIN_FILENO, &mut buffer[total..]);
-        let n = io::count(got, &buffer[total..]);
-        if n == 0 {
-            over = true;
-            failed = got < 0;
-            break;
-        }
-        total += n;
-    }
+    let piece = streams::read_piece(&mut rt.stdin(), &mut buffer[from..]);
+    let total = from + piece.count;
     Filled {
         total,
-        over,
-        failed,
+        over: total < buffer.len(),
+        failed: piece.failed,
     }
 }
 
-fn say(words: &[u8]) {
-    io::write_all(VERDICT, words);
+// What it came to, to descriptor 4. Without one that can be written it is not said.
+fn say(rt: HostRuntime, words: &[u8]) {
+    if !is_writable(rt) {
+        return;
+    }
+    let mut how = OpenOptions::new();
+    how.append(true);
+    if let Ok(mut verdict) = how.open(&rt, VERDICT) {
+        streams::write_all(&mut verdict, words);
+    }
+}
+
+// Whether descriptor 4 is open to be written. Its name would also write what is open to be read alone.
+fn is_writable(rt: HostRuntime) -> bool {
+    match fs::symlink_metadata(&rt, VERDICT) {
+        Ok(link) => !link.permissions().readonly(),
+        Err(_) => false,
+    }
 }
 
 // "dropped PLACE LENGTH" for each run of a list; whether they were written.
-fn say_runs(list: &[u8]) -> bool {
-    let mut text = io::large_buffer();
+fn say_runs(rt: HostRuntime, list: &[u8]) -> bool {
+    let mut text = streams::large_buffer();
     let mut end: usize = 0;
     let mut at: usize = 0;
     while at < list.len() {
         if text.len() - end < LINE {
-            if !io::write_all(STDERR_FILENO, &text[..end]) {
+            if !streams::write_all(&mut rt.stderr(), &text[..end]) {
                 return false;
             }
             end = 0;
@@ -74,7 +83,7 @@ fn say_runs(list: &[u8]) -> bool {
         end = byte_writer::put(&mut text, end, b'\n');
         at += day_rescue::RUN_BYTES;
     }
-    io::write_all(STDERR_FILENO, &text[..end])
+    streams::write_all(&mut rt.stderr(), &text[..end])
 }
 
 // What all pieces came to.
@@ -85,8 +94,8 @@ struct Sums {
     runs: u64,
 }
 
-fn say_sums(sums: Sums) {
-    let mut text = io::buffer();
+fn say_sums(rt: HostRuntime, sums: Sums) {
+    let mut text = streams::buffer();
     let mut end = byte_writer::write_text(&mut text, 0, b"rescued ");
     end = day_lines::write_decimal(&mut text, end, sums.records);
     end = byte_writer::put(&mut text, end, b' ');
@@ -94,14 +103,14 @@ fn say_sums(sums: Sums) {
     end = byte_writer::put(&mut text, end, b' ');
     end = day_lines::write_decimal(&mut text, end, sums.runs);
     end = byte_writer::put(&mut text, end, b'\n');
-    say(&text[..end]);
+    say(rt, &text[..end]);
 }
 
 // The table's refusal, as the bench says it.
-fn say_table(checked: Checked) {
-    let mut line = io::buffer();
+fn say_table(rt: HostRuntime, checked: Checked) {
+    let mut line = streams::buffer();
     let n = day_lines::write_table(&mut line, 0, checked);
-    say(&line[..n]);
+    say(rt, &line[..n]);
 }
 
 fn added(sum: u64, more: usize) -> u64 {
@@ -121,23 +130,23 @@ fn summed(sums: Sums, records: usize, dropped: usize, listed: usize) -> Sums {
 }
 
 // What a piece kept goes out, and a line for each run that it dropped; a write that fails is said.
-fn put_out(kept: &[u8], list: &[u8]) -> bool {
-    if !io::write_all(STDOUT_FILENO, kept) {
-        say(b"unwritten\n");
+fn put_out(rt: HostRuntime, kept: &[u8], list: &[u8]) -> bool {
+    if !streams::write_all(&mut rt.stdout(), kept) {
+        say(rt, b"unwritten\n");
         return false;
     }
-    if !say_runs(list) {
-        say(b"untold\n");
+    if !say_runs(rt, list) {
+        say(rt, b"untold\n");
         return false;
     }
     true
 }
 
 // The records, piece by piece, from `start` on; `first` of the buffer's bytes are there.
-fn run(input: &mut [u8], first: Filled, start: usize)
+fn run(rt: HostRuntime, input: &mut [u8], first: Filled, start: usize)
     requires { (length input.old ≡ 65536) × (start ≤ first.total) × (first.total ≤ 65536) }
 {
-    let mut output = io::large_buffer();
+    let mut output = streams::large_buffer();
     let mut list = [0u8; LIST];
     let mut there = first;
     let mut from = start;
@@ -154,7 +163,7 @@ fn run(input: &mut [u8], first: Filled, start: usize)
     while 0 < turns {
         turns -= 1;
         if there.failed {
-            say(b"unread\n");
+            say(rt, b"unread\n");
             return;
         }
         let last = there.over;
@@ -169,25 +178,25 @@ fn run(input: &mut [u8], first: Filled, start: usize)
         pending = piece.pending;
         let written = piece.written;
         let listed = piece.listed;
-        if !put_out(&output[..written], &list[..listed]) {
+        if !put_out(rt, &output[..written], &list[..listed]) {
             return;
         }
         sums = summed(sums, piece.records, piece.used - written, listed);
         if last {
-            say_sums(sums);
+            say_sums(rt, sums);
             return;
         }
         let left = byte_writer::shift(input, from + piece.used, total);
-        there = fill(input, left);
+        there = fill(rt, input, left);
         from = 0;
     }
 }
 
-fn main() {
-    let mut input = io::large_buffer();
-    let first = fill(&mut input, 0);
+fn main(rt: HostRuntime) {
+    let mut input = streams::large_buffer();
+    let first = fill(rt, &mut input, 0);
     if first.failed {
-        say(b"unread\n");
+        say(rt, b"unread\n");
         return;
     }
     let total = first.total;
@@ -195,12 +204,12 @@ fn main() {
     match checked {
         Checked::Accepted => {
             let end = day_run::image_end(&input[..total]);
-            if io::write_all(STDOUT_FILENO, &input[..end]) {
-                run(&mut input, first, end);
+            if streams::write_all(&mut rt.stdout(), &input[..end]) {
+                run(rt, &mut input, first, end);
             } else {
-                say(b"unwritten\n");
+                say(rt, b"unwritten\n");
             }
         }
-        Checked::Refused(_) => say_table(checked),
+        Checked::Refused(_) => say_table(rt, checked),
     }
 }

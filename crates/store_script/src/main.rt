@@ -3,9 +3,11 @@
 // (1 push: tag 12, value 8; 2 next microstep: offset 8, least 4; 3 take: tag; 4 clear before: tag; 5 clear: none; 6 move: from, to).
 // Standard output. An answer a call: kind 1 (0 done, 1 a number, 2 nothing, 3 refused), number 8. After a script's calls, what is held,
 // in the store's order: number of values 2, each action 2, tag 12, value 8; number of buckets 2, each action 2, offset 8, next microstep 4.
+#![tactic(auto)]
+
 ghost use Rattle.std.specs.Prelude.{◌≡◌, ◌<◌, ◌≤◌, length};
 
-use libc::{STDIN_FILENO, STDOUT_FILENO};
+use std::io::{Stdin, Stdout};
 use store_words::{Bucket, ROOM_FOR_ENTRIES, Value};
 use tags::GlobalTag;
 use value_store::{Answer, Answered, Store};
@@ -115,70 +117,70 @@ fn put(out: &mut [u8; PIECE], from: usize, to: usize, n: u64)
     }
 }
 
-fn write_count(n: usize) -> bool {
+fn write_count(mut output: Stdout, n: usize) -> bool {
     let mut out = [0u8; PIECE];
     put(&mut out, 0, 2, n as u64);
-    io::write_all(STDOUT_FILENO, &out[..2])
+    streams::write_all(&mut output, &out[..2])
 }
 
-fn write_value(v: Value) -> bool {
+fn write_value(mut output: Stdout, v: Value) -> bool {
     let mut out = [0u8; PIECE];
     put(&mut out, 0, 2, v.action as u64);
     put(&mut out, 2, 10, v.tag.0);
     put(&mut out, 10, 14, v.tag.1 as u64);
     put(&mut out, 14, 22, v.value);
-    io::write_all(STDOUT_FILENO, &out[..22])
+    streams::write_all(&mut output, &out[..22])
 }
 
-fn write_bucket(b: Bucket) -> bool {
+fn write_bucket(mut output: Stdout, b: Bucket) -> bool {
     let mut out = [0u8; PIECE];
     put(&mut out, 0, 2, b.action as u64);
     put(&mut out, 2, 10, b.offset);
     put(&mut out, 10, 14, b.next as u64);
-    io::write_all(STDOUT_FILENO, &out[..14])
+    streams::write_all(&mut output, &out[..14])
 }
 
-fn write_answer(kind: u8, n: u64) -> bool {
+fn write_answer(mut output: Stdout, kind: u8, n: u64) -> bool {
     let mut out = [0u8; PIECE];
     put(&mut out, 0, 1, kind as u64);
     put(&mut out, 1, 9, n);
-    io::write_all(STDOUT_FILENO, &out[..9])
+    streams::write_all(&mut output, &out[..9])
 }
 
-fn write_said(answer: Answer) -> bool {
+fn write_said(output: Stdout, answer: Answer) -> bool {
     match answer {
-        Answer::Done => write_answer(0, 0),
-        Answer::Number(n) => write_answer(1, n),
-        Answer::Nothing => write_answer(2, 0),
-        Answer::Refused(r) => write_answer(3, refusals::number_of(r) as u64),
+        Answer::Done => write_answer(output, 0, 0),
+        Answer::Number(n) => write_answer(output, 1, n),
+        Answer::Nothing => write_answer(output, 2, 0),
+        Answer::Refused(r) => write_answer(output, 3, refusals::number_of(r) as u64),
     }
 }
 
-fn write_values(s: Store) -> bool {
+fn write_values(output: Stdout, s: Store) -> bool {
     let values = s.values;
     let n = s.held;
-    let mut ok = write_count(n);
+    let mut ok = write_count(output, n);
     let mut i: usize = 0;
     while i < n {
         if ROOM_FOR_ENTRIES <= i {
             return false;
         }
-        ok = write_value(values[i]);
+        ok = write_value(output, values[i]);
         i += 1;
     }
     ok
 }
 
-fn write_buckets(s: Store) -> bool {
+fn write_buckets(output: Stdout, s: Store) -> bool {
     let buckets = s.buckets;
     let n = s.open;
-    let mut ok = write_count(n);
+    let mut ok = write_count(output, n);
     let mut i: usize = 0;
     while i < n {
         if ROOM_FOR_ENTRIES <= i {
             return false;
         }
-        ok = write_bucket(buckets[i]);
+        ok = write_bucket(output, buckets[i]);
         i += 1;
     }
     ok
@@ -210,64 +212,78 @@ fn call(store: Store, image: &[u8], op: u64, action: u16, s: &[u8; PIECE]) -> An
 }
 
 // A call whose operands come next, and the store after it.
-fn performed(store: Store, image: &[u8], op: u64, action: u16) -> Store {
+fn performed(
+    mut input: Stdin,
+    output: Stdout,
+    store: Store,
+    image: &[u8],
+    op: u64,
+    action: u16,
+) -> Store {
     let mut piece = [0u8; PIECE];
     let n = operands(op);
-    let got = io::read_full(STDIN_FILENO, &mut piece[..n]);
+    let got = streams::read_full(&mut input, &mut piece[..n]);
     if got < n {
         return store;
     }
     let a = call(store, image, op, action, &piece);
     let answer = a.answer;
     let after = a.store;
-    if write_said(answer) {
+    if write_said(output, answer) {
         return after;
     }
     store
 }
 
 // One call of the input, and the store after it.
-fn turn(store: Store, image: &[u8]) -> Store {
+fn turn(mut input: Stdin, output: Stdout, store: Store, image: &[u8]) -> Store {
     let mut piece = [0u8; PIECE];
-    let got = io::read_full(STDIN_FILENO, &mut piece[..3]);
+    let got = streams::read_full(&mut input, &mut piece[..3]);
     if got < 3 {
         return store;
     }
-    performed(store, image, number(&piece, 0, 1), short(&piece, 1, 3))
+    performed(
+        input,
+        output,
+        store,
+        image,
+        number(&piece, 0, 1),
+        short(&piece, 1, 3),
+    )
 }
 
 // So many calls of the input on an empty store.
-fn run(image: &[u8], calls: u64) -> Store {
+fn run(input: Stdin, output: Stdout, image: &[u8], calls: u64) -> Store {
     let mut store = Store::new();
     let mut left = calls;
     while 0 < left {
-        store = turn(store, image);
+        store = turn(input, output, store, image);
         left -= 1;
     }
     store
 }
 
 // One script; false at the end of the input.
-fn script() -> bool {
+fn script(mut input: Stdin, output: Stdout) -> bool {
     let mut piece = [0u8; PIECE];
-    let got = io::read_full(STDIN_FILENO, &mut piece[..4]);
+    let got = streams::read_full(&mut input, &mut piece[..4]);
     if got < 4 {
         return false;
     }
     let made = image_of(short(&piece, 0, 2));
     let bytes = made.bytes;
     let len = made.len;
-    let store = run(&bytes[..len], number(&piece, 2, 4));
-    if write_values(store) {
-        return write_buckets(store);
+    let store = run(input, output, &bytes[..len], number(&piece, 2, 4));
+    if write_values(output, store) {
+        return write_buckets(output, store);
     }
     false
 }
 
-fn main() {
+fn main(rt: HostRuntime) {
     let mut scripts: u64 = 0xffff_ffff;
     while 0 < scripts {
-        if script() {
+        if script(rt.stdin(), rt.stdout()) {
             scripts -= 1;
         } else {
             return;

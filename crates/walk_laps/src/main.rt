@@ -2,11 +2,12 @@
 // Standard input, big-endian, at most 65,536 bytes: number of laps 4, number of reactions 2, the level of each 1, then the walks' sets (number of keys 2,
 // keys 2 each).
 // Standard output: 8 bytes mixed of every level and key, in the order in which they were given.
+#![tactic(auto)]
+
 ghost use Rattle.std.specs.Prelude.{◌<◌, ◌≤◌, length};
 
 use key_set::{Found, KeySet};
 use level_walk::{Given, LevelWalk};
-use libc::{STDIN_FILENO, STDOUT_FILENO};
 
 // Where the levels begin.
 const LEVELS: usize = 6;
@@ -103,11 +104,11 @@ fn laps(input: &[u8]) -> u64
     sum
 }
 
-fn main() {
-    let mut input = io::large_buffer();
-    let end = io::read_full(STDIN_FILENO, &mut input);
+fn main(rt: HostRuntime) {
+    let mut input = streams::large_buffer();
+    let end = streams::read_full(&mut rt.stdin(), &mut input);
     let sum = laps(&input[..end]);
     let mut out = [0u8; 8];
     byte_writer::put_number(&mut out, 0, 8, sum);
-    io::write_all(STDOUT_FILENO, &out);
+    streams::write_all(&mut rt.stdout(), &out);
 }

@@ -3,11 +3,13 @@
 // the keys added before the first level (likewise), number of steps 2, and for each step the keys added after the level of that number,
 // from 0 (likewise).
 // Standard output, for each walk: number of levels given 2, and for each: level 1, number of keys 2, keys 2 each, ascending.
+#![tactic(auto)]
+
 ghost use Rattle.std.specs.Prelude.{◌<◌};
 
 use key_set::{Found, KeySet};
 use level_walk::{Given, LevelWalk};
-use libc::{STDIN_FILENO, STDOUT_FILENO};
+use std::io::{Stdin, Stdout};
 
 // The most reactions of a walk.
 const REACTIONS: usize = 128;
@@ -44,18 +46,18 @@ fn pair(b: &[u8; 2]) -> usize {
 }
 
 // The next two bytes of the script.
-fn short() -> usize {
+fn short(mut input: Stdin) -> usize {
     let mut b = [0u8; 2];
-    io::read_full(STDIN_FILENO, &mut b);
+    streams::read_full(&mut input, &mut b);
     pair(&b)
 }
 
 // The next set of the script.
-fn keys() -> KeySet {
-    let mut left = short();
+fn keys(input: Stdin) -> KeySet {
+    let mut left = short(input);
     let mut set = KeySet::empty();
     while 0 < left {
-        let k = short();
+        let k = short(input);
         set = set.insert(k);
         left -= 1;
     }
@@ -91,13 +93,13 @@ fn put_keys(out: &mut [u8], at: usize, keys: KeySet) -> usize {
 }
 
 // Keys added after a level, where the script has some.
-fn added(turn: Walking, levels: &[u8]) -> Walking {
+fn added(input: Stdin, turn: Walking, levels: &[u8]) -> Walking {
     let steps = turn.steps;
     if steps == 0 {
         return turn;
     }
     let walk = turn.walk;
-    let answer = walk.add(keys(), levels);
+    let answer = walk.add(keys(input), levels);
     let next = answer.walk;
     Walking {
         walk: next,
@@ -106,7 +108,7 @@ fn added(turn: Walking, levels: &[u8]) -> Walking {
 }
 
 // The whole walk, with its levels put behind the answer's first two bytes.
-fn walked(start: Walking, levels: &[u8], out: &mut [u8]) -> Ended {
+fn walked(input: Stdin, start: Walking, levels: &[u8], out: &mut [u8]) -> Ended {
     let mut turn = start;
     let mut end = 2;
     let mut n = 0;
@@ -127,7 +129,7 @@ fn walked(start: Walking, levels: &[u8], out: &mut [u8]) -> Ended {
         let place = put(out, end, v);
         end = put_keys(out, place, step.keys);
         let next = step.next;
-        turn = added(Walking { walk: next, steps }, levels);
+        turn = added(input, Walking { walk: next, steps }, levels);
         n += 1;
     }
     Ended {
@@ -150,12 +152,12 @@ fn asked(walk: LevelWalk, levels: &[u8]) -> usize
 }
 
 // The steps after the walk's end are added too, and a level is asked for after each: how many that gives.
-fn late(rest: Walking, levels: &[u8]) -> usize {
+fn late(input: Stdin, rest: Walking, levels: &[u8]) -> usize {
     let mut turn = rest;
     let mut left = rest.steps;
     let mut n = 0;
     while 0 < left {
-        turn = added(turn, levels);
+        turn = added(input, turn, levels);
         let walk = turn.walk;
         n = (n + asked(walk, levels)) % 65536;
         left -= 1;
@@ -163,52 +165,52 @@ fn late(rest: Walking, levels: &[u8]) -> usize {
     n
 }
 
-fn written(out: &[u8], end: usize) -> bool {
+fn written(mut output: Stdout, out: &[u8], end: usize) -> bool {
     if end <= out.len() {
-        return io::write_all(STDOUT_FILENO, &out[..end]);
+        return streams::write_all(&mut output, &out[..end]);
     }
     false
 }
 
-fn answered(levels: &[u8]) -> bool {
-    let start = LevelWalk::new(keys(), levels);
+fn answered(input: Stdin, output: Stdout, levels: &[u8]) -> bool {
+    let start = LevelWalk::new(keys(input), levels);
     let fresh = start.walk;
-    let answer = fresh.add(keys(), levels);
+    let answer = fresh.add(keys(input), levels);
     let walk = answer.walk;
-    let steps = short();
+    let steps = short(input);
     let mut out = [0u8; ROOM];
-    let w = walked(Walking { walk, steps }, levels, &mut out);
+    let w = walked(input, Walking { walk, steps }, levels, &mut out);
     let rest = w.rest;
-    let more = late(rest, levels);
+    let more = late(input, rest, levels);
     put_short(&mut out, 0, w.levels % 65536 + more % 65536);
-    written(&out, w.end)
+    written(output, &out, w.end)
 }
 
 // One walk over n reactions; false where there is no room for them.
-fn filled(room: &mut [u8], n: usize) -> bool {
+fn filled(mut input: Stdin, output: Stdout, room: &mut [u8], n: usize) -> bool {
     if room.len() < n {
         return false;
     }
     let levels = &mut room[..n];
-    io::read_full(STDIN_FILENO, levels);
-    answered(levels)
+    streams::read_full(&mut input, levels);
+    answered(input, output, levels)
 }
 
 // One walk; false at the end of the script.
-fn turn() -> bool {
+fn turn(mut input: Stdin, output: Stdout) -> bool {
     let mut head = [0u8; 2];
-    let n = io::read_full(STDIN_FILENO, &mut head);
+    let n = streams::read_full(&mut input, &mut head);
     if n < 2 {
         return false;
     }
     let mut room = [0u8; REACTIONS];
-    filled(&mut room, pair(&head))
+    filled(input, output, &mut room, pair(&head))
 }
 
-fn main() {
+fn main(rt: HostRuntime) {
     let mut turns: u64 = 0xffff_ffff;
     while 0 < turns {
-        if turn() {
+        if turn(rt.stdin(), rt.stdout()) {
             turns -= 1;
         } else {
             return;
