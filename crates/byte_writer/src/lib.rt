@@ -1,5 +1,7 @@
 // Bytes and numbers put into a lent buffer one behind the other: document 01, "Big-endian". Total: past the buffer's end nothing is written.
 // The order of a written number's bytes is in `put_number`; lines, images and exports are written by these functions.
+#![tactic(auto)]
+
 ghost use Rattle.std.specs.Prelude.{◌≡◌, ◌∷◌, [], ◌+◌, ◌-◌, ◌≤◌, ◌<◌, length, take, drop};
 ghost use Rattle.table_rows.specs.Bytes.{be_bytes};
 ghost use Rattle.byte_writer.specs.Written.{Written};

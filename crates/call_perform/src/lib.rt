@@ -1,5 +1,7 @@
 // One call on the room: document 01, "The plain machine", all that it answers. Here the calls are told apart, once: the manager by value and the
 // run of a day come in by `perform`, with every queue's least tag lent. A new call gets its variant of `Call` and its line in `perform`.
+#![tactic(auto)]
+
 ghost use Rattle.std.specs.Prelude.{◌≡◌, ◌≤◌, length};
 ghost use Rattle.machine.specs.State.{State};
 ghost use Rattle.machine.specs.Machine as M;

@@ -1,5 +1,7 @@
 // Pop and peek over the events and scopes in lent rows: document 01, "Pop at peek tag t", "Peek", "Control only"; the contracts cite the machine.
 // Callers lend every queue's least tag; `pop_next_event` keeps it.
+#![tactic(auto)]
+
 ghost use Rattle.std.specs.Prelude.{◌≡◌, ◌&&◌, ◌+◌, ◌≤◌, length, take};
 ghost use Rattle.lists.specs.Lists.{every};
 ghost use Rattle.tags.specs.Views.{of_global, of_queue};

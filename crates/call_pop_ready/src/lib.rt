@@ -1,5 +1,7 @@
 // What a pop gathers from the events that it takes: document 01, "union of reactions, terminal, some ordinary work, network by "or", and each action key
 // once, in order of taking". Whether they were held back (02, C-20) is known of all that are taken out at once, and said by `hold`. A new part of a ready event comes in here: in `Gathered`, in `add`, and in `Gathering` of specs/.
+#![tactic(auto)]
+
 ghost use Rattle.std.specs.Prelude.{◌≡◌, ◌||◌, ◌+◌, ◌≤◌, ◌<◌, length, take, eqb};
 ghost use Rattle.lists.specs.Lists.{any, lose, over};
 ghost use Rattle.lists.specs.Lay.{lay};

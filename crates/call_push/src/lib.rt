@@ -1,6 +1,8 @@
 // Pushes over the events and scopes in lent rows: document 01, "Push (plain, network, control)", "Push of an action"; the contracts cite the machine.
 // Refusals in their order: 5, 6, 7, 8. A new one comes in at its place in `root_made` and `action_made`; the event joins in `give`, and a new
 // kind of push gets its variant of `Push` and its event in `event_of`. Callers lend every queue's least tag, which `push_with` keeps.
+#![tactic(auto)]
+
 ghost use Rattle.std.specs.Prelude.{◌≡◌, cond, ◌&&◌, ◌+◌, ◌<◌, get_or};
 ghost use Rattle.lists.specs.Walk as lists;
 ghost use Rattle.tags.specs.Views.{of_global, of_local, of_queue, of_clock, mapped_local};

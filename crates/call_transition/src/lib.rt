@@ -1,6 +1,8 @@
 // A transition on the room's rows: document 01, "A transition (reactor, target, kind, current tag c), in order", or nothing changes.
 // The order of the steps, and of 5, 10 and 6 before them, is here; each step has its crate. A refused one puts the rows as given back, here alone:
 // those in use are saved in a lent spare before the steps.
+#![tactic(auto)]
+
 ghost use Rattle.std.specs.Prelude.{◌≡◌, ◌&&◌, ◌+◌, ◌≤◌, ltb, length, drop};
 ghost use Rattle.std.proofs.Math.Seq.{paste};
 ghost use Rattle.machine.specs.Table.{reactors, modes as modes_in};

@@ -1,6 +1,8 @@
 // What a transition starts, on the room's rows: document 01, "If any scope active for the first time has startup rows" (4), "for each timer row" (5).
 // A refusal ends a step; its caller then puts the rows as given back. Each part takes the whole room, so that its contract is a step of the machine.
 // Where a timer's event waits, and at which tag, is in `timer_slot` and `timer_image`; callers use `firsts`, `startups` and `restarts`.
+#![tactic(auto)]
+
 ghost use Rattle.std.specs.Prelude.{◌≡◌, true, ◌&&◌, not, ◌≤◌};
 ghost use Rattle.key_set.specs.Sets.{has};
 ghost use Rattle.tags.specs.Tags.{tag_only};

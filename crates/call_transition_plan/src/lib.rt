@@ -1,5 +1,7 @@
 // What a transition goes by, worked out before anything changes: document 01, "the target scope's subtree, itself included", "Set the reactor's mode".
 // What the steps must know of the table and the modes comes in here, in `Plan` and `Planned`; they take it by value and work nothing out twice.
+#![tactic(auto)]
+
 ghost use Rattle.std.specs.Prelude.{◌≡◌, true, ◌&&◌, map, ◌≤◌, ◌<◌, length};
 ghost use Rattle.lists.specs.Lists.{from};
 ghost use Rattle.table_rows.specs.Lineage.{in_subtree};

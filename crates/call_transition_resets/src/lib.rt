@@ -1,5 +1,7 @@
 // What a reset clears, on the room's rows: document 01, "drop all local events and set L and S to zero; clear the values and buckets".
 // The modes are the plan's. What else a reset clears comes in here, in `reset`, and in the machine's `step1`.
+#![tactic(auto)]
+
 ghost use Rattle.std.specs.Prelude.{◌≡◌, true, ◌≤◌, map, length, get_or, set, take};
 ghost use Rattle.lists.specs.Lists.{lose, over};
 ghost use Rattle.table_rows.specs.Limits.{limits};

@@ -1,6 +1,8 @@
 // The records of a gate day: document 01, "length 4, version 1 (holding 1), op 1, operands". One is parsed from exactly the bytes that its length counts.
 // Total on bytes: a call, or malformed. Any tag and any key is well formed; whether the table has them is for the call.
 // A new op comes in here: `Parsed`, `form_of`, `parse_op`, and `op_of` of specs/. The rescue goes by the same test, `is_formed`.
+#![tactic(auto)]
+
 ghost use Rattle.std.specs.Prelude.{◌≡◌, true, ℕ, ◌+◌, ◌≤◌, ◌<◌, List, length};
 ghost use Rattle.table_rows.specs.Bytes.{be};
 ghost use Rattle.tags.specs.Views.{of_global};

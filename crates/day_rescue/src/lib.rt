@@ -1,6 +1,8 @@
 // What is still whole of a damaged gate day: document 02, C-23, "it takes each record that is well formed by 01's rules". The bytes behind the image
 // come in pieces of any size; the kept ones go over the front of a lent slice, the dropped runs, by place and length, over another. What is well formed
 // is said in crate day_records alone. A byte is looked at from at most twelve places, each tried at most twice; a kept byte is copied once.
+#![tactic(auto)]
+
 ghost use Rattle.std.specs.Prelude.{◌≡◌, true, ◌+◌, ◌≤◌, ◌<◌, length};
 ghost use Rattle.byte_writer.specs.Written.{Written};
 ghost use Rattle.day_rescue.specs.Rescue as rules;

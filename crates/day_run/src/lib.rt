@@ -1,6 +1,8 @@
 // The run of a gate day on rows: document 01, "The bench program". One record, one answer: `take_record` makes its call, `say` writes its line.
 // No test of the state rules is made on the way: every call keeps them (crate machine_rules_kept). Records come in pieces of any size; a piece's run takes as many
 // whole ones as there are. A new op comes in here in `op_of`; what else is made of an answer, beside `say`.
+#![tactic(auto)]
+
 ghost use Rattle.std.specs.Prelude.{◌≡◌, true, ◌+◌, ◌≤◌, length};
 ghost use Rattle.machine.specs.State.{State, fresh as fresh_state};
 ghost use Rattle.state_events.specs.Slots.{room_for_events};

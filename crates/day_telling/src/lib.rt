@@ -1,5 +1,7 @@
 // What a day's tale is told from, made of document 01's sentences: times split, tags mapped and held back, calls and what they lack, each as a line of
 // numbers. The words and the picture are made of these lines outside the proofs (folder words), and compute nothing: what is told is computed here.
+#![tactic(auto)]
+
 ghost use Rattle.std.specs.Prelude.{◌≡◌, ◌≤◌, length, get_or};
 ghost use Rattle.table_rows.specs.Kinds.{count, reaction};
 ghost use Rattle.tags.specs.Tags.{tag_only};

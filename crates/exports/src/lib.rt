@@ -1,6 +1,8 @@
 // The proved functions for programs in C and Rust: document 01, "Numbers and byte slices are exported to the Rust harness as C functions".
 // The crate exports_c exports them; harness/barnshiver.h says what each number and byte is. A new function comes in here, there, in that header, and in the
 // wrapper (harness/src).
+#![tactic(auto)]
+
 ghost use Rattle.std.specs.Prelude.{◌≡◌, true, [], ◌∷◌, ◌+◌, ◌≤◌, min, length};
 ghost use Rattle.table.specs.Check.{is_table, check};
 ghost use Rattle.call_pop.specs.Pops.{reply_of};

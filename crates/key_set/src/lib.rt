@@ -1,6 +1,8 @@
 // Sets of keys over 64-bit words: document 01, "Set facts are proved for any number of words"; the set under key_set.rs (tinymap's `KeySet`).
 // A key at or above KEYS is beyond the capacity: no set has it, and inserting it changes nothing.
 // How many words there are comes in here, in WORDS and `word_count`; callers use the methods, and only state_events goes over the words.
+#![tactic(auto)]
+
 ghost use Rattle.std.specs.Prelude.{◌≡◌, cond, ◌/◌, ◌%◌, ◌^◌, eqb};
 ghost use Rattle.key_set.specs.Sets.{no_keys, has, insert_key, union_of, lowest_from, size_of, is_empty_of, word_count};
 ghost use Rattle.key_set.specs.Views.{found_of};

@@ -1,5 +1,7 @@
 // Laws on lists, rows in lent arrays and steps that every crate uses; no sentence of document 01. Definitions, in specs/, and one function, `bit`.
 // A law that two crates need comes in here, once.
+#![tactic(auto)]
+
 ghost use Rattle.std.specs.Prelude.{◌≡◌, ◌<◌};
 ghost use Rattle.lists.specs.Tests.{bit_of};
 

@@ -7,6 +7,8 @@
 //   ordinary_work -> nonterminal_work and has_nonterminal_work, active_now -> scope_active, ever_active -> scope_ever_active,
 //   push_value -> push_value, next_step -> next_value_microstep, take_value -> take_value,
 //   clear_before -> clear_values_older_than, move_value -> move_value, clear_action -> clear_values.
+#![tactic(auto)]
+
 ghost use Rattle.std.specs.Prelude.{false, cond, ◌||◌, ◌≡◌, List, [], map, ℕ, ◌≤◌, min, length, take, replicate};
 ghost use Rattle.tags.specs.Views.{of_clock, of_global};
 ghost use Rattle.store_words.specs.Entries.{room_for_entries, blank_value, blank_bucket, of_value, of_bucket};

@@ -1,5 +1,7 @@
 // What a call answers instead of its result: document 01, "Numbers of refusal"; and `Outcome`, done or a refusal, the only one there is.
 // A new number comes in here: a case of `Refusal`, in `number_of` and in `number_of`. Images and records have types of their own.
+#![tactic(auto)]
+
 ghost use Rattle.std.specs.Prelude.{◌≡◌};
 ghost use Rattle.refusals.specs.Refusals.{number_of};
 

@@ -1,6 +1,8 @@
 // A waiting event as a slot, and slots as rows of words in one array that can be lent: document 01, "in order of acceptance, one slot each".
 // Only `slot_of`, `due_at` and `words_of` know the words; every other function speaks of rows or of slots.
 // Another width or a new field of an event comes in here: these three, NUMBER_WORDS, and `numbers_of` and `decode` of specs/.
+#![tactic(auto)]
+
 ghost use Rattle.std.specs.Prelude.{◌≡◌, ◌<◌, get_or, set, replicate};
 ghost use Rattle.std.proofs.lemmas.List.Edits.{sets};
 ghost use Rattle.lists.specs.Rows.{row_at, put_row};

@@ -1,5 +1,7 @@
 // A fresh manager's room: document 01, "A fresh manager has the initial modes, and nothing waits or is held."
 // What a new part of the state is at first comes in here, in `bare`; callers use `room` and `bare` alone.
+#![tactic(auto)]
+
 ghost use Rattle.std.specs.Prelude.{◌≡◌, true, map, ◌≤◌, replicate};
 ghost use Rattle.lists.specs.Lists.{from};
 ghost use Rattle.table_rows.specs.Rows.{initial_mode};

@@ -1,5 +1,7 @@
 // Heads, and the least of them: document 01, "Head: root, its least tag; active scope, its least local tag, mapped."
 // Which head comes first is decided here; pops and the tellings use `root_head`, `scope_head` and `peek`. Whether a head's events were held back is `is_held`.
+#![tactic(auto)]
+
 ghost use Rattle.std.specs.Prelude.{◌≡◌, cond, get_or};
 ghost use Rattle.tags.specs.Views.{of_queue};
 ghost use Rattle.machine.specs.Heads.{no_tag, least, root_of, mapped_head, scope_head_of, held_at, sooner as sooner_of};

@@ -1,6 +1,8 @@
 // Waiting events in lent rows: document 01, "Events lie in a root queue and one local queue per scope". The Rust's sched/queue.rs.
 // An event joins the rows by `accept` (8) alone, and leaves them by `remove`, or by `take_out` of call_pop_ready. Each queue's least tag is worked out by `heads`
 // and kept by `grow` and `renew`.
+#![tactic(auto)]
+
 ghost use Rattle.std.specs.Prelude.{◌≡◌, ◌+◌, ◌≤◌, ◌<◌, length, get_or, set, take};
 ghost use Rattle.lists.specs.Lists.{lose, keep, count};
 ghost use Rattle.lists.specs.Lists as lists;

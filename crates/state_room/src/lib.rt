@@ -1,6 +1,8 @@
 // One room for the state: document 01, "The plain machine", its events, scopes, modes, work and values, in rows of words that are lent, and a ledger
 // of all that lies in no row. What the rows hold, and what a call does to them, is in specs/. A new part of the state comes in here: in the ledger or
 // as a row, in `Holds` and in `state_in`; crates above speak of these alone.
+#![tactic(auto)]
+
 ghost use Rattle.std.specs.Prelude.{◌≡◌};
 ghost use Rattle.state_room.specs.PartRows.{bare_ledger};
 

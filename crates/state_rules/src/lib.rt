@@ -1,5 +1,7 @@
 // The state rules on lent rows: document 01, "State rules", and 11, "the state handed in breaks a state rule".
 // A new rule comes in here beside the machine's `rules`; callers ask `keeps_rules` alone.
+#![tactic(auto)]
+
 ghost use Rattle.std.specs.Prelude.{◌≡◌, ◌&&◌, map, ◌≤◌, leb, length, get_or, take};
 ghost use Rattle.lists.specs.Lists.{every, count, from};
 ghost use Rattle.tags.specs.Tags.{within_clock};

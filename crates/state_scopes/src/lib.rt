@@ -1,5 +1,7 @@
 // The scopes of a manager as rows of words in one array that can be lent: document 01, "A scope clock has ..", "active now, ever active".
 // Only `scope_at` and `put_scope` know the words: a new field of a scope comes in here, in both, in SCOPE_WORDS, and in `encode` and `decode`.
+#![tactic(auto)]
+
 ghost use Rattle.std.specs.Prelude.{◌≡◌, ◌<◌, get_or, set, replicate};
 ghost use Rattle.state_scopes.specs.Scopes.{most_scopes, scope_of, blank, marks_word, scopes_of, Whole, Held};
 

@@ -1,5 +1,7 @@
 // Values and buckets found, set and lost in lent rows: what the calls of the value store are made of. Document 01, "Values and level walks", first part.
 // How a row is found is in `ValueTest` and `BucketTest`, once for finding, losing and the rules; the manager's crates use store_calls.
+#![tactic(auto)]
+
 ghost use Rattle.std.specs.Prelude.{◌≡◌, ◌+◌, ◌≤◌, ◌<◌, length, take, drop};
 ghost use Rattle.lists.specs.Lists.{lose, over};
 ghost use Rattle.lists.specs.Lay.{lay};

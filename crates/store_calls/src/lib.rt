@@ -1,6 +1,8 @@
 // The calls of the value store on lent rows: document 01, "pushing again overwrites" to "a move of a value not held". Carried over from
 // boomerang_runtime's action/store.rs (`ActionStore`). Two arrays of rows are lent, with how many of each are held; a row that is freed is blank.
 // Refusal 9 is decided here, by the limit that is given: that of the image. A new call comes in here and in `Call` of value_store.
+#![tactic(auto)]
+
 ghost use Rattle.std.specs.Prelude.{◌≡◌, ◌≤◌, take};
 ghost use Rattle.tags.specs.Views.{of_global};
 ghost use Rattle.store_words.specs.Entries.{room_for_entries};

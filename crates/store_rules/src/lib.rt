@@ -1,6 +1,8 @@
 // The state rules of the value store on lent rows: document 01, "values are unique by action and tag; buckets by action and offset".
 // Equal keys have equal slots, so a value whose slot no other has marked is under no other's key: few rows are compared with all others.
 // A new rule on values comes in here and in `store_rules` of store; callers ask `keeps_rules` alone.
+#![tactic(auto)]
+
 ghost use Rattle.std.specs.Prelude.{◌≡◌, true, not, ◌+◌, ◌≤◌, ◌<◌, take, drop};
 ghost use Rattle.lists.specs.Lists.{any, every, distinct};
 ghost use Rattle.store_words.specs.Entries.{room_for_entries, of_value, of_bucket};

@@ -1,5 +1,7 @@
 // Values and buckets as rows of words in two lent arrays: document 01, "A value is a u64 under action and tag", "A bucket remembers the next microstep".
 // Only the four functions here know the words: another width or field comes in here, and in `encode_value`, `decode_value` and the bucket's two of specs/.
+#![tactic(auto)]
+
 ghost use Rattle.std.specs.Prelude.{◌≡◌, get_or, set};
 ghost use Rattle.store_words.specs.Entries.{of_value, of_bucket, blank_value, blank_bucket};
 ghost use Rattle.store_words.specs.Words.{values_of, buckets_of, WholeValues, WholeBuckets, HeldValues, HeldBuckets};

@@ -1,5 +1,7 @@
 // The check of a table image: document 01, "Checks", and the rules of its rows. An accepted image is the table itself: nothing is copied.
 // A new rule of a row comes in here, in `KEY_FIELDS` or `own_rule` and in specs/Rules; reader and writer go by it, and table_broken_rules tells it.
+#![tactic(auto)]
+
 ghost use Rattle.std.specs.Prelude.{◌≡◌, ◌+◌, get_or};
 ghost use Rattle.table.specs.Rules.{key, key_fields, key_count, key_exists, keys_exist, parent_rule, agrees, scope_rule, initial_rule};
 ghost use Rattle.table.specs.Rules.{reactor_rule, mode_rule, reaction_rule, action_rule, timer_rule, own_rule, row_rule};

@@ -1,5 +1,7 @@
 // Why an image's row is refused, for people: which row, and the first rule of document 01's list, "Also: ..", that it breaks. The check itself is
 // crate table. A new rule of a row comes in here too, as a case of `Rule`; law `rule_tells` holds the two together.
+#![tactic(auto)]
+
 ghost use Rattle.std.specs.Prelude.{◌≡◌};
 ghost use Rattle.table.specs.Check.{bad_kind};
 ghost use Rattle.table.specs.Rules.{parent_rule};

@@ -1,5 +1,7 @@
 // The image reader: document 01, "The image reader carries the lent image and its place". It moves on from field to field.
 // Few thin calls: each takes the reader apart for a covered function, and the one that moves makes it anew. `gather` of table_schedule goes by it.
+#![tactic(auto)]
+
 ghost use Rattle.std.specs.Prelude.{◌≡◌, ◌+◌, ◌%◌, ◌^◌};
 ghost use Rattle.table_rows.specs.Bytes.{be};
 

@@ -2,6 +2,8 @@
 // Every reader is total: past the end stand zeros.
 // A kind's least and width are in `TABLE`, its fields in `FIELDS`; a new field gets its name here, and callers use the names.
 // All limits are in `LIMITS`, a row for each version: a limit is asked of the image, and is not the length of an array.
+#![tactic(auto)]
+
 ghost use Rattle.std.specs.Prelude.{◌≡◌, ◌+◌, ◌*◌, ◌^◌, ◌≤◌, ◌<◌, get_or};
 ghost use Rattle.table_rows.specs.Bytes.{be};
 ghost use Rattle.table_rows.specs.Kinds.{widest, kind_of, count_place, count as count_of, place as place_of};

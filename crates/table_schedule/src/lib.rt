@@ -1,6 +1,8 @@
 // What the manager asks of an accepted image, as the Rust asks its `Schedule`: document 01, "traits become the table".
 // Activity, modality and sets of reactions; single fields and subtrees are crate table_rows. Every question is total.
 // A new question over the table's rows comes in here.
+#![tactic(auto)]
+
 ghost use Rattle.std.specs.Prelude.{◌≡◌, cond, ℕ, ◌+◌, ◌^◌, ◌<◌, ◌≤◌, get_or};
 ghost use Rattle.key_set.specs.Sets.{insert_key};
 ghost use Rattle.table_rows.specs.Kinds.{kind_of, place as place_of, count as count_of};

@@ -1,5 +1,7 @@
 // The writer of table images: document 02, C-11, "given counts and rows, it fills a lent buffer with the image of document 01".
 // The rows are checked by the reader's own rules, which crate table has: a new rule needs no line here.
+#![tactic(auto)]
+
 ghost use Rattle.std.specs.Prelude.{◌≡◌, ◌≤◌, ◌^◌, length};
 ghost use Rattle.byte_writer.specs.Written.{Written};
 ghost use Rattle.table_writer.specs.Writer.{image_of, writing, wrote, number_of, place_of};

@@ -1,6 +1,8 @@
 // Tags on the two scales, and the scope clock that maps between them: document 01, "a local tag is never given where a global one is due".
 // Carried over from boomerang_runtime's time.rs (`Tag`) and sched/modal.rs (`ScopeClockState`, both maps).
 // What a map answers is changed here (`MappedGlobal`, `MappedLocal`, specs/Tags); callers use the maps, and name the scale that they mean.
+#![tactic(auto)]
+
 ghost use Rattle.std.specs.Prelude.{◌≡◌, true, ◌&&◌};
 ghost use Rattle.tags.specs.Tags.{max_offset, max_microstep, within, same_tag, earlier, delayed, shifted, at};
 ghost use Rattle.tags.specs.Tags.{within_clock, flagged, held_back, held_in, to_local, to_global, global_to_local, local_to_global, fresh_clock};

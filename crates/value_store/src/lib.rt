@@ -1,6 +1,8 @@
 // The value store by value: document 01, "for the value store 11, 5, 6, 9", in that order.
 // Each call goes to rows, tests, works there, and comes back; the run of a day works on the rows themselves.
 // A new call is a case of `Call`; `Store` and the manager both go through `call_rows`.
+#![tactic(auto)]
+
 ghost use Rattle.std.specs.Prelude.{◌≡◌, ◌&&◌, map};
 ghost use Rattle.tags.specs.Tags.{at, within};
 ghost use Rattle.tags.specs.Views.{of_global};

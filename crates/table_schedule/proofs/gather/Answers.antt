@@ -14,7 +14,7 @@ loop-left-init c =
       few = omega arith;
       image = ap (λ (y : Bor (List ℕ)). y.now) c.new-reader.ensures.0;
       low = omega (arith, c.new-reader.ensures.1, c.requires.0);
-      done = λ k e f g. rw z (row_first c.args.image.now k _ (c.new-reader.ensures.1 ∙ e), gather_first c.args.image.now k _ _ _ f c.empty-set.ensures)
+      done = λ k e f g. rw z (row_first c.args.image.now k _ (c.new-reader.ensures.1 ∙ e), gather_first c.args.image.now k _ _ _ f c.empty-set.ensures);
     }
 
 pub loop-left-preserved : goal.loop-left-preserved
@@ -22,22 +22,23 @@ loop-left-preserved c =
     let v = c.loop-left.invariant in
     let s : c.args.left - (c.loop-left.left - 1) ≡ (c.args.left - c.loop-left.left) + 1 = omega (arith, v.few, c.loop-left-test.true) in
     let on =
-        two_moves (c.args.left - c.loop-left.left) c.args.gap v.low (omega (arith, c.ranges.left.fits)) c.requires.1
-        c.moved-reader.ensures.1 c.moved-reader-in-loop-left.ensures.1 in
+    two_moves (c.args.left - c.loop-left.left) c.args.gap v.low (omega (arith, c.ranges.left.fits)) c.requires.1
+    c.moved-reader.ensures.1 c.moved-reader-in-loop-left.ensures.1 in
     let i : c.moved-reader.result.image.now ≡ c.args.image.now = ap (λ (y : Bor (List ℕ)). y.now) c.moved-reader.ensures.0 ∙ v.image in
     let x : c.word-x.result ≡ be 2 c.args.image.now c.loop-left.reader.place = c.word-x.ensures ∙ ap (λ (y : List ℕ). be 2 y c.loop-left.reader.place) v.image in
     let y : c.word-reaction.result ≡ be 2 c.args.image.now (c.loop-left.reader.place + c.args.gap) =
-        c.word-reaction.ensures ∙ (ap (λ (y : List ℕ). be 2 y c.moved-reader.result.place) i ∙ ap (be 2 c.args.image.now) on.0) in
+    c.word-reaction.ensures ∙ (ap (λ (y : List ℕ). be 2 y c.moved-reader.result.place) i ∙ ap (be 2 c.args.image.now) on.0) in
     record {
       few = omega (arith, v.few);
       image = ap (λ (y : Bor (List ℕ)). y.now) c.moved-reader-in-loop-left.ensures.0 ∙ i;
       low = rw s on.1.1;
       done = λ k e f g.
           let d = v.done k e f g in
-          rw s
-          (on.1.0 ∙ row_next c.args.image.now k _ _ _ d.0 g,
-          gather_next c.args.image.now k (belongs c.args.image.now c.args.key c.args.subtree) c.args.gap c.args.left (c.args.left - c.loop-left.left) c.loop-left.set.words
-          (omega (arith, v.few, c.loop-left-test.true)) d.0 x y refl c.with_row-set.ensures ∙ d.1)
+          rw s (
+            on.1.0 ∙ row_next c.args.image.now k _ _ _ d.0 g,
+            gather_next c.args.image.now k (belongs c.args.image.now c.args.key c.args.subtree) c.args.gap c.args.left (c.args.left - c.loop-left.left) c.loop-left.set.words
+                (omega (arith, v.few, c.loop-left-test.true)) d.0 x y refl c.with_row-set.ensures ∙ d.1,
+          );
     }
 
 pub returns : goal.returns

@@ -20,7 +20,7 @@ invariant-loop-left l =
           (k : ℕ) → l.at ≡ place_of l.image k → l.initial.left ≡ count_of l.image k → (kind_of k).width ≡ l.gap + 2 →
           (l.reader.place ≡ row_place l.image k (l.initial.left - l.left)) ×
           (foldl insert_key l.set.words (left l.image k (belongs l.image l.key l.subtree) l.gap l.initial.left (l.initial.left - l.left)) ≡
-          reactions_by l.image k l.key l.subtree l.gap)
+          reactions_by l.image k l.key l.subtree l.gap);
     }
 
 abbrev pub decreases-loop-left : goal.decreases-loop-left
