@@ -23,8 +23,10 @@ use Rattle.state_scopes.specs.Scopes.{Scope, scopes_of}
 use Rattle.state_room.specs.declared.Counts.{Counts}
 use Rattle.state_room.specs.PartRows.{Queued, Waits, Shows, queued_is}
 use Rattle.state_room.specs.Holds as L
+use Rattle.state_room.proofs.Holds as LLaws
 use Rattle.state_room.specs.Holds.{Rows, Holds, Kept, state_in, Answers, Performs, shows, store_is}
-use Rattle.state_room.specs.Parts.{changed, rows_in, holds_good, good_holds}
+use Rattle.state_room.specs.Parts.{changed, rows_in}
+use Rattle.state_room.proofs.Parts.{holds_good, good_holds}
 use Rattle.call_push.specs.Pushes as pushes
 use Rattle.call_push.specs.Pushes.{Pushes}
 use Rattle.call_push.specs.declared.Push.{Push}
@@ -53,7 +55,7 @@ module _ {img : Image} {d : Rows} (k : Kept img d) where
 
   -- no more wait after a call than may
   pub few_after : (c : M.Call) {reply : Reply} (after : Rows) → Performs img c d reply after → after.ledger.counts.waiting ≤ room_for_events
-  few_after c after f = (L.waits img _ after (f view k.holds).holds).few
+  few_after c after f = (LLaws.waits img _ after (f view k.holds).holds).few
 
 -- with no ready event the lent keys are as they were
 pub idle_grown : (r : Performed) → Idle r → (keys : List ℕ) → Grown 0 r.gathered.actions keys keys × (r.gathered.actions ≤ room_for_events)

@@ -24,8 +24,10 @@ use Rattle.machine.specs.Machine.{Reply, Outcome, answer, settle, settle_with, a
 use Rattle.machine_rules_kept.specs.Kept.{step_performs, step_keeps}
 use Rattle.state_room.specs.PartRows.{Fits}
 use Rattle.state_room.specs.Holds as L
+use Rattle.state_room.proofs.Holds as LLaws
 use Rattle.state_room.specs.Holds.{Rows, Holds, Answers, rules_fit}
-use Rattle.state_room.specs.Parts.{changed, rows_in, holds_good, good_holds, laid_is, laid_holds}
+use Rattle.state_room.specs.Parts.{changed, rows_in, laid_is, laid_holds}
+use Rattle.state_room.proofs.Parts.{holds_good, good_holds}
 use Rattle.call_perform.specs.Calls.{value_call, value_reply}
 
 -- ---- the machine's call by the store's
@@ -102,7 +104,7 @@ module _ (img : Image) (s : State) (k : rules img s ≡ true) (d : Rows) (u : Ho
     restored {st} f l =
         let g = holds_good img s d u in
         let p : rows_in s d.events vs bs d.ledger.counts r.held ≡ with_store s st =
-        rw (L.waiting_is img s d u, u.queued.work, laid_is _ _ _ g.keeps st vs bs r.held f l) in
+        rw (LLaws.waiting_is img s d u, u.queued.work, laid_is _ _ _ g.keeps st vs bs r.held f l) in
         subst (λ x. Holds img x after) p
         (good_holds img s d u d.events vs bs d.ledger.counts r.held (record { waits = g.waits; keeps = laid_holds _ _ _ g.keeps st vs bs r.held f l }))
 

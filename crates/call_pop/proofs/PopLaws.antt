@@ -14,7 +14,7 @@ use Rattle.lists.specs.Lists.{keep, lose, any, count, every, foldl, from}
 use Rattle.lists.specs.Lay.{lay}
 use Rattle.lists.specs.Held.{thing_past}
 use Rattle.lists.specs.Rows.{tab_at}
-use Rattle.lists.specs.Every.{count_split}
+use Rattle.lists.proofs.Every.{count_split}
 use Rattle.lists.specs.Steps.{every_pass, every_fail, every_end}
 use Rattle.table_rows.specs.Bytes.{Image}
 use Rattle.tags.specs.Tags.{Tag, zero_tag, same_tag, earlier, to_global, held_in}

@@ -9,7 +9,8 @@ use lib.ListN.{length, get_or, set, take, drop, length-set, length-take, length-
 use lib.Seq.{take-suc-set, get_or-take, drop-set-lt, drop-drop}
 use lib.Dec.{eqb}
 use borrow.Author.Tests.{eq-eqb, ne_eqb}
-use Rattle.lists.specs.Lists.{any, keep, foldl, any_at, any_suc, any_append, keep_suc_yes, keep_suc_no, keep_shorter}
+use Rattle.lists.specs.Lists.{any, keep, foldl, any_at, any_suc, any_append}
+use Rattle.lists.proofs.Lists.{keep_suc_yes, keep_suc_no, keep_shorter}
 use Rattle.table_rows.specs.Rows.{none}
 use Rattle.tags.specs.Tags.{Tag}
 use Rattle.key_set.specs.Sets.{union_of, no_keys, word_count}

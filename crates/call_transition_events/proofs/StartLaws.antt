@@ -9,7 +9,8 @@ use lib.Dec.{leb, eqb}
 use lib.ListN.{get_or}
 use borrow.Author.Tests.{le-leb, lt-ltb, leb-false}
 use Rattle.lists.specs.Lists.{keep, any, from, count_shorter}
-use Rattle.lists.specs.Ranges.{those, those_same, those_any}
+use Rattle.lists.specs.Ranges.{those}
+use Rattle.lists.proofs.Ranges.{those_same, those_any}
 use Rattle.lists.specs.Every.{by_test}
 use Rattle.lists.specs.Walk.{done, refused, ◌>>=◌, walk}
 use Rattle.refusals.specs.declared.Refusal.{Refusal}
@@ -49,7 +50,8 @@ use Rattle.state_events.specs.Slots.{events_of, room_for_events}
 use Rattle.state_room.specs.declared.Counts.{Counts}
 use Rattle.state_room.specs.PartRows.{Shows}
 use Rattle.state_room.specs.Holds.{Rows, Holds, Held, Steps, steps_refused, steps_same, shows}
-use Rattle.state_room.specs.Parts.{Good, queue_in, store_in, push_holds, push_step, more_waits, more_step, changed, holds_good, steps_by}
+use Rattle.state_room.specs.Parts.{Good, queue_in, store_in, push_holds, push_step, more_waits, more_step, changed}
+use Rattle.state_room.proofs.Parts.{holds_good, steps_by}
 use Rattle.call_transition_plan.specs.declared.Plan.{Plan}
 use Rattle.call_transition_plan.specs.Plans.{plan_in, Marks}
 use Rattle.call_transition_plan.proofs.PlanLaws.{map_at, marks_in}

@@ -16,7 +16,8 @@ use Rattle.lists.specs.Lists.{keep, lose, count, foldl, from, lose_shorter, over
 use Rattle.lists.specs.Loops.{lose_done}
 use Rattle.lists.specs.Lay.{lay}
 use Rattle.lists.specs.Rows.{tab, tab_length, tab_at, tab_set}
-use Rattle.lists.specs.Every.{set_self, count_split}
+use Rattle.lists.specs.Every.{set_self}
+use Rattle.lists.proofs.Every.{count_split}
 use Rattle.table_rows.specs.Bytes.{Image}
 use Rattle.table_rows.specs.Limits.{limits}
 use Rattle.table_rows.specs.Rows.{action_scope, is_logical}
@@ -39,7 +40,8 @@ use Rattle.state_room.specs.declared.Counts.{Counts}
 use Rattle.state_room.specs.PartRows.{Queued, Waits, waits_queued, queued_is, queued_waits, queued_laid, Fits, stored_lent, Scoped, scoped_get, scoped_put}
 use Rattle.machine_rules_kept.specs.Prepared.{reset_length}
 use Rattle.state_room.specs.Holds.{Rows, Holds, most_scopes_lem, scopes_are}
-use Rattle.state_room.specs.Parts.{Keeps, queue_in, store_in, rows_in, laid_is, laid_holds, changed, rescoped, holds_are, good_holds, scopes_hold}
+use Rattle.state_room.specs.Parts.{Keeps, queue_in, store_in, rows_in, laid_is, laid_holds, changed, rescoped, scopes_hold}
+use Rattle.state_room.proofs.Parts.{holds_are, good_holds}
 use Rattle.call_transition_resets.specs.Resetting.{dropped_in, zeroed_scope, scope_after, zeroed_scopes, clears, clears_value, clears_bucket, cleared_all, rows_reset, cleared}
 
 -- ---- events

@@ -11,7 +11,8 @@ use Rattle.table_rows.specs.Bytes.{Image, be}
 use Rattle.machine.specs.State.{State}
 use Rattle.machine.specs.Machine.{rules}
 use Rattle.machine_rules_kept.specs.Kept.{step_keeps}
-use Rattle.state_room.specs.Holds.{Rows, Holds, state_in, state_is}
+use Rattle.state_room.specs.Holds.{Rows, Holds, state_in}
+use Rattle.state_room.proofs.Holds.{state_is}
 use Rattle.day_records.specs.Records.{Record, call, malformed, cut, over, most_bytes}
 use Rattle.day_records.specs.Views.{of_parsed, Parses}
 use Rattle.day_records.specs.declared.Parsed.{Parsed}

@@ -5,7 +5,8 @@ use Rattle.table_rows.specs.Bytes.{Image}
 use Rattle.table.specs.Check.{is_table}
 use Rattle.machine.specs.State.{fresh}
 use Rattle.machine_rules_kept.specs.Kept.{fresh_rules}
-use Rattle.state_room.specs.Holds.{Rows, Holds, state_in, state_is}
+use Rattle.state_room.specs.Holds.{Rows, Holds, state_in}
+use Rattle.state_room.proofs.Holds.{state_is}
 use Rattle.day_run.specs.Views.{Kept}
 
 pub started : (img : Image) (r : Rows) → is_table img ≡ true → Holds img (fresh img) r → Kept img r × (state_in img r ≡ fresh img)

@@ -11,7 +11,8 @@ use Rattle.table_rows.specs.Bytes.{Image}
 use Rattle.machine.specs.State.{Event}
 use Rattle.state_events.specs.Slots.{room_for_events}
 use Rattle.state_events.specs.Slots.{Whole}
-use Rattle.state_room.specs.Holds.{Rows, waits}
+use Rattle.state_room.specs.Holds.{Rows}
+use Rattle.state_room.proofs.Holds.{waits}
 use Rattle.day_run.specs.Views.{Kept}
 
 module _ {img : Image} {r : Rows} (k : Kept img r) where

@@ -13,7 +13,8 @@ use Rattle.lists.specs.Tests.{same?}
 use Rattle.table_rows.specs.Bytes.{Image}
 use Rattle.machine.specs.State.{State, fresh}
 use Rattle.machine.specs.Machine.{run}
-use Rattle.state_room.specs.Holds.{Rows, rows_of, state_in, state_is}
+use Rattle.state_room.specs.Holds.{Rows, rows_of, state_in}
+use Rattle.state_room.proofs.Holds.{state_is}
 use Rattle.day_records.specs.Records.{records_from}
 use Rattle.day_records.proofs.DayLaws.{records_behind}
 use Rattle.day_run.specs.Days.{Ran, calls_of, ran}

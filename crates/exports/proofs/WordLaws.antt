@@ -17,7 +17,8 @@ use Rattle.state_queues.specs.Queue.{heads_of, Held as HeldHeads}
 use Rattle.state_scopes.specs.Scopes as scope
 use Rattle.state_scopes.specs.Scopes.{most_scopes}
 use Rattle.state_room.specs.PartRows.{Queued, Shows}
-use Rattle.state_room.specs.Holds.{Rows, state_in, waits, shows}
+use Rattle.state_room.specs.Holds.{Rows, state_in, shows}
+use Rattle.state_room.proofs.Holds.{waits}
 use Rattle.call_pop.specs.Pops.{reply_of}
 use Rattle.call_pop.specs.declared.Peeked.{Peeked}
 use Rattle.day_run.specs.Views.{Kept}

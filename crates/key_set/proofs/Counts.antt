@@ -11,7 +11,8 @@ use lib.Dec.{eqb}
 use lib.Count.{count_trailing_zeros, under, ones, ones_step}
 use lib.Pow.{shr_lt}
 use lib.ListN.{length, get_or, length-append}
-use Rattle.lists.specs.Ranges.{first, those_yes, those_no}
+use Rattle.lists.specs.Ranges.{first, those_no}
+use Rattle.lists.proofs.Ranges.{those_yes}
 use Rattle.key_set.specs.Sets.{capacity, bit, has, keys_from, lowest_from, size_of}
 use Rattle.key_set.proofs.Laws.{half_lt, keys_end, size_fits}
 

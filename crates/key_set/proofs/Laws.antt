@@ -17,8 +17,9 @@ use borrow.Author.Tests.{eq-eqb, ne_eqb, lt-ltb, le-ltb, le-leb}
 use Rattle.lists.specs.Tests.{same?, gt_eqb, below?, and_yes, or_no, or_yes}
 use Rattle.lists.specs.Every.{no_way}
 use Rattle.lists.specs.Lists.{keep, any, foldl}
-use Rattle.lists.specs.Ranges.{ascending, those_ascend, first_none, Lowest, those_end, those_first, those_lowest, those_none}
-use Rattle.lists.specs.Ranges.{those_empty, those_fit, those_any, those_same, keep_those, both, either, count_either, count_more}
+use Rattle.lists.specs.Ranges.{ascending, first_none, Lowest, those_end, those_none}
+use Rattle.lists.proofs.Ranges.{those_ascend, those_first, those_lowest, those_empty, those_fit, those_any, those_same, keep_those, count_either, count_more}
+use Rattle.lists.specs.Ranges.{both, either}
 use Rattle.key_set.specs.declared.Found.{Found}
 use Rattle.key_set.specs.declared.Found.TheVariants.{Key, Nothing}
 use Rattle.key_set.specs.Views.{found_of}

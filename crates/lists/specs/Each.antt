@@ -1,19 +1,14 @@
 -- Keeping and losing under a map, a fact of each one, and the last of a list. Assumes nothing.
-use Rattle.std.specs.Prelude.{ℕ, zero, suc, ◌<◌, Bool, true, false, cond, ◌&&◌, ◌≡◌, length, get_or}
+use Rattle.std.specs.Prelude.{ℕ, zero, suc, ◌<◌, Bool, true, false, cond, ◌≡◌, length, get_or}
 use Rattle.std.proofs.Math.Path.{refl}
 use mathlib.Core.List.{List, [], ◌∷◌, ◌++◌, map}
 use Rattle.std.proofs.Common.{arith}
-use Rattle.lists.specs.Lists.{keep, lose, count, any, foldl}
+use Rattle.lists.specs.Lists.{keep, lose, any, foldl}
 
 module _ {A B : Type 0} (f : A → B) where
-  map_cond : (t : Bool) (a b : List A) → map f (cond t a b) ≡ cond t (map f a) (map f b)
+  pub map_cond : (t : Bool) (a b : List A) → map f (cond t a b) ≡ cond t (map f a) (map f b)
   map_cond true a b = refl
   map_cond false a b = refl
-
-  pub map_keep : (q : B → Bool) (l : List A) → map f (keep (λ a. q (f a)) l) ≡ keep q (map f l)
-  unfolding keep
-  map_keep q [] = refl
-  map_keep q (a ∷ l) = rw (map_cond (q (f a)), map_keep q l)
 
   pub map_lose : (q : B → Bool) (l : List A) → map f (lose (λ a. q (f a)) l) ≡ lose q (map f l)
   unfolding lose
@@ -69,13 +64,3 @@ pub foldl_map : {A B C : Type 0} (f : A → B) (g : C → B → C) (l : List A) 
 unfolding foldl
 foldl_map f g [] c = refl
 foldl_map f g (a ∷ l) c = foldl_map f g l (g c (f a))
-
-pub count_keep : {A B : Type 0} (f : A → B) (p : B → Bool) (q : A → Bool) (l : List A) → count p (map f (keep q l)) ≡ count (λ a. q a && p (f a)) l
-unfolding count keep
-count_keep f p q [] = refl
-count_keep f p q (a ∷ l) = go (q a) (count_keep f p q l)
-  where
-    go : (b : Bool) → count p (map f (keep q l)) ≡ count (λ a. q a && p (f a)) l →
-        count p (map f (cond b (a ∷ keep q l) (keep q l))) ≡ cond (b && p (f a)) (suc (count (λ a. q a && p (f a)) l)) (count (λ a. q a && p (f a)) l)
-    go true r = rw r
-    go false r = r

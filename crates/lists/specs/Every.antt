@@ -6,7 +6,7 @@ use Rattle.std.proofs.Common.{ap, ◌∙◌, sym, arith, lt-ltb, ltb-true}
 use Rattle.std.proofs.Math.Bool.{true, false, not}
 use mathlib.Core.List.{List, [], ◌∷◌, ◌++◌, map}
 use Rattle.lists.specs.Tests.{and_left, and_right}
-use Rattle.lists.specs.Lists.{keep, lose, count, every, from, insert_by, sort_by}
+use Rattle.lists.specs.Lists.{lose, count, every, from, insert_by, sort_by}
 use Rattle.lists.specs.Walk.{Result, done, refused, walk, bind_done}
 
 -- ---- tests
@@ -97,16 +97,6 @@ module _ {A : Type 0} (p : A → Bool) where
   every_both q [] e f = refl
   every_both q (a ∷ l) e f = both (both (every_head a l e) (and_left (q a) _ f)) (every_both q l (every_tail a l e) (and_right (q a) _ f))
 
-  -- those that are kept pass both tests
-  pub every_keep : (q : A → Bool) (l : List A) → every p l ≡ true → every (λ a. p a && q a) (keep q l) ≡ true
-  unfolding every keep
-  every_keep q [] e = refl
-  every_keep q (a ∷ l) e = go (q a) refl (every_keep q l (every_tail a l e))
-    where
-      go : (b : Bool) → q a ≡ b → every (λ a. p a && q a) (keep q l) ≡ true → every (λ a. p a && q a) (cond b (a ∷ keep q l) (keep q l)) ≡ true
-      go true x r = both (both (every_head a l e) x) r
-      go false x r = r
-
   -- those that stay pass the one, and fail the other
   pub every_lose : (q : A → Bool) (l : List A) → every p l ≡ true → every (λ a. p a && not (q a)) (lose q l) ≡ true
   unfolding every lose
@@ -192,10 +182,6 @@ from_at f (suc n) i (suc j) l = from_at f n (suc i) j (omega arith) ∙ ap f (om
 pub get_or_from : (f : ℕ → Bool) (n j : ℕ) → j < n → get_or (map f (from 0 n)) j false ≡ f j
 get_or_from f n j l = from_at f n 0 j l ∙ ap f (omega arith)
 
--- those kept of the numbers below n are below n
-pub keep_below : (q : ℕ → Bool) (n : ℕ) → every (λ j. ltb j n) (keep q (from 0 n)) ≡ true
-keep_below q n = every_imp (λ j. ltb j n && q j) (λ j. ltb j n) (λ j x. and_left _ _ x) (keep q (from 0 n)) (every_keep (λ j. ltb j n) q (from 0 n) (from_below n 0 n (omega arith)))
-
 -- ---- marks
 
 pub set_self : {A : Type 0} (l : List A) (i : ℕ) (d : A) → set l i (get_or l i d) ≡ l
@@ -204,21 +190,6 @@ set_self (x ∷ l) zero d = refl
 set_self (x ∷ l) (suc i) d = ap (x ∷◌) (set_self l i d)
 
 -- ---- counting
-
-module _ {A : Type 0} (p q : A → Bool) where
-  split : (s t : Bool) (a : A) (x y : List A) (n : ℕ) → p a ≡ s → count p x + count p y ≡ n →
-      count p (cond t (a ∷ x) x) + count p (cond t y (a ∷ y)) ≡ cond s (suc n) n
-  unfolding count
-  split true true a x y n e h = simp e (omega arith)
-  split true false a x y n e h = simp e (omega arith)
-  split false true a x y n e h = simp e (omega arith)
-  split false false a x y n e h = simp e (omega arith)
-
-  -- what is taken out and what stays count together as the whole
-  pub count_split : (l : List A) → count p (keep q l) + count p (lose q l) ≡ count p l
-  unfolding count keep lose
-  count_split [] = refl
-  count_split (a ∷ l) = split (p a) (q a) a (keep q l) (lose q l) (count p l) refl (count_split l)
 
 pub count_map : {A B : Type 0} (f : A → B) (q : B → Bool) (r : A → Bool) → ((a : A) → q (f a) ≡ r a) → (l : List A) → count q (map f l) ≡ count r l
 unfolding count

@@ -3,7 +3,7 @@
 use Rattle.std.specs.Prelude.{Bool, true, false, cond, not, ◌&&◌, ◌||◌, ◌≡◌, length, take, drop, get_or, set}
 use Rattle.std.proofs.Math.Path.{refl, subst, subst⁻¹}
 use Rattle.std.proofs.Common.{◌∙◌, sym, add-one, length-take, length-append, drop_of_length-le, drop-cons, get_or-take, get_or-drop, get_or-append-add}
-use mathlib.Core.List.{List, [], ◌∷◌, ◌++◌, append_assoc, append-nil, map, map-append, Memᴰ}
+use mathlib.Core.List.{List, [], ◌∷◌, ◌++◌, append_assoc, map, map-append, Memᴰ}
 use Prim.Native.Nat.{ℕ, zero, suc, ◌+◌, ◌-◌, ◌≤◌, ◌<◌}
 use native.Mathlib.Omega.{arith}
 use Rattle.std.proofs.Math.Dec.{T}
@@ -76,15 +76,6 @@ module _ {A : Type 0} (p : A → Bool) where
   unfolding count
   count_no a l h = simp h
 
-  keep_put : (t : Bool) (a : A) (x y : List A) → cond t (a ∷ (x ++ y)) (x ++ y) ≡ cond t (a ∷ x) x ++ y
-  keep_put true a x y = refl
-  keep_put false a x y = refl
-
-  pub keep_append : (x y : List A) → keep p (x ++ y) ≡ keep p x ++ keep p y
-  unfolding keep
-  keep_append [] y = refl
-  keep_append (a ∷ x) y = rw (keep_append x y) (keep_put (p a) a (keep p x) (keep p y))
-
   lose_put : (t : Bool) (a : A) (x y : List A) → cond t (x ++ y) (a ∷ (x ++ y)) ≡ cond t x (a ∷ x) ++ y
   lose_put true a x y = refl
   lose_put false a x y = refl
@@ -122,15 +113,6 @@ module _ {A : Type 0} (p : A → Bool) where
   every_append (a ∷ x) y = rw (every_append x y) (and_put (p a) (every p x) (every p y))
 
   -- ---- sizes
-
-  keep_less : (t : Bool) (a : A) (x : List A) (n : ℕ) → length x ≤ n → length (cond t (a ∷ x) x) ≤ suc n
-  keep_less true a x n h = omega arith
-  keep_less false a x n h = omega arith
-
-  pub keep_shorter : (l : List A) → length (keep p l) ≤ length l
-  unfolding keep
-  keep_shorter [] = omega arith
-  keep_shorter (a ∷ l) = keep_less (p a) a (keep p l) (length l) (keep_shorter l)
 
   lose_less : (t : Bool) (a : A) (x : List A) (n : ℕ) → length x ≤ n → length (cond t x (a ∷ x)) ≤ suc n
   lose_less true a x n h = omega arith
@@ -174,14 +156,6 @@ module _ {A : Type 0} (p : A → Bool) where
     pub any_suc : any p (take i l) ≡ false → p (get_or l i d) ≡ false → any p (take (i + 1) l) ≡ false
     unfolding any
     any_suc f e = rw (add-one, take-suc l i d, any_append) (simp (f, e))
-
-    pub keep_suc_yes : p (get_or l i d) ≡ true → keep p (take (i + 1) l) ≡ keep p (take i l) ++ (get_or l i d ∷ [])
-    unfolding keep
-    keep_suc_yes e = rw (add-one, take-suc l i d, keep_append) (simp e)
-
-    pub keep_suc_no : p (get_or l i d) ≡ false → keep p (take (i + 1) l) ≡ keep p (take i l)
-    unfolding keep
-    keep_suc_no e = rw (add-one, take-suc l i d, keep_append) (simp (e, append-nil))
 
 -- ---- a rule of a table: one test that antt computes over the whole list, and the rule at each entry
 

@@ -1,6 +1,6 @@
 -- Tests on values that calls answered, chains of tests, and what is left of a list or of some numbers as a loop goes over them. Assumes nothing.
 use Prim.Native.Nat.{ℕ, zero, suc, ◌+◌, ◌-◌, ◌≤◌, ◌<◌}
-use Rattle.std.specs.Prelude.{◌≡◌, Bool, cond, not, ◌&&◌, ◌||◌, List, [], ◌∷◌, map, ltb, leb, eqb, length, get_or, drop}
+use Rattle.std.specs.Prelude.{◌≡◌, Bool, not, ◌&&◌, ◌||◌, List, [], ◌∷◌, map, ltb, leb, eqb, length, get_or, drop}
 use Rattle.std.proofs.Math.Path.{refl}
 use Rattle.std.proofs.Common.{sym, add-one, drop_of_length-le, lt-ltb, le-ltb, eq-eqb, ne_eqb}
 use Rattle.std.proofs.Math.Bool.{true, false}
@@ -97,15 +97,6 @@ module _ (p : ℕ → Bool) (n i : ℕ) where
 
 -- a fold over what is kept of them, by what each stands for
 module _ {B : Type 0} (f : B → ℕ → B) (p : ℕ → Bool) (g : ℕ → ℕ) (n i : ℕ) (b : B) where
-  pub fold_next : i < n → foldl f (cond (p i) (f b (g i)) b) (map g (keep p (from (i + 1) (n - (i + 1))))) ≡ foldl f b (map g (keep p (from i (n - i))))
-  unfolding foldl keep
-  fold_next h = rw (from_next n i h) (go (p i))
-    where
-      go : (t : Bool) → foldl f (cond t (f b (g i)) b) (map g (keep p (from (i + 1) (n - (i + 1))))) ≡
-          foldl f b (map g (cond t (i ∷ keep p (from (i + 1) (n - (i + 1)))) (keep p (from (i + 1) (n - (i + 1))))))
-      go true = refl
-      go false = refl
-
   pub fold_end : n ≤ i → foldl f b (map g (keep p (from i (n - i)))) ≡ b
   unfolding foldl keep
   fold_end h = rw (from_end n i h)

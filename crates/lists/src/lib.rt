@@ -1,4 +1,4 @@
-// Laws on lists, rows in lent arrays and steps that every crate uses; no sentence of document 01. Definitions, in specs/, and one function, `bit`.
+// Laws on lists, rows in lent arrays and steps that every crate uses; no sentence of document 01. Definitions and laws, in specs/ and proofs/, and one function, `bit`.
 // A law that two crates need comes in here, once.
 #![tactic(auto)]
 

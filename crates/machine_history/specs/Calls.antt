@@ -33,7 +33,6 @@ use Rattle.machine.specs.Machine.{move_value, clear_action, Reply, ok, flag, not
 use Rattle.machine.specs.Machine.{action_placed, action_made, push_action, pop_at, found_reply, perform}
 use Rattle.lists.specs.Every.{no_way, done_is, need_is, either_is, length_from, get_or_from}
 use Rattle.machine_rules_kept.specs.Kept.{rules_tell, own_rules}
-use Rattle.machine_rules_kept.specs.Never.{own_performs}
 use Rattle.lists.specs.Each.{Each, each_map, each_append, each_all, each_imp}
 use Rattle.machine_history.specs.Deeds.{bare, action_pushed, transition_events, lies_in, deed, made_by, drops, takes_in, is_pop, if_ok, turns_of, turns_take, turns_few, takes_at, takes_in_turn}
 use Rattle.machine_history.specs.History.{most_turns, Fate, waits, popped, dropped, Entry, History, is_waiting, moment}
@@ -360,7 +359,7 @@ module _ (img : Image) (table : is_table img ≡ true) (cs : List Call) (n : ℕ
 
   -- ---- every call
 
-  called : (c : Call) → call_at cs n ≡ c → outcome img cs n ≡ perform img s c → After img cs n h
+  pub called : (c : Call) → call_at cs n ≡ c → outcome img cs n ≡ perform img s c → After img cs n h
   unfolding perform
   called (plain t b ks) c e =
       accepting (not_pop img s c refl) (quiet _ c refl) (takes_in_lem _ c refl) (drops_none _ c (λ e. refl)) (root_event t (set_of ks) b false false) (made_ok _ c) _
@@ -406,6 +405,3 @@ module _ (img : Image) (table : is_table img ≡ true) (cs : List Call) (n : ℕ
   called (clear_action a) c e =
       stored (not_pop img s c refl) (quiet _ c refl) (makes_none _ c refl) (drops_none _ c (λ e. refl)) ok _
       (λ u d. with_store_lem (done (S.cleared s.store a)) u (need_is (ltb a (actions img)) R.Key d).1) e
-
-  pub one_call : After img cs n h
-  one_call = called (call_at cs n) refl (own_performs img table (take n cs) (call_at cs n))

@@ -1,6 +1,6 @@
 -- Three runs and their histories, computed; and histories that are not theirs. Assumes nothing.
-use Rattle.std.specs.Prelude.{ℕ, true, false, ◌≡◌, refl, List, [], ◌∷◌, length}
-use Rattle.std.proofs.Common.{ap, sym, arith}
+use Rattle.std.specs.Prelude.{ℕ, true, false, ◌≡◌, refl, List, [], ◌∷◌}
+use Rattle.std.proofs.Common.{sym, arith}
 use Rattle.lists.specs.Lists.{keep}
 use Rattle.lists.specs.Every.{no_way}
 use Rattle.table_rows.specs.Bytes.{Image}
@@ -88,25 +88,11 @@ c = root_event (at 3 0) (no_keys word_count) false true false
 abbrev pub turned : ℕ → History
 turned r = entry c 0 (popped 1 r) ∷ []
 
-pub is_turned : history_of img ds ≡ turned 0
-unfolding day_of entries_from fate_from fate_at turn_from new_by pop_takes reset_drops scope_turns turns_of
-is_turned = refl
-
 pub not_turned : Told img ds (turned 200) → ⊥
 unfolding day_of waits_in pop_takes scope_turns turns_of
 not_turned t = let z : true ≡ false = (t.fate 0 (entry c 0 waits) (omega arith)).ended.by_pop 1 200 (omega arith) in no_way (sym z)
 
 -- ---- what wrong managers would have to tell
-
--- a push that is answered "ok" and ignored
-pub not_ignored : Told img (control (at 3 0) ∷ []) [] → ⊥
-unfolding day_of keep new_by
-not_ignored t = let z : [] ≡ c ∷ [] = t.made 0 (omega arith) in let y : ◌≡◌ {A = ℕ} 0 1 = cc in omega arith
-
--- a push accepted twice
-pub not_twice : Told img (control (at 3 0) ∷ []) (entry c 0 waits ∷ entry c 0 waits ∷ []) → ⊥
-unfolding day_of keep new_by
-not_twice t = let z : c ∷ c ∷ [] ≡ c ∷ [] = t.made 0 (omega arith) in let y : ◌≡◌ {A = ℕ} 2 1 = ap length z in omega arith
 
 -- a pop that also swallows a later control event, which no answer shows
 abbrev pub later : Event

@@ -5,7 +5,8 @@ use Rattle.std.proofs.Math.Path.{refl, ap}
 use Rattle.std.proofs.Common.{◌∙◌, sym, arith, le-ltb, le-leb, eq-eqb, le_refl}
 use mathlib.Core.List.{List, [], ◌∷◌, ◌++◌, map, map-append, append-nil}
 use Rattle.lists.specs.Tests.{and_left, and_right, lt_eqb, gt_eqb}
-use Rattle.lists.specs.Lists.{keep, lose, keep_append}
+use Rattle.lists.specs.Lists.{keep, lose}
+use Rattle.lists.proofs.Lists.{keep_append}
 use Rattle.machine.specs.State.{Event}
 use Rattle.lists.specs.Every.{by_test, both}
 use Rattle.lists.specs.Each.{Each, each_map}

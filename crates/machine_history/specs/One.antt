@@ -2,7 +2,7 @@
 use Prim.Native.Nat.{ℕ, zero, suc, ◌+◌, ◌-◌, ◌<◌, ◌≤◌}
 use Rattle.std.specs.Prelude.{Bool, true, false, cond, ◌&&◌, ◌≡◌, ltb, leb, eqb, get_or}
 use Rattle.std.proofs.Math.Path.{refl}
-use Rattle.std.proofs.Common.{ap, ◌∙◌, sym, subst, lt-ltb, ltb-true, le-leb, leb-true, eq-eqb, eqb-true}
+use Rattle.std.proofs.Common.{ap, ◌∙◌, sym, lt-ltb, ltb-true, le-leb, leb-true, eq-eqb, eqb-true}
 use mathlib.Core.List.{List, [], ◌∷◌, ◌++◌, map, append-nil}
 use Rattle.std.proofs.Math.Nat.{add-zero}
 use native.Mathlib.Omega.{arith}
@@ -10,11 +10,11 @@ use Rattle.std.proofs.Math.Decide.{dec_lt}
 use Rattle.std.proofs.Math.ListN.{length}
 use Rattle.std.proofs.lemmas.Bool.{eqb-false}
 use Rattle.lists.specs.Tests.{and_left, and_right, and_no, gt_eqb, lt_eqb}
-use Rattle.lists.specs.Lists.{keep, keep_append}
+use Rattle.lists.specs.Lists.{keep}
+use Rattle.lists.proofs.Lists.{keep_append}
 use Rattle.lists.specs.Every.{by_test, both, no_way, or_left, or_right, or_else_lem}
 use Rattle.lists.specs.Each.{Each, each_imp, each_map, each_all, each_append}
 use Rattle.table_rows.specs.Bytes.{Image}
-use Rattle.table.specs.Check.{is_table}
 use Rattle.machine.specs.State.{Event}
 use Rattle.machine.specs.Machine.{Call}
 use Rattle.machine_history.specs.History.{most_turns, Fate, waits, popped, dropped, Entry, History, new_by, is_taken}
@@ -22,7 +22,6 @@ use Rattle.machine_history.specs.History.{is_dropped, open_at, open_in, waits_at
 use Rattle.machine_history.specs.History.{or_else, fate_from, entry_of, entries_from, history_of, Fated, Right, in_order, Told}
 use Rattle.machine_history.specs.Marks.{events_of}
 use Rattle.machine_history.specs.Accepted.{from_here_lem, own_open}
-use Rattle.machine_history.specs.Fates.{fates}
 
 -- ---- the fate of an event is the one that the first call gives it that ends it
 
@@ -253,7 +252,3 @@ one_history img cs h k x y = told_is img cs h x ∙ sym (told_is img cs k y)
 pub record TheHistory (img : Image) (cs : List Call) : Type 0 where
   pub told : Told img cs (history_of img cs)
   pub only : (h : History) → Told img cs h → h ≡ history_of img cs
-
--- so it is for every run of calls from a fresh manager over an accepted table
-pub the_history : (img : Image) → is_table img ≡ true → (cs : List Call) → TheHistory img cs
-the_history img table cs = let f = fates img table cs in record { told = subst (Told img cs) (told_is img cs f.0 f.1) f.1; only = told_is img cs }

@@ -15,7 +15,8 @@ use Rattle.key_set.specs.Sets.{union_of, no_keys, word_count}
 use Rattle.machine.specs.State.{Event, Scope, ordinary, in_queue, at_head}
 use Rattle.machine.specs.Heads.{Head, empty, head, Taking, untaken, taken, take_at_of, held_at, ready_of, add_action}
 use Rattle.lists.specs.Every.{by_test, no_way}
-use Rattle.lists.specs.Each.{Each, each_imp, map_keep, map_lose, any_map, foldl_map}
+use Rattle.lists.specs.Each.{Each, each_imp, map_lose, any_map, foldl_map}
+use Rattle.lists.proofs.Each.{map_keep}
 use Rattle.machine_history.specs.Deeds.{bare, takes_at}
 use Rattle.machine_history.specs.History.{most_turns, Fate, waits, popped, dropped, Entry, History, is_waiting, is_taken, taken_in, taken_up_to, taken_by, in_order}
 use Rattle.machine_history.specs.Marks.{fated, now_in, marked, each_marked, mark_blind, mark_now, mark_new, order_marked, Later, later_same, later_then, later_popped}

@@ -114,7 +114,7 @@ module _ (img : Image) (ss : List Scope) (t : Tag) where
   unfoldable pub takes_all : Taking → Taking
   takes_all k = take_scopes (length k.waiting) img ss t k
 
-  ends : (n : ℕ) (k : Taking) → length k.waiting ≤ n → is_at t (scope_head img ss (take_scopes n img ss t k).waiting) ≡ false
+  pub ends : (n : ℕ) (k : Taking) → length k.waiting ≤ n → is_at t (scope_head img ss (take_scopes n img ss t k).waiting) ≡ false
   unfolding take_scopes
   ends zero k l = by_test (is_at t (scope_head img ss k.waiting)) (λ e. absurd (omega (arith, fewer k e))) (λ e. e)
   ends (suc n) k l = go (is_at t (scope_head img ss k.waiting)) refl (ends n (next k))
@@ -125,15 +125,10 @@ module _ (img : Image) (ss : List Scope) (t : Tag) where
       go true e h = h (omega (arith, fewer k e))
       go false e h = e
 
-  root_less : (k : Taking) (h : Head) → length (take_at_of t k h).waiting ≤ length k.waiting
+  pub root_less : (k : Taking) (h : Head) → length (take_at_of t k h).waiting ≤ length k.waiting
   unfolding taken
   root_less k empty = le_refl (length k.waiting)
   root_less k (head q x g) = by_test (same_tag g t) (λ e. rw e (lose_shorter (at_head q x) k.waiting)) (λ e. rw e (le_refl (length k.waiting)))
-
-  -- after a pop at t the least scope head is not t
-  pub pop_ends : (k : Taking) → is_at t (scope_head img ss (taking img ss t k).waiting) ≡ false
-  unfolding taking
-  pop_ends k = ends (length k.waiting) _ (root_less k (root_head k.waiting))
 
   -- what a pop takes, with no count of turns
   pub pop_takes_lem : (k : Taking) → taking img ss t k ≡ takes_all (take_at_of t k (root_head k.waiting))

@@ -17,7 +17,8 @@ use Rattle.machine.specs.Table.{actions, reactions, set_of}
 use Rattle.machine.specs.State.{Event, State, in_queue, stamped, root_event}
 use Rattle.machine.specs.Transition.{tag_or, owns, stamp, movers}
 use Rattle.machine.specs.Machine.{event_rules, queue_rules, image_rules, keys_ok}
-use Rattle.lists.specs.Every.{by_test, both, or_left, or_right, or_else_lem, not_so, every_all, every_imp, every_keep, every_sort, every_map, keep_below}
+use Rattle.lists.specs.Every.{by_test, both, or_left, or_right, or_else_lem, not_so, every_all, every_imp, every_sort, every_map}
+use Rattle.lists.proofs.Every.{every_keep, keep_below}
 use Rattle.machine_rules_kept.specs.Limits.{global_within, set_keys}
 use Rattle.machine_rules_kept.specs.Sound.{proper}
 

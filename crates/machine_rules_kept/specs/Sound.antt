@@ -21,7 +21,8 @@ use Rattle.machine.specs.State.{Event, Scope, State, root, ordinary, fresh_scope
 use Rattle.machine.specs.State.{with_scopes, tally, accepted, without}
 use Rattle.machine.specs.Transition.{maps}
 use Rattle.machine.specs.Machine.{queue_rules, event_rules, image_rules, mode_rules}
-use Rattle.lists.specs.Every.{no_way, both, or_right, done_is, unless_is, every_imp, every_both, every_lose, every_set, every_last, every_map, set_self, count_split, count_map}
+use Rattle.lists.specs.Every.{no_way, both, or_right, done_is, unless_is, every_imp, every_both, every_lose, every_set, every_last, every_map, set_self, count_map}
+use Rattle.lists.proofs.Every.{count_split}
 
 -- what the rules say of one event
 unfoldable pub proper : Image → State → Event → Bool

@@ -28,7 +28,8 @@ use Rattle.machine.specs.State.{Event, State, root, clock_at, active_at, with_st
 use Rattle.machine.specs.Transition.{Plan, is_tag, inside_of, prepared, turned, held, plain_event, firsts, startup_rows, startups, if_some, step4, timer_scope, timer_image, timer_event, timer}
 use Rattle.machine.specs.Transition.{timer_rows, reset_rows, reset_event, step5, plan_of, turns_on, transition}
 use Rattle.machine.specs.Machine.{queue_rules, image_rules}
-use Rattle.lists.specs.Every.{both, or_right, done_is, unless_is, every_all, keep_walk, keep_below, get_or_from}
+use Rattle.lists.specs.Every.{both, or_right, done_is, unless_is, every_all, keep_walk, get_or_from}
+use Rattle.lists.proofs.Every.{keep_below}
 use Rattle.machine_rules_kept.specs.Stored.{push_keeps}
 use Rattle.machine_rules_kept.specs.Limits.{delayed_within, global_within}
 use Rattle.machine_rules_kept.specs.Sound.{proper, Sound, sound_store, sound_accepts, sound_without}

@@ -9,7 +9,8 @@ use Rattle.std.proofs.Math.ListN.{get_or}
 use borrow.Author.Tests.{ltb-true, ne_eqb}
 use Rattle.lists.specs.Tests.{and_left, and_right}
 use Rattle.lists.specs.Lists.{keep, every, from}
-use Rattle.lists.specs.Every.{both, every_head, every_tail, every_imp, every_keep, from_below, get_or_from}
+use Rattle.lists.specs.Every.{both, every_head, every_tail, every_imp, from_below, get_or_from}
+use Rattle.lists.proofs.Every.{every_keep}
 use Rattle.lists.specs.Walk.{done, refused, ◌>>=◌, walk}
 use Rattle.table_rows.specs.Bytes.{Image}
 use Rattle.table_rows.specs.Kinds as K

@@ -17,7 +17,7 @@ use Rattle.state_events.specs.Slots.{room_for_events}
 use Rattle.machine.specs.Machine as M
 use Rattle.machine.specs.Machine.{perform}
 use Rattle.state_room.specs.Padded.{padded, padded_none}
-use Rattle.state_room.specs.Holds as L
+use Rattle.state_room.proofs.Holds as LLaws
 use Rattle.state_room.specs.Holds.{Rows, Holds, Kept, Performs}
 use Rattle.call_push.specs.Pushes as pushes
 use Rattle.call_push.specs.declared.Push.{Push}
@@ -154,7 +154,7 @@ module _ (img : Image) (a : Arrays) {b : Bool} (eb : b ≡ is_sound img a) where
     call_kept = kept img a u x sound
 
     pub call_few : u.ledger.counts.waiting ≤ room_for_events
-    call_few = (L.waits img (view_of img a) u is_held).few
+    call_few = (LLaws.waits img (view_of img a) u is_held).few
 
     pub call_performs : (c : M.Call) (v : Rows) {q : M.Reply} {m : Arrays} → Performs img c u q v →
         m ≡ cond (asks c || is_refusal q) a (arrays_in v) → answered q m ≡ step_on img a c

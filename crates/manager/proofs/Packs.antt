@@ -28,7 +28,8 @@ use Rattle.state_scopes.specs.Scopes as scope
 use Rattle.state_scopes.specs.Scopes.{most_scopes}
 use Rattle.state_room.specs.Padded.{padded, padded_none, padded_take}
 use Rattle.state_room.specs.PartRows.{Scoped, Queued, Stored, most_reactors}
-use Rattle.state_room.specs.Holds.{Rows, state_in, Holds, Kept, ruled_holds, most_scopes_lem, most_reactors_lem, rules_table}
+use Rattle.state_room.specs.Holds.{Rows, state_in, Holds, Kept, most_scopes_lem, most_reactors_lem, rules_table}
+use Rattle.state_room.proofs.Holds.{ruled_holds}
 use Rattle.state_rules.specs.Sound.{sound, sound_in}
 use Rattle.manager.specs.Arrays.{Arrays, view_of, packed, is_sound, fresh_over}
 use Rattle.manager.specs.Views.{joined, arrays_of, arrays_in, Unpacks}

@@ -14,7 +14,8 @@ use Rattle.table.specs.Check.{is_table}
 use Rattle.table.specs.declared.Checked.TheVariants.{Accepted}
 use Rattle.machine.specs.State.{State, fresh}
 use Rattle.machine.specs.Machine.{Call, peek_tag, step, run}
-use Rattle.state_room.specs.Holds.{Rows, rows_of, state_in, state_is}
+use Rattle.state_room.specs.Holds.{Rows, rows_of, state_in}
+use Rattle.state_room.proofs.Holds.{state_is}
 use Rattle.day_records.specs.Records.{Record, call, malformed, cut, over, most_bytes, records_from}
 use Rattle.day_records.proofs.DayLaws.{records_behind}
 use Rattle.day_lines.specs.Lines.{line_of, table_line}
@@ -28,7 +29,8 @@ use Rattle.day_rescue.specs.Rescue.{day_rescue}
 use Rattle.day_rescue.proofs.DayTheorems.{opened_again}
 use Rattle.machine_history.specs.History.{moment, outcome}
 use Rattle.machine_history.specs.Fates.{run_next}
-use Rattle.machine_history.specs.One.{TheHistory, the_history, head_is, tail_is}
+use Rattle.machine_history.specs.One.{TheHistory, head_is, tail_is}
+use Rattle.machine_history.proofs.One.{the_history}
 
 -- ---- the lines of a file
 

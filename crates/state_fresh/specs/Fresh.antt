@@ -18,7 +18,8 @@ use Rattle.state_events.specs.Slots as slot
 use Rattle.state_room.specs.Padded.{padded, padded_none, padded_length, padded_take}
 use Rattle.state_room.specs.PartRows.{Queued, Stored, Scoped, most_reactors, bare_ledger}
 use Rattle.machine_rules_kept.specs.Kept.{fresh_rules}
-use Rattle.state_room.specs.Holds.{Rows, Holds, ruled_holds, most_reactors_lem}
+use Rattle.state_room.specs.Holds.{Rows, Holds, most_reactors_lem}
+use Rattle.state_room.proofs.Holds.{ruled_holds}
 
 abbrev pub fresh_modes : Image → List ℕ
 fresh_modes img = map (initial_mode img) (from 0 (reactors img))

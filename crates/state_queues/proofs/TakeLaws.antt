@@ -8,7 +8,8 @@ use lib.ListN.{length, get_or, set, take, length-take}
 use lib.Seq.{set-get_or}
 use lib.Dec.{eqb}
 use borrow.Author.Tests.{eq-eqb, ne_eqb}
-use Rattle.lists.specs.Lists.{keep, lose, count, keep_suc_yes, keep_suc_no, count_append, over, over_read, lose_shorter}
+use Rattle.lists.specs.Lists.{keep, lose, count, count_append, over, over_read, lose_shorter}
+use Rattle.lists.proofs.Lists.{keep_suc_yes, keep_suc_no}
 use Rattle.lists.specs.Lay.{lay}
 use Rattle.lists.specs.Tests.{and_no}
 use Rattle.lists.specs.Loops as loops

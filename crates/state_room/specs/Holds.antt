@@ -23,11 +23,11 @@ use Rattle.machine.specs.Transition.{Step}
 use Rattle.machine.specs.Machine as M
 use Rattle.machine.specs.Machine.{Call, Reply, rules, perform}
 use Rattle.machine_rules_kept.specs.Kept.{table_is, rules_tell}
-use Rattle.state_events.specs.Slots.{events_of, room_for_events, waiting_fits}
+use Rattle.state_events.specs.Slots.{room_for_events}
 use Rattle.state_scopes.specs.Scopes.{most_scopes, scopes_of}
 use Rattle.state_scopes.proofs.ScopeLaws.{scopes_fit}
 use Rattle.state_room.specs.Padded.{padded, padded_take}
-use Rattle.state_room.specs.PartRows.{most_reactors, waiting_in, Queued, queued_is, queued_waits, Waits, Stored, Fits, stored_is, stored_lent, Shows, Scoped, scoped_get, scoped_take}
+use Rattle.state_room.specs.PartRows.{most_reactors, waiting_in, Queued, Stored, Fits, stored_is, stored_lent, Shows, Scoped, scoped_get, scoped_take}
 use Rattle.state_room.specs.declared.Ledger.{Ledger}
 use Rattle.state_room.specs.declared.Room.{Room}
 
@@ -86,12 +86,6 @@ unfolding versions every
 most_reactors_lem img t = le_trans (count_most img (table_is img t) K.reactor (omega arith)) (limits_fit (λ l. get_or l.most K.reactor 0) most_reactors tt img)
 
 module _ (img : Image) (s : State) (r : Rows) (h : Holds img s r) where
-  pub waiting_is : waiting_in r.events r.ledger.counts ≡ s.waiting
-  waiting_is = queued_is s.waiting s.work r.events r.ledger.counts h.queued h.few
-
-  pub waits : Waits r.events r.ledger.counts
-  waits = queued_waits s.waiting s.work r.events r.ledger.counts h.queued h.few h.counted
-
   pub store_is : store_of r.values r.buckets r.ledger.held ≡ s.store
   store_is = stored_is s.store r.values r.buckets r.ledger.held h.stored h.fits
 
@@ -110,10 +104,6 @@ module _ (img : Image) (s : State) (r : Rows) (h : Holds img s r) where
   pub modes_are : take (reactors img) r.ledger.modes ≡ s.modes
   modes_are = rw (h.moded, ← h.modes_long) (padded_take 0 most_reactors s.modes (rw h.modes_long (most_reactors_lem img h.table)))
 
-  -- so they hold no other
-  pub state_is : state_in img r ≡ s
-  state_is = rw (modes_are, scopes_are, waiting_is, h.queued.work, store_is)
-
 -- ---- a state that keeps the rules
 
 pub rules_table : (img : Image) (s : State) → rules img s ≡ true → is_table img ≡ true
@@ -131,33 +121,10 @@ module _ (img : Image) (s : State) (k : rules img s ≡ true) where
         room = held_fits img;
       }
 
-  pub ruled_holds : (r : Rows) → r.ledger.modes ≡ padded 0 most_reactors s.modes → Scoped s.scopes r.scopes →
-      Queued s.waiting s.work r.events r.ledger.counts → Stored s.store r.values r.buckets r.ledger.held → Holds img s r
-  ruled_holds r m x q t =
-      let z = (rules_tell img s k).sound in
-      record {
-        table = rules_table img s k;
-        moded = m;
-        modes_long = z.moded.long;
-        scoped = x;
-        scopes_long = z.scoped.long;
-        queued = q;
-        few = le_trans z.queued.room (waiting_fits img);
-        counted = z.queued.work;
-        stored = t;
-        fits = rules_fit;
-      }
-
 -- rows whose state keeps them
 pub record Kept (img : Image) (r : Rows) : Type 0 where
   pub keeps : rules img (state_in img r) ≡ true
   pub holds : Holds img (state_in img r) r
-
-pub kept_rules : {img : Image} {r : Rows} → Kept img r → (s : State) → Holds img s r → rules img s ≡ true
-kept_rules {img} {r} k s h = rw (state_is img s r h) at k.keeps
-
-pub kept_waits : {img : Image} {r : Rows} → Kept img r → Waits r.events r.ledger.counts
-kept_waits {img} {r} k = waits img (state_in img r) r k.holds
 
 -- ---- what a step of the machine does to rows
 

@@ -20,15 +20,15 @@ use Rattle.store_calls.specs.Lent.{store_of, Laid, Did}
 use Rattle.machine.specs.State.{Event, Scope, State, ordinary, with_queue, with_store, with_modes, with_scopes, tally, accepted}
 use Rattle.table_rows.specs.Bytes.{Image}
 use Rattle.table_rows.specs.Limits.{limits}
-use Rattle.machine.specs.Transition.{Step, held}
+use Rattle.machine.specs.Transition.{held}
 use Rattle.state_events.specs.Slots as slot
 use Rattle.state_events.specs.Slots.{events_of, room_for_events, waiting_fits}
 use Rattle.machine.specs.Table.{scopes, reactors}
 use Rattle.state_room.specs.declared.Counts.{Counts}
 use Rattle.state_room.specs.declared.Ledger.{Ledger}
 use Rattle.state_room.specs.Padded.{padded}
-use Rattle.state_room.specs.Holds.{Rows, Holds, Steps, After, shows}
-use Rattle.state_room.specs.PartRows.{most_reactors, Shows, Scoped, Queued, Waits, waits_queued, queued_is, queued_waits, queued_more, Stored, Fits, stored_is, stored_laid}
+use Rattle.state_room.specs.Holds.{Rows, Holds}
+use Rattle.state_room.specs.PartRows.{most_reactors, Scoped, Queued, Waits, waits_queued, queued_is, queued_waits, queued_more, Stored, Fits, stored_is, stored_laid}
 
 -- what a working function asks of the rows of values and buckets that it is lent: blanks behind those that are held
 pub record Keeps (limit : ℕ) (vs bs : List ℕ) (h : store.Counts) : Type 0 where
@@ -175,28 +175,6 @@ abbrev pub with_ledger : Rows → Ledger → Rows
 with_ledger r l = record { scopes = r.scopes; events = r.events; values = r.values; buckets = r.buckets; ledger = l }
 
 module _ (img : Image) (s : State) (r : Rows) (k : Holds img s r) where
-  pub holds_good : Good (limits img).held r.events r.values r.buckets r.ledger.counts r.ledger.held
-  holds_good = rows_good s _ _ _ _ _ k.queued k.few k.counted k.stored k.fits
-
-  pub holds_are : rows_in s r.events r.values r.buckets r.ledger.counts r.ledger.held ≡ s
-  holds_are = rows_are s _ _ _ _ _ k.queued k.few k.stored k.fits
-
-  pub good_holds : (es vs bs : List ℕ) (c : Counts) (h : store.Counts) → Good (limits img).held es vs bs c h → Holds img (rows_in s es vs bs c h) (changed r es vs bs c h)
-  good_holds es vs bs c h g =
-      let q = waits_queued es c g.waits in
-      record {
-        table = k.table;
-        moded = k.moded;
-        modes_long = k.modes_long;
-        scoped = k.scoped;
-        scopes_long = k.scopes_long;
-        queued = q;
-        few = rw (← q.waiting) g.waits.few;
-        counted = g.waits.counted;
-        stored = g.keeps.stored;
-        fits = g.keeps.fits;
-      }
-
   pub scopes_hold : (ss : List Scope) (xs : List ℕ) → length ss ≡ scopes img → Scoped ss xs → Holds img (with_scopes s ss) (rescoped r xs)
   scopes_hold ss xs l h =
       record {
@@ -226,15 +204,3 @@ module _ (img : Image) (s : State) (r : Rows) (k : Holds img s r) where
         stored = k.stored;
         fits = k.fits;
       }
-
--- a step that is known for every state with these rows' events and store
-pub steps_by : (img : Image) (f : State → Step) (r : Rows) (o : Outcome) (es vs bs : List ℕ) (c : Counts) (h : store.Counts) →
-    Good (limits img).held es vs bs c h →
-    ((t : State) → Shows t r.scopes → f (rows_in t r.events r.values r.buckets r.ledger.counts r.ledger.held) ≡ finished o (rows_in t es vs bs c h)) →
-    Steps img f r o (changed r es vs bs c h)
-steps_by img f r o es vs bs c h g e s k =
-    rw (ap f (sym (holds_are img s r k)) ∙ e s (shows img s r k)) (go o)
-  where
-    go : (o : Outcome) → After img (finished o (rows_in s es vs bs c h)) o (changed r es vs bs c h)
-    go O.Done = (refl, good_holds img s r k es vs bs c h g)
-    go (O.Refused n) = refl

@@ -14,7 +14,8 @@ use Rattle.lists.specs.Lists.{keep, every, from, foldl}
 use Rattle.key_set.specs.Sets.{insert_key, no_keys, word_count}
 use Rattle.tags.specs.Tags.{at}
 use Rattle.table.specs.Rules.{timer_tag}
-use Rattle.lists.specs.Steps.{and_pass, and_stop, fold_next}
+use Rattle.lists.specs.Steps.{and_pass, and_stop}
+use Rattle.lists.proofs.Steps.{fold_next}
 use Rattle.table_rows.specs.Bytes.{Image, be}
 use Rattle.table_rows.specs.Kinds.{kind_of, count, place}
 use Rattle.table_rows.specs.Rows.{none, row_place, field, parent, scope_reactor, scope_mode, timer_offset, timer_microstep}

@@ -1,14 +1,12 @@
--- Document 01's worked examples m1 to m11 and s1 to s3: one table, one proof over it, which antt computes. Assumes nothing.
-use Rattle.std.specs.Prelude.{ℕ, ◌≡◌, refl, true, false}
-use Rattle.std.proofs.Common.{ap, ◌∙◌, sym}
-use mathlib.Core.List.{List, [], ◌∷◌, map, Memᴰ}
-use Rattle.lists.specs.Lists.{any, lose, upsert}
+-- Document 01's worked examples m1 to m11 and s1 to s3: one table, over which proofs/ has one proof, and what the definitions answer. Assumes nothing.
+use Rattle.std.specs.Prelude.{ℕ, true, false}
+use mathlib.Core.List.{List, [], ◌∷◌}
 use Rattle.lists.specs.Walk.{done, refused}
 use Rattle.refusals.specs.declared.Refusal.TheVariants.{MappedTag}
 use Rattle.table_rows.specs.Limits.{version1}
 use Rattle.tags.specs.Tags as tag
-use Rattle.tags.specs.Tags.{Tag, Clock, at, zero_tag, within, within_clock, same_tag, earlier, delayed, shifted, checked, global_to_local, local_to_global}
-use Rattle.store.specs.Store.{Store, empty_store, is_value, is_bucket, is_before, is_there, is_spent, following, larger, lacks, pushed, next_in, next_microstep, value_in, taken, cleared_before, moved}
+use Rattle.tags.specs.Tags.{Tag, Clock, at, zero_tag, global_to_local, local_to_global}
+use Rattle.store.specs.Store.{Store, empty_store}
 use Rattle.value_store.specs.Calls.{Call, push, next, take_out, clear_before_lem, move, Answer, ok, number, nothing_there, said_by, left_by, perform}
 
 pub data Name : Type 0 where
@@ -98,24 +96,3 @@ abbrev pub answer_of : Asked → Said
 answer_of (to_global_lem c x) = mapped (local_to_global c x)
 answer_of (to_local_lem c g) = tagged (global_to_local c g)
 answer_of (calls cs) = answers (performed empty_store cs)
-
-computed : map (λ (r : Row). answer_of r.asked) table ≡ map (λ (r : Row). r.said) table
-unfolding table performed perform pushed lacks any lose upsert next_microstep next_in value_in taken cleared_before moved is_value is_bucket is_before is_there is_spent following larger
-    global_to_local local_to_global tag.to_local tag.to_global checked shifted delayed earlier same_tag within within_clock
-computed = refl
-
--- two maps that agree on a list agree at each of its elements
-module _ {A B : Type 0} (f g : A → B) where
-  heads : {a b : B} {x y : List B} → a ∷ x ≡ b ∷ y → a ≡ b
-  heads e = cc
-
-  tails : {a b : B} {x y : List B} → a ∷ x ≡ b ∷ y → x ≡ y
-  tails e = cc
-
-  each : (x : A) {xs : List A} → map f xs ≡ map g xs → Memᴰ x xs → f x ≡ g x
-  each x e (Memᴰ.head {x = y} {xs = ys} q) = ap f q ∙ (heads e ∙ ap g (sym q))
-  each x e (Memᴰ.tail {x = y} {xs = ys} m) = each x (tails e) m
-
--- every row of the table is as the definitions say
-pub examples_hold : (r : Row) → Memᴰ r table → answer_of r.asked ≡ r.said
-examples_hold r m = each (λ (r : Row). answer_of r.asked) (λ (r : Row). r.said) r computed m

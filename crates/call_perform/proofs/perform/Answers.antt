@@ -1,7 +1,7 @@
 -- `call_perform::perform` meets its contract: by the call. Assumes nothing.
 use mathlib.Core.Path.{refl}
 use Rattle.value_store.specs.Views.{call_of}
-use Rattle.state_room.specs.Holds.{kept_waits, kept_rules}
+use Rattle.state_room.proofs.Holds.{kept_waits, kept_rules}
 use Rattle.call_perform.proofs.CallLaws.{pop_tells, idle_grown, answers_as, push_answers, pop_answers, ask_answers}
 use Rattle.call_perform.proofs.ValueLaws.{value_answers}
 use borrow.Author.Rules.{rules}

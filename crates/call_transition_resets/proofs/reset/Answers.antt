@@ -6,7 +6,7 @@ use native.Mathlib.Omega.{arith}
 use Rattle.key_set.specs.Sets.{has}
 use Rattle.key_set.proofs.Laws.{told_nothing, none_from}
 use Rattle.call_transition_plan.specs.Plans.{plan_in}
-use Rattle.state_room.specs.Parts.{holds_good}
+use Rattle.state_room.proofs.Parts.{holds_good}
 use Rattle.call_transition_resets.proofs.ResetLaws.{holds_front, none_cleared, holds_cleared}
 use borrow.Author.Rules.{rules}
 use Rattle.call_transition_resets.proofs.reset.Goals as goal

@@ -13,7 +13,7 @@ use Rattle.byte_writer.proofs.WrittenLaws.{written_long}
 use Rattle.state_room.specs.declared.Ledger.{Ledger}
 use Rattle.state_room.specs.PartRows.{spare_room}
 use Rattle.state_room.specs.Holds.{Rows}
-use Rattle.state_room.specs.Holds.{kept_waits}
+use Rattle.state_room.proofs.Holds.{kept_waits}
 use Rattle.day_run.proofs.RunLaws.{Running, running_begins, room_left, told, fits, keeps_on, runs_on, stops_room, stops_pending, stops_broken, ends_here, ends_broken}
 use borrow.Author.Rules.{rules}
 use Rattle.day_run.proofs.run_rows.Given as goal

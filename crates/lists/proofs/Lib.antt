@@ -1,0 +1,5 @@
+pub mod Lists
+pub mod Ranges
+pub mod Steps
+pub mod Every
+pub mod Each

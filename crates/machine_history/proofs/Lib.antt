@@ -1,0 +1,4 @@
+pub mod Calls
+pub mod Fates
+pub mod One
+pub mod Examples
