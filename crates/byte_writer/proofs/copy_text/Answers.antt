@@ -1,9 +1,6 @@
 -- `byte_writer::copy_text` meets its contract: one byte more a turn. Assumes nothing.
-use Prim.Native.Nat.{◌+◌, ◌-◌, ◌≤◌}
-use lib.ListN.{length, take}
 use borrow.Author.Rules.{rules}
 use native.Mathlib.Omega.{arith}
-use Rattle.byte_writer.specs.Written.{Written}
 use Rattle.byte_writer.proofs.WrittenLaws.{written_long, copied_none, copied_next, written_whole}
 use Rattle.byte_writer.proofs.copy_text.Goals as goal
 

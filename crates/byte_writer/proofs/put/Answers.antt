@@ -1,6 +1,5 @@
 -- `byte_writer::put` meets its contract. Assumes nothing.
 use Rattle.byte_writer.proofs.WrittenLaws.{put_past}
-use borrow.Author.Rules.{rules}
 use Rattle.byte_writer.proofs.put.Goals as goal
 
 pub returns : goal.returns

@@ -1,11 +1,8 @@
 -- `byte_writer::shift` meets its contract: it reads ahead of what it writes. Assumes nothing.
 use Prim.Native.Nat.{◌+◌, ◌-◌, ◌≤◌}
 use mathlib.Core.Path.{◌≡◌}
-use native.Mathlib.Omega.{arith}
-use lib.ListN.{length, take, drop, length-set}
-use borrow.Author.Rules.{rules}
+use lib.ListN.{length, take, drop}
 use Rattle.byte_writer.specs.Written.{Written}
-use Rattle.byte_writer.proofs.WrittenLaws.{written_none, shifted_next, shifted_all}
 use Rattle.byte_writer.proofs.shift.Given as goal
 
 abbrev pub invariant-loop-i : goal.invariant-loop-i

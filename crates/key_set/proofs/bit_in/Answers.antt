@@ -1,7 +1,6 @@
 -- `key_set::bit_in` meets its contract. Assumes nothing.
 use Prim.Native.Nat.{◌%◌}
 use native.Mathlib.Omega.{arith}
-use borrow.Author.Rules.{rules}
 use borrow.Author.Tests.{eq-eqb, ne_eqb}
 use Rattle.key_set.proofs.Laws.{one_shl}
 use Rattle.key_set.proofs.bit_in.Goals as goal

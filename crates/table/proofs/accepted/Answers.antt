@@ -1,7 +1,6 @@
 -- `table::accepted` meets its contract. Assumes nothing.
 use mathlib.Core.Path.{◌≡◌, sym, ap, ◌∙◌}
 use mathlib.Core.Bool.{true, false}
-use borrow.Author.Rules.{rules}
 use Rattle.table_rows.specs.Bytes.{Image}
 use Rattle.table.specs.Check.{check, accepts, is_table}
 use Rattle.table.specs.declared.Checked.{Checked}

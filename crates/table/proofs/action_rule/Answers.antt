@@ -1,7 +1,6 @@
 -- `table::action_rule` meets its contract. Assumes nothing.
 use Rattle.lists.specs.Steps.{chains}
 use Rattle.table.specs.Rules.{action_rule}
-use borrow.Author.Rules.{rules}
 use Rattle.table.proofs.action_rule.Goals as goal
 
 pub returns : goal.returns

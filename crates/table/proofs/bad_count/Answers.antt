@@ -1,11 +1,9 @@
 -- `table::bad_count` meets its contract: what is left of the kinds decides. Assumes nothing.
 use borrow.Author.Rules.{rules}
-use Prim.Native.Nat.{◌-◌, ◌≤◌}
 use Rattle.lists.specs.Tests.{flag}
-use Rattle.lists.specs.Scan.{scan, scan_pass, scan_fail, scan_none}
-use mathlib.Core.Path.{◌≡◌, refl, sym, ◌∙◌}
-use Rattle.table_rows.specs.Kinds.{kind_count}
-use Rattle.table.specs.Check.{count_fits, bad_count}
+use Rattle.lists.specs.Scan.{scan_pass, scan_fail, scan_none}
+use mathlib.Core.Path.{refl, sym, ◌∙◌}
+use Rattle.table.specs.Check.{bad_count}
 use Rattle.table.proofs.bad_count.Goals as goal
 
 pub loop-k-init : goal.loop-k-init

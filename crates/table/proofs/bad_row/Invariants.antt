@@ -1,10 +1,7 @@
 -- `table::bad_row` meets its contract: what is left of the rows decides. Assumes nothing.
-use borrow.Author.Rules.{rules}
 use Prim.Native.Nat.{◌-◌, ◌≤◌}
-use Rattle.lists.specs.Tests.{flag}
-use Rattle.lists.specs.Scan.{scan, scan_pass, scan_fail, scan_none}
-use mathlib.Core.Path.{◌≡◌, sym, ◌∙◌}
-use native.Mathlib.Nat.{sub-zero}
+use Rattle.lists.specs.Scan.{scan}
+use mathlib.Core.Path.{◌≡◌}
 use Rattle.table.specs.Rules.{row_rule}
 use Rattle.table.specs.Check.{bad_row}
 use Rattle.table.proofs.bad_row.Given as goal

@@ -1,6 +1,5 @@
 -- `table::check` meets its contract: a law for each test that decides. Assumes nothing.
 use Rattle.table.proofs.Laws.{checks}
-use borrow.Author.Rules.{rules}
 use Rattle.table.proofs.check.Goals as goal
 
 pub returns-then-wrong_length : goal.returns-then-wrong_length

@@ -1,11 +1,9 @@
 -- `table::check_rows` meets its contract: what is left of the kinds decides. Assumes nothing.
-use borrow.Author.Rules.{rules}
 use Prim.Native.Nat.{◌-◌, ◌≤◌}
-use Rattle.lists.specs.Scan.{scan, scan_pass, scan_fail, scan_none}
-use mathlib.Core.Path.{◌≡◌, refl, sym, ◌∙◌}
+use Rattle.lists.specs.Scan.{scan}
+use mathlib.Core.Path.{◌≡◌}
 use Rattle.table_rows.specs.Kinds.{kind_count}
 use Rattle.table.specs.Check.{kind_fits, bad_kind}
-use Rattle.table.proofs.Laws.{kind_broken, kind_kept, rows_broken, rows_kept}
 use Rattle.table.proofs.check_rows.Given as goal
 
 abbrev pub invariant-loop-k : goal.invariant-loop-k

@@ -1,6 +1,5 @@
 -- `table::count_fits` meets its contract. Assumes nothing.
 use Rattle.table.proofs.Laws.{counts}
-use borrow.Author.Rules.{rules}
 use Rattle.table.proofs.count_fits.Goals as goal
 
 pub returns-then-total-kind : goal.returns-then-total-kind

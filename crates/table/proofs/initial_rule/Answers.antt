@@ -1,7 +1,6 @@
 -- `table::initial_rule` meets its contract. Assumes nothing.
 use Rattle.lists.specs.Steps.{chains}
 use Rattle.table.specs.Rules.{initial_rule}
-use borrow.Author.Rules.{rules}
 use Rattle.table.proofs.initial_rule.Goals as goal
 
 pub returns-then-mode-eq-NONE : goal.returns-then-mode-eq-NONE

@@ -1,7 +1,6 @@
 -- `table::key_exists` meets its contract. Assumes nothing.
 use Rattle.lists.specs.Steps.{chains}
 use Rattle.table.specs.Rules.{key_exists}
-use borrow.Author.Rules.{rules}
 use Rattle.table.proofs.key_exists.Goals as goal
 
 pub returns-then-k-f : goal.returns-then-k-f

@@ -2,7 +2,6 @@
 use mathlib.Core.Path.{refl, sym}
 use lib.ListN.{get_or-eq_default}
 use Rattle.table.specs.Rules.{key, key_fields}
-use borrow.Author.Rules.{rules}
 use Rattle.table.proofs.key_field.Goals as goal
 
 pub returns-then-j-lt-KEYS : goal.returns-then-j-lt-KEYS

@@ -1,12 +1,9 @@
 -- `table::keys_exist` meets its contract: what is left of the list decides. Assumes nothing.
 use borrow.Author.Rules.{rules}
-use Prim.Native.Nat.{◌-◌, ◌≤◌}
 use Rattle.lists.specs.Tests.{flag}
-use mathlib.Core.Path.{◌≡◌, refl, sym, ap, ◌∙◌}
-use lib.ListN.{drop}
-use Rattle.lists.specs.Lists.{every}
+use mathlib.Core.Path.{refl, sym, ap, ◌∙◌}
 use Rattle.lists.specs.Steps.{every_pass, every_fail, every_end}
-use Rattle.table.specs.Rules.{key, key_fields, key_count, key_exists, keys_exist}
+use Rattle.table.specs.Rules.{key, key_fields, key_exists, keys_exist}
 use Rattle.table.proofs.keys_exist.Goals as goal
 
 pub loop-j-init : goal.loop-j-init

@@ -1,12 +1,9 @@
 -- `table::keys_exist` meets its contract: what is left of the list decides. Assumes nothing.
-use borrow.Author.Rules.{rules}
 use Prim.Native.Nat.{◌-◌, ◌≤◌}
-use Rattle.lists.specs.Tests.{flag}
-use mathlib.Core.Path.{◌≡◌, refl, sym, ap, ◌∙◌}
+use mathlib.Core.Path.{◌≡◌}
 use lib.ListN.{drop}
 use Rattle.lists.specs.Lists.{every}
-use Rattle.lists.specs.Steps.{every_pass, every_fail, every_end}
-use Rattle.table.specs.Rules.{key, key_fields, key_count, key_exists, keys_exist}
+use Rattle.table.specs.Rules.{key_fields, key_count, key_exists, keys_exist}
 use Rattle.table.proofs.keys_exist.Given as goal
 
 abbrev pub invariant-loop-j : goal.invariant-loop-j

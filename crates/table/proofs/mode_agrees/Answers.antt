@@ -2,7 +2,6 @@
 use Rattle.table.proofs.Laws.{under_root}
 use Rattle.lists.specs.Steps.{chains}
 use Rattle.table.specs.Rules.{agrees}
-use borrow.Author.Rules.{rules}
 use Rattle.table.proofs.mode_agrees.Goals as goal
 
 pub returns-then-modes-mode : goal.returns-then-modes-mode

@@ -1,6 +1,5 @@
 -- `table::own_rule` meets its contract. Assumes nothing.
 use Rattle.table.proofs.Laws.{owns}
-use borrow.Author.Rules.{rules}
 use Rattle.table.proofs.own_rule.Goals as goal
 
 pub returns-then-k-eq-SCOPE : goal.returns-then-k-eq-SCOPE

@@ -1,7 +1,6 @@
 -- `table::parent_rule` meets its contract. Assumes nothing.
 use Rattle.lists.specs.Steps.{chains}
 use Rattle.table.specs.Rules.{parent_rule}
-use borrow.Author.Rules.{rules}
 use Rattle.table.proofs.parent_rule.Goals as goal
 
 pub returns-then-above : goal.returns-then-above

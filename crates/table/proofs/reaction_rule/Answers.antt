@@ -1,7 +1,6 @@
 -- `table::reaction_rule` meets its contract. Assumes nothing.
 use Rattle.lists.specs.Steps.{chains}
 use Rattle.table.specs.Rules.{reaction_rule}
-use borrow.Author.Rules.{rules}
 use Rattle.table.proofs.reaction_rule.Goals as goal
 
 pub returns : goal.returns

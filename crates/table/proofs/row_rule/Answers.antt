@@ -1,6 +1,5 @@
 -- `table::row_rule` meets its contract. Assumes nothing.
 use Rattle.table.proofs.Laws.{row_rules}
-use borrow.Author.Rules.{rules}
 use Rattle.table.proofs.row_rule.Goals as goal
 
 pub returns-then-keys_exist : goal.returns-then-keys_exist

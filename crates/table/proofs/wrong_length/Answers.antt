@@ -1,6 +1,5 @@
 -- `table::wrong_length` meets its contract. Assumes nothing.
 use Rattle.table.proofs.Laws.{lengths}
-use borrow.Author.Rules.{rules}
 use Rattle.table.proofs.wrong_length.Goals as goal
 
 pub returns-then-image-lt5 : goal.returns-then-image-lt5

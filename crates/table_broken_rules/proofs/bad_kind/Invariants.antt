@@ -1,11 +1,9 @@
 -- `table_broken_rules::bad_kind` meets its contract: what is left of the kinds decides. Assumes nothing.
-use borrow.Author.Rules.{rules}
 use Prim.Native.Nat.{◌-◌, ◌≤◌}
-use mathlib.Core.Path.{◌≡◌, refl, sym, ◌∙◌}
-use Rattle.lists.specs.Scan.{scan, scan_pass, scan_fail, scan_none}
+use mathlib.Core.Path.{◌≡◌}
+use Rattle.lists.specs.Scan.{scan}
 use Rattle.table_rows.specs.Kinds.{kind_count}
 use Rattle.table.specs.Check.{kind_fits, bad_kind}
-use Rattle.table.proofs.Laws.{kind_broken, kind_kept}
 use Rattle.table_broken_rules.proofs.bad_kind.Given as goal
 
 abbrev pub invariant-loop-k : goal.invariant-loop-k

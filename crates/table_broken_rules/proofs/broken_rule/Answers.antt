@@ -1,7 +1,6 @@
 -- `table_broken_rules::broken_rule` meets its contract. Assumes nothing.
 use Rattle.table_broken_rules.specs.BrokenRules.{broken_rule}
 use Rattle.table_broken_rules.proofs.Laws.{faults}
-use borrow.Author.Rules.{rules}
 use Rattle.table_broken_rules.proofs.broken_rule.Goals as goal
 
 pub returns-then-j-lt-KEYS : goal.returns-then-j-lt-KEYS

@@ -1,6 +1,5 @@
 -- `table_broken_rules::fault_words` meets its contract. Assumes nothing.
 use Rattle.table_broken_rules.proofs.Laws.{fault_words_are}
-use borrow.Author.Rules.{rules}
 use Rattle.table_broken_rules.proofs.fault_words.Goals as goal
 
 pub returns : goal.returns

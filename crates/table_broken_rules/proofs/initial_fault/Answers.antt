@@ -1,7 +1,6 @@
 -- `table_broken_rules::initial_fault` meets its contract. Assumes nothing.
 use Rattle.table_broken_rules.specs.BrokenRules.{initial_fault}
 use Rattle.table_broken_rules.proofs.Laws.{faults}
-use borrow.Author.Rules.{rules}
 use Rattle.table_broken_rules.proofs.initial_fault.Goals as goal
 
 pub returns-then-mode-eq-NONE : goal.returns-then-mode-eq-NONE

@@ -2,7 +2,6 @@
 use Rattle.table.specs.Rules.{reaction_rule}
 use Rattle.table_broken_rules.specs.BrokenRules.{level_fault}
 use Rattle.table_broken_rules.proofs.Laws.{faults}
-use borrow.Author.Rules.{rules}
 use Rattle.table_broken_rules.proofs.level_fault.Goals as goal
 
 pub returns-then-level-le-MAX_LEVEL : goal.returns-then-level-le-MAX_LEVEL

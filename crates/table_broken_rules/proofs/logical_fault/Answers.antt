@@ -2,7 +2,6 @@
 use Rattle.table.specs.Rules.{action_rule}
 use Rattle.table_broken_rules.specs.BrokenRules.{logical_fault}
 use Rattle.table_broken_rules.proofs.Laws.{faults}
-use borrow.Author.Rules.{rules}
 use Rattle.table_broken_rules.proofs.logical_fault.Goals as goal
 
 pub returns-then-logical-le1 : goal.returns-then-logical-le1

@@ -1,9 +1,7 @@
 -- `table_broken_rules::missing_key` meets its contract: what is left of the fields decides. Assumes nothing.
-use borrow.Author.Rules.{rules}
 use Prim.Native.Nat.{◌-◌, ◌≤◌}
-use mathlib.Core.Path.{◌≡◌, refl, sym, ap, ◌∙◌}
-use Rattle.lists.specs.Tests.{flag}
-use Rattle.lists.specs.Scan.{scan, scan_pass, scan_fail, scan_none}
+use mathlib.Core.Path.{◌≡◌}
+use Rattle.lists.specs.Scan.{scan}
 use Rattle.table.specs.Rules.{key_count, key_exists}
 use Rattle.table_broken_rules.specs.BrokenRules.{field_at, missing_key}
 use Rattle.table_broken_rules.proofs.missing_key.Given as goal

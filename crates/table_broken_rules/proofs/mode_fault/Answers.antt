@@ -2,7 +2,6 @@
 use mathlib.Core.Path.{refl}
 use Rattle.table_broken_rules.proofs.Laws.{faults, if_yes, if_no, by_root, mode_agreed}
 use Rattle.table_broken_rules.specs.BrokenRules.{mode_fault}
-use borrow.Author.Rules.{rules}
 use Rattle.table_broken_rules.proofs.mode_fault.Goals as goal
 
 pub returns-then-modes-mode : goal.returns-then-modes-mode

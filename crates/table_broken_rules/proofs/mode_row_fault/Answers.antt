@@ -1,6 +1,5 @@
 -- `table_broken_rules::mode_row_fault` meets its contract. Assumes nothing.
 use Rattle.table_broken_rules.proofs.Laws.{back_other, back_same}
-use borrow.Author.Rules.{rules}
 use Rattle.table_broken_rules.proofs.mode_row_fault.Goals as goal
 
 pub returns-then-back-i : goal.returns-then-back-i

@@ -1,7 +1,6 @@
 -- `table_broken_rules::own_fault` meets its contract. Assumes nothing.
 use Rattle.table_broken_rules.proofs.Laws.{faults, own_action, own_timer}
 use Rattle.table_broken_rules.specs.BrokenRules.{own_fault}
-use borrow.Author.Rules.{rules}
 use Rattle.table_broken_rules.proofs.own_fault.Goals as goal
 
 pub returns-then-k-eq-SCOPE : goal.returns-then-k-eq-SCOPE

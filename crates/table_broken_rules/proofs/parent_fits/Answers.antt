@@ -1,7 +1,6 @@
 -- `table_broken_rules::parent_fits` meets its contract. Assumes nothing.
 use Rattle.table.specs.Rules.{parent_rule}
 use Rattle.table_broken_rules.proofs.Laws.{faults}
-use borrow.Author.Rules.{rules}
 use Rattle.table_broken_rules.proofs.parent_fits.Goals as goal
 
 pub returns-then-above : goal.returns-then-above

@@ -1,7 +1,6 @@
 -- `table_broken_rules::scope_fault` meets its contract. Assumes nothing.
 use Rattle.table_broken_rules.specs.BrokenRules.{scope_fault}
 use Rattle.table_broken_rules.proofs.Laws.{faults}
-use borrow.Author.Rules.{rules}
 use Rattle.table_broken_rules.proofs.scope_fault.Goals as goal
 
 pub returns-then-not-parent_fits : goal.returns-then-not-parent_fits

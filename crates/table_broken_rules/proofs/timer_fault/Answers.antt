@@ -2,7 +2,6 @@
 use Rattle.table.specs.Rules.{timer_rule}
 use Rattle.table_broken_rules.specs.BrokenRules.{timer_fault}
 use Rattle.table_broken_rules.proofs.Laws.{faults}
-use borrow.Author.Rules.{rules}
 use Rattle.table_broken_rules.proofs.timer_fault.Goals as goal
 
 pub returns-then-within : goal.returns-then-within

@@ -1,6 +1,5 @@
 -- `table_rows::count` meets its contract. Assumes nothing.
 use Rattle.table_rows.specs.Kinds.{count}
-use borrow.Author.Rules.{rules}
 use Rattle.table_rows.proofs.count.Goals as goal
 
 pub returns : goal.returns

@@ -1,6 +1,5 @@
 -- `table_rows::field32` meets its contract. Assumes nothing.
 use Rattle.table_rows.proofs.Laws.{field_at}
-use borrow.Author.Rules.{rules}
 use Rattle.table_rows.proofs.field32.Goals as goal
 
 pub returns : goal.returns

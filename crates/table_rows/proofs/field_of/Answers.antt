@@ -1,6 +1,5 @@
 -- `table_rows::field_of` meets its contract. Assumes nothing.
 use Rattle.table_rows.proofs.Laws.{field_first, field_second, field_third}
-use borrow.Author.Rules.{rules}
 use Rattle.table_rows.proofs.field_of.Goals as goal
 
 pub returns-then-f-eq0 : goal.returns-then-f-eq0

@@ -1,7 +1,6 @@
 -- `table_rows::limits_of` meets its contract: the code and the definition have the same table, by the same version. Assumes nothing.
 use Rattle.table_rows.specs.Limits.{versions}
 use Rattle.table_rows.proofs.Laws.{limits_none, limits_row, limits_past}
-use borrow.Author.Rules.{rules}
 use Rattle.table_rows.proofs.limits_of.Goals as goal
 
 pub returns-then-version-lt1 : goal.returns-then-version-lt1

@@ -1,5 +1,4 @@
 -- `table_rows::most_held` meets its contract. Assumes nothing.
-use borrow.Author.Rules.{rules}
 use Rattle.table_rows.proofs.most_held.Goals as goal
 
 pub returns : goal.returns

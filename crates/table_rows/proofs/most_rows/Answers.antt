@@ -1,6 +1,5 @@
 -- `table_rows::most_rows` meets its contract: no version has more than nine kinds. Assumes nothing.
 use Rattle.table_rows.proofs.Laws.{most_past}
-use borrow.Author.Rules.{rules}
 use Rattle.table_rows.proofs.most_rows.Goals as goal
 
 pub returns-then-k-lt-KINDS : goal.returns-then-k-lt-KINDS

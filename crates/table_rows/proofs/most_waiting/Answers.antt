@@ -1,5 +1,4 @@
 -- `table_rows::most_waiting` meets its contract. Assumes nothing.
-use borrow.Author.Rules.{rules}
 use Rattle.table_rows.proofs.most_waiting.Goals as goal
 
 pub returns : goal.returns

@@ -1,11 +1,7 @@
 -- `table_rows::number` meets its contract: with each byte the number is one byte wider. Assumes nothing.
 use Prim.Native.Nat.{◌-◌, ◌≤◌, ◌<◌, ◌^◌}
-use mathlib.Core.Path.{◌≡◌, refl}
-use native.Mathlib.Nat.{le_antisymm}
-use native.Mathlib.Omega.{arith}
-use borrow.Author.Rules.{rules}
-use Rattle.table_rows.specs.Bytes.{be, be_next, be_room}
-use Rattle.table_rows.proofs.Laws.{be_fits}
+use mathlib.Core.Path.{◌≡◌}
+use Rattle.table_rows.specs.Bytes.{be}
 use Rattle.table_rows.proofs.number.Given as goal
 
 abbrev pub invariant-loop-k : goal.invariant-loop-k

@@ -1,11 +1,7 @@
 -- `table_rows::place` meets its contract: with each kind the place is one kind further. Assumes nothing.
 use Prim.Native.Nat.{◌+◌, ◌*◌, ◌-◌, ◌^◌, ◌≤◌}
-use mathlib.Core.Path.{◌≡◌, refl, ap, ◌∙◌}
-use native.Mathlib.Nat.{le_antisymm}
-use native.Mathlib.Omega.{arith}
-use borrow.Author.Rules.{rules}
+use mathlib.Core.Path.{◌≡◌}
 use Rattle.table_rows.specs.Kinds.{head_bytes, widest, place}
-use Rattle.table_rows.proofs.Laws.{rows_le, place_next}
 use Rattle.table_rows.proofs.place.Given as goal
 
 abbrev pub invariant-loop-j : goal.invariant-loop-j

@@ -1,7 +1,6 @@
 -- `table_rows::row_place` meets its contract. Assumes nothing.
 use native.Mathlib.Omega.{arith}
 use Rattle.table_rows.proofs.Laws.{rows_le, row_sum}
-use borrow.Author.Rules.{rules}
 use Rattle.table_rows.proofs.row_place.Goals as goal
 
 pub overflow_mul-result : goal.overflow_mul-result

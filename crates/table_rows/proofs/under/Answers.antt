@@ -1,6 +1,5 @@
 -- `table_rows::under` meets its contract. Assumes nothing.
 use Rattle.table_rows.specs.Lineage.{subtrees}
-use borrow.Author.Rules.{rules}
 use Rattle.table_rows.proofs.under.Goals as goal
 
 pub returns-then-above-i : goal.returns-then-above-i

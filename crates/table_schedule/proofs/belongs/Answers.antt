@@ -1,5 +1,4 @@
 -- `table_schedule::belongs` meets its contract. Assumes nothing.
-use borrow.Author.Rules.{rules}
 use Rattle.table_schedule.proofs.belongs.Goals as goal
 
 pub returns-then-subtree : goal.returns-then-subtree

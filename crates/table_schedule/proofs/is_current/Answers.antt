@@ -2,7 +2,6 @@
 use Rattle.lists.specs.Steps.{chains}
 use Rattle.table_schedule.specs.Schedule.{is_current}
 use Rattle.table_schedule.proofs.Laws.{current_named}
-use borrow.Author.Rules.{rules}
 use Rattle.table_schedule.proofs.is_current.Goals as goal
 
 pub returns-then-named : goal.returns-then-named

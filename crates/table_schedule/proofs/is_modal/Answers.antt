@@ -1,12 +1,10 @@
 -- `table_schedule::is_modal` meets its contract: what is left of the scopes decides. Assumes nothing.
 use borrow.Author.Rules.{rules}
 use Rattle.lists.specs.Tests.{flag}
-use Prim.Native.Nat.{◌-◌, ◌≤◌}
-use mathlib.Core.Path.{◌≡◌, sym, ◌∙◌}
+use mathlib.Core.Path.{sym, ◌∙◌}
 use native.Mathlib.Nat.{sub-zero}
-use Rattle.lists.specs.Lists.{any, from}
 use Rattle.lists.specs.Steps.{any_next, any_found, any_none}
-use Rattle.table_schedule.specs.Schedule.{names_mode, is_modal}
+use Rattle.table_schedule.specs.Schedule.{is_modal}
 use Rattle.table_schedule.proofs.is_modal.Goals as goal
 
 pub loop-i-init : goal.loop-i-init

@@ -1,7 +1,6 @@
 -- `table_schedule::mode_of` meets its contract. Assumes nothing.
 use Rattle.lists.specs.Steps.{read_in, read_past}
 use Rattle.table_rows.specs.Rows.{none}
-use borrow.Author.Rules.{rules}
 use Rattle.table_schedule.proofs.mode_of.Goals as goal
 
 pub returns-then-r-modes : goal.returns-then-r-modes

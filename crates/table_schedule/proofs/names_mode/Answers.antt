@@ -1,6 +1,5 @@
 -- `table_schedule::names_mode` meets its contract. Assumes nothing.
 use Rattle.table_schedule.specs.Schedule.{names_mode}
-use borrow.Author.Rules.{rules}
 use Rattle.table_schedule.proofs.names_mode.Goals as goal
 
 pub returns : goal.returns

@@ -1,5 +1,4 @@
 -- `table_schedule::reactions_of` meets its contract. Assumes nothing.
-use borrow.Author.Rules.{rules}
 use Rattle.table_schedule.proofs.reactions_of.Goals as goal
 
 pub returns : goal.returns

@@ -1,5 +1,4 @@
 -- `table_schedule::with_row` meets its contract. Assumes nothing.
-use borrow.Author.Rules.{rules}
 use Rattle.table_schedule.proofs.with_row.Goals as goal
 
 pub returns : goal.returns

@@ -1,10 +1,6 @@
 -- `table_writer::put_counts` meets its contract: one count more a turn. Assumes nothing.
-use Prim.Native.Nat.{◌-◌, ◌≤◌}
 use borrow.Author.Rules.{rules}
-use Rattle.table_rows.specs.Kinds.{kind_count}
-use Rattle.byte_writer.specs.Written.{Written}
 use Rattle.byte_writer.proofs.WrittenLaws.{written_room, written_long}
-use Rattle.table_writer.specs.Numbers.{counts_in}
 use Rattle.table_writer.proofs.NumbersLaws.{no_counts, one_count_more, counts_all}
 use Rattle.table_writer.proofs.put_counts.Goals as goal
 

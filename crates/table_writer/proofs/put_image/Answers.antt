@@ -1,6 +1,5 @@
 -- `table_writer::put_image` meets its contract: one piece behind the other. Assumes nothing.
 use Rattle.table_writer.proofs.WriterLaws.{image_written}
-use borrow.Author.Rules.{rules}
 use Rattle.table_writer.proofs.put_image.Goals as goal
 
 pub returns : goal.returns

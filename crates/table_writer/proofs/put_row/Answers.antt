@@ -1,6 +1,5 @@
 -- `table_writer::put_row` meets its contract: one field behind the other. Assumes nothing.
 use Rattle.table_writer.proofs.NumbersLaws.{row_written}
-use borrow.Author.Rules.{rules}
 use Rattle.table_writer.proofs.put_row.Goals as goal
 
 pub returns : goal.returns

@@ -1,13 +1,9 @@
 -- `table_writer::put_rows` meets its contract: one kind more a turn. Assumes nothing.
 use Prim.Native.Nat.{◌-◌, ◌*◌, ◌≤◌}
 use mathlib.Core.Path.{◌≡◌}
-use native.Mathlib.Omega.{arith}
-use borrow.Author.Rules.{rules}
 use Rattle.table_rows.specs.Kinds.{kind_count}
 use Rattle.byte_writer.specs.Written.{Written}
-use Rattle.byte_writer.proofs.WrittenLaws.{written_room, written_long}
 use Rattle.table_writer.specs.Numbers.{rows_before, rows_in}
-use Rattle.table_writer.proofs.NumbersLaws.{none_before, no_kinds, before_next, one_kind_more, kinds_all}
 use Rattle.table_writer.proofs.put_rows.Given as goal
 
 abbrev pub invariant-loop-k : goal.invariant-loop-k

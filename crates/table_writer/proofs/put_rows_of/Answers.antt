@@ -1,10 +1,7 @@
 -- `table_writer::put_rows_of` meets its contract: one row more a turn. Assumes nothing.
-use Prim.Native.Nat.{◌-◌, ◌≤◌}
 use native.Mathlib.Omega.{arith}
 use borrow.Author.Rules.{rules}
-use Rattle.byte_writer.specs.Written.{Written}
 use Rattle.byte_writer.proofs.WrittenLaws.{written_room, written_long}
-use Rattle.table_writer.specs.Numbers.{kind_rows}
 use Rattle.table_writer.proofs.NumbersLaws.{no_rows, one_row_more, rows_all}
 use Rattle.table_writer.proofs.put_rows_of.Goals as goal
 

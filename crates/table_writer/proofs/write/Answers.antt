@@ -4,7 +4,6 @@ use Rattle.table_writer.proofs.WriterLaws.{not_nine, refused_count, refused_unfi
 use mathlib.Core.Path.{◌≡◌}
 use Prim.Native.Nat.{ℕ}
 use lib.ListN.{length, replicate, length-replicate}
-use borrow.Author.Rules.{rules}
 use Rattle.table_writer.proofs.write.Goals as goal
 
 -- the room

@@ -1,6 +1,5 @@
 -- `tags::as_global` meets its contract. Assumes nothing.
 use Rattle.tags.proofs.Laws.{flaggeds}
-use borrow.Author.Rules.{rules}
 use Rattle.tags.proofs.as_global.Goals as goal
 
 pub returns-in-Tag : goal.returns-in-Tag

@@ -1,6 +1,5 @@
 -- `tags::delay` meets its contract. Assumes nothing.
 use Rattle.tags.proofs.Laws.{delays}
-use borrow.Author.Rules.{rules}
 use Rattle.tags.proofs.delay.Goals as goal
 
 pub returns-then-t-last : goal.returns-then-t-last

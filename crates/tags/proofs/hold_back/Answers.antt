@@ -1,6 +1,5 @@
 -- `tags::hold_back` meets its contract. Assumes nothing.
 use Rattle.tags.proofs.Laws.{places}
-use borrow.Author.Rules.{rules}
 use Rattle.tags.proofs.hold_back.Goals as goal
 
 pub returns-in-Below : goal.returns-in-Below

@@ -1,7 +1,6 @@
 -- `tags::is_held_back` meets its contract. Assumes nothing.
 use Rattle.lists.specs.Tests.{tests}
 use Rattle.tags.specs.Tags.{earlier, same_tag}
-use borrow.Author.Rules.{rules}
 use Rattle.tags.proofs.is_held_back.Goals as goal
 
 pub returns-then-offset-g : goal.returns-then-offset-g

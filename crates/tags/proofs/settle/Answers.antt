@@ -1,6 +1,5 @@
 -- `tags::settle` meets its contract. Assumes nothing.
 use Rattle.tags.proofs.Laws.{settles}
-use borrow.Author.Rules.{rules}
 use Rattle.tags.proofs.settle.Goals as goal
 
 pub returns-then-microstep-last : goal.returns-then-microstep-last

@@ -1,6 +1,5 @@
 -- `tags::shifted_step` meets its contract. Assumes nothing.
 use Rattle.tags.proofs.Laws.{steps}
-use borrow.Author.Rules.{rules}
 use Rattle.tags.proofs.shifted_step.Goals as goal
 
 pub returns-then-from-x : goal.returns-then-from-x

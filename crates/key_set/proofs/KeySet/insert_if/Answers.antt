@@ -1,5 +1,4 @@
 -- `KeySet::insert_if` meets its contract. Assumes nothing.
-use borrow.Author.Rules.{rules}
 use Rattle.key_set.proofs.KeySet.insert_if.Goals as goal
 
 pub returns-then-test : goal.returns-then-test

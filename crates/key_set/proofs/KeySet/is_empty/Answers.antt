@@ -1,5 +1,4 @@
 -- `key_set::KeySet::is_empty` meets its contract: a set with a lowest key has keys. Assumes nothing.
-use borrow.Author.Rules.{rules}
 use Rattle.key_set.proofs.Laws.{told_key, told_nothing, empty_no, empty_yes}
 use Rattle.key_set.proofs.KeySet.is_empty.Goals as goal
 

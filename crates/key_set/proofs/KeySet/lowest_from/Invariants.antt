@@ -1,16 +1,8 @@
 -- `key_set::KeySet::lowest_from` meets its contract: the keys from k on are those from `at` on, which no word before i has, as long as none was met.
 -- Assumes nothing.
-use mathlib.Core.Path.{◌≡◌, refl}
-use Prim.Native.Nat.{◌*◌, ◌-◌, ◌/◌, ◌%◌, ◌^◌, ◌≤◌}
-use native.Mathlib.Omega.{arith}
-use lib.Count.{trailing_le}
-use lib.ListN.{length, get_or}
-use borrow.Author.Rules.{rules}
-use mir.Val.{Fits}
-use mir.Syntax.{w64}
+use mathlib.Core.Path.{◌≡◌}
+use Prim.Native.Nat.{◌*◌, ◌-◌, ◌≤◌}
 use Rattle.key_set.specs.Sets.{word_count, keys_from}
-use Rattle.key_set.proofs.Laws.{found_none}
-use Rattle.key_set.proofs.Counts.{found_word, passed_word}
 use Rattle.key_set.proofs.KeySet.lowest_from.Given as goal
 
 abbrev pub invariant-loop-i : goal.invariant-loop-i

@@ -1,13 +1,8 @@
 -- `key_set::KeySet::size` meets its contract: the ones counted and the keys of the words from i on are as many as the set has. Assumes nothing.
 use mathlib.Core.Path.{◌≡◌}
 use Prim.Native.Nat.{◌+◌, ◌*◌, ◌-◌}
-use native.Mathlib.Omega.{arith}
-use lib.ListN.{length, get_or}
-use borrow.Author.Rules.{rules}
-use mir.Val.{Fits}
-use mir.Syntax.{w64}
+use lib.ListN.{length}
 use Rattle.key_set.specs.Sets.{word_count, keys_from, size_of}
-use Rattle.key_set.proofs.Counts.{counted_word, counted_fit, counted_all}
 use Rattle.key_set.proofs.KeySet.size.Given as goal
 
 abbrev pub invariant-loop-i : goal.invariant-loop-i

@@ -1,6 +1,5 @@
 -- `tags::GlobalTag::delay` meets its contract. Assumes nothing.
 use Rattle.tags.proofs.Laws.{answers}
-use borrow.Author.Rules.{rules}
 use Rattle.tags.proofs.GlobalTag.delay.Goals as goal
 
 pub returns-in-Tag : goal.returns-in-Tag

@@ -1,6 +1,5 @@
 -- `tags::ScopeClock::global_to_local` meets its contract. Assumes nothing.
 use Rattle.tags.proofs.Laws.{locals}
-use borrow.Author.Rules.{rules}
 use Rattle.tags.proofs.ScopeClock.global_to_local.Goals as goal
 
 pub returns-then-not-within : goal.returns-then-not-within

@@ -1,6 +1,5 @@
 -- `tags::ScopeClock::is_identity` meets its contract. Assumes nothing.
 use Rattle.tags.proofs.Laws.{levels}
-use borrow.Author.Rules.{rules}
 use Rattle.tags.proofs.ScopeClock.is_identity.Goals as goal
 
 pub returns-then-is_level : goal.returns-then-is_level

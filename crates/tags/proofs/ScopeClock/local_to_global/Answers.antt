@@ -1,6 +1,5 @@
 -- `tags::ScopeClock::local_to_global` meets its contract. Assumes nothing.
 use Rattle.tags.proofs.Laws.{globals}
-use borrow.Author.Rules.{rules}
 use Rattle.tags.proofs.ScopeClock.local_to_global.Goals as goal
 
 pub returns-then-not-within : goal.returns-then-not-within

@@ -1,6 +1,5 @@
 -- `tags::ScopeClock::to_local` meets its contract. Assumes nothing.
 use Rattle.tags.proofs.Laws.{locals}
-use borrow.Author.Rules.{rules}
 use Rattle.tags.proofs.ScopeClock.to_local.Goals as goal
 
 pub returns-then-is_level : goal.returns-then-is_level

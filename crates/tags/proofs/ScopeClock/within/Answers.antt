@@ -1,6 +1,5 @@
 -- `tags::ScopeClock::within` meets its contract. Assumes nothing.
 use Rattle.tags.proofs.Laws.{clocks}
-use borrow.Author.Rules.{rules}
 use Rattle.tags.proofs.ScopeClock.within.Goals as goal
 
 pub returns-then-within-2 : goal.returns-then-within-2
