@@ -2,11 +2,8 @@
 use Prim.Native.Nat.{◌-◌, ◌≤◌}
 use lib.ListN.{take}
 use Rattle.lists.specs.Lay.{lay}
-use Rattle.lists.specs.Loops.{blank_none, blank_one, blank_all}
 use Rattle.store_words.specs.Words.{values_of, HeldValues}
 use Rattle.store_words.specs.Entries.{blank_value}
-use borrow.Author.Rules.{rules}
-use native.Mathlib.Omega.{arith}
 use Rattle.store.proofs.blank_values.Given as goal
 
 abbrev pub invariant-loop-i : goal.invariant-loop-i

@@ -1,10 +1,6 @@
 -- `store::bucket_from` meets its contract: invariant: the first that passes from the start on is the first from i on. Assumes nothing.
-use mathlib.Core.Path.{◌≡◌, refl}
-use Prim.Native.Nat.{◌+◌, ◌-◌, ◌≤◌}
-use lib.ListN.{take, drop}
-use Rattle.lists.specs.Loops.{place, find_here, find_next, find_none}
-use Rattle.store_words.specs.Words.{buckets_of}
-use Rattle.store.specs.Views.{bucket_test}
+use mathlib.Core.Path.{refl}
+use Rattle.lists.specs.Loops.{find_here, find_next, find_none}
 use borrow.Author.Rules.{rules}
 use native.Mathlib.Omega.{arith}
 use Rattle.store.proofs.bucket_from.Goals as goal

@@ -1,12 +1,10 @@
 -- `store::bucket_from` meets its contract: invariant: the first that passes from the start on is the first from i on. Assumes nothing.
-use mathlib.Core.Path.{◌≡◌, refl}
+use mathlib.Core.Path.{◌≡◌}
 use Prim.Native.Nat.{◌+◌, ◌-◌, ◌≤◌}
 use lib.ListN.{take, drop}
-use Rattle.lists.specs.Loops.{place, find_here, find_next, find_none}
+use Rattle.lists.specs.Loops.{place}
 use Rattle.store_words.specs.Words.{buckets_of}
 use Rattle.store.specs.Views.{bucket_test}
-use borrow.Author.Rules.{rules}
-use native.Mathlib.Omega.{arith}
 use Rattle.store.proofs.bucket_from.Given as goal
 
 abbrev pub invariant-loop-i : goal.invariant-loop-i

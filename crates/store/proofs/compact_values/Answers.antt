@@ -1,10 +1,5 @@
 -- `store::compact_values` meets its contract: invariant: those of the first i that stay lie over the front. Assumes nothing.
-use Prim.Native.Nat.{◌-◌, ◌≤◌}
-use Rattle.lists.specs.Loops.{Compacted, compact_none, compact_goes, compact_stays, compact_count, compact_held}
-use Rattle.store_words.specs.Words.{decode_value, encode_value, value_words, long_value}
-use Rattle.store_words.specs.Entries.{room_for_entries}
-use Rattle.store.specs.Views.{value_test}
-use borrow.Author.Rules.{rules}
+use Rattle.lists.specs.Loops.{compact_none, compact_goes, compact_stays, compact_count, compact_held}
 use native.Mathlib.Omega.{arith}
 use Rattle.store.proofs.compact_values.Goals as goal
 

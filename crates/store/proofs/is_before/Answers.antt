@@ -1,7 +1,6 @@
 -- `store::is_before` meets its contract: by action and tag. Assumes nothing.
 use Rattle.lists.specs.Tests.{tests}
 use Rattle.store.specs.Store.{is_before}
-use borrow.Author.Rules.{rules}
 use Rattle.store.proofs.is_before.Goals as goal
 
 pub returns-then-v-action : goal.returns-then-v-action

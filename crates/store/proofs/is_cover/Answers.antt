@@ -1,6 +1,5 @@
 -- `store::is_cover` meets its contract: its own bucket, with a next microstep past the value. Assumes nothing.
 use Rattle.store.proofs.Laws.{covered_yes, covered_no}
-use borrow.Author.Rules.{rules}
 use Rattle.store.proofs.is_cover.Goals as goal
 
 pub returns-then-is_bucket : goal.returns-then-is_bucket

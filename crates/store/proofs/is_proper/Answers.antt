@@ -1,7 +1,6 @@
 -- `store::is_proper` meets its contract: by the limits. Assumes nothing.
 use Rattle.lists.specs.Tests.{tests}
 use Rattle.store.specs.Store.{value_rules}
-use borrow.Author.Rules.{rules}
 use Rattle.store.proofs.is_proper.Goals as goal
 
 pub returns-then-v-actions : goal.returns-then-v-actions

@@ -1,7 +1,6 @@
 -- `store::is_proper_bucket` meets its contract: by the limits. Assumes nothing.
 use Rattle.lists.specs.Tests.{tests}
 use Rattle.store.specs.Store.{bucket_rules}
-use borrow.Author.Rules.{rules}
 use Rattle.store.proofs.is_proper_bucket.Goals as goal
 
 pub returns-then-b-actions : goal.returns-then-b-actions

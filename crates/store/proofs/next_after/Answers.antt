@@ -1,7 +1,6 @@
 -- `store::next_after` meets its contract: one more, or the limit. Assumes nothing.
 use Rattle.lists.specs.Tests.{tests}
 use Rattle.store.specs.Store.{following}
-use borrow.Author.Rules.{rules}
 use Rattle.store.proofs.next_after.Goals as goal
 
 pub returns-then-microstep-lt-MAX_MICROSTEP : goal.returns-then-microstep-lt-MAX_MICROSTEP

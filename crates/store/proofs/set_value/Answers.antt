@@ -1,6 +1,5 @@
 -- `store::set_value` meets its contract: one element changed, or one more, laid over the array. Assumes nothing.
 use Rattle.lists.specs.Loops.{changed_count, changed_held, added_count, added_held}
-use borrow.Author.Rules.{rules}
 use Rattle.store.proofs.set_value.Goals as goal
 
 pub returns-then-i-n : goal.returns-then-i-n

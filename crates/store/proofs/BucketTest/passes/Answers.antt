@@ -1,6 +1,5 @@
 -- `store::BucketTest::passes` meets its contract: a law for each case. Assumes nothing.
 use Rattle.store.proofs.Laws.{bucket_tests}
-use borrow.Author.Rules.{rules}
 use Rattle.store.proofs.BucketTest.passes.Goals as goal
 
 pub returns-in-At : goal.returns-in-At

@@ -1,6 +1,5 @@
 -- `store::ValueTest::passes` meets its contract: a law for each case. Assumes nothing.
 use Rattle.store.proofs.Laws.{value_tests}
-use borrow.Author.Rules.{rules}
 use Rattle.store.proofs.ValueTest.passes.Goals as goal
 
 pub returns-in-At : goal.returns-in-At
