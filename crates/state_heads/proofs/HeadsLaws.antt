@@ -10,7 +10,7 @@ use borrow.Author.Tests.{eq-eqb, ne_eqb}
 use Rattle.lists.specs.Tests.{flag}
 use Rattle.lists.specs.Lists.{foldl, from}
 use Rattle.refusals.specs.declared.Refusal.{Refusal}
-use Rattle.tags.specs.Tags.{Tag, Clock, MappedAnswer, at, earlier, to_global, tag_only, held_in}
+use Rattle.tags.specs.Tags.{Tag, Clock, MappedAnswer, earlier, to_global, tag_only, held_in}
 use Rattle.tags.specs.Views.{of_global, of_queue, mapped_global}
 use Rattle.tags.specs.declared.GlobalTag.{GlobalTag}
 use Rattle.tags.specs.declared.QueueTag.{QueueTag}

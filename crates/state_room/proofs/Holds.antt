@@ -2,7 +2,6 @@
 use Rattle.std.specs.Prelude.{true, ◌≡◌}
 use Rattle.std.proofs.Common.{le_trans}
 use Rattle.table_rows.specs.Bytes.{Image}
-use Rattle.machine.specs.Table.{scopes}
 use Rattle.machine.specs.State.{State}
 use Rattle.machine.specs.Machine.{rules}
 use Rattle.machine_rules_kept.specs.Kept.{rules_tell}

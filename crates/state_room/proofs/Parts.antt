@@ -8,8 +8,7 @@ use Rattle.refusals.specs.declared.Outcome.TheVariants as O
 use Rattle.machine.specs.State.{State}
 use Rattle.table_rows.specs.Bytes.{Image}
 use Rattle.table_rows.specs.Limits.{limits}
-use Rattle.machine.specs.Transition.{Step, held}
-use Rattle.machine.specs.Table.{scopes}
+use Rattle.machine.specs.Transition.{Step}
 use Rattle.state_room.specs.declared.Counts.{Counts}
 use Rattle.state_room.specs.Holds.{Rows, Holds, Steps, After, shows}
 use Rattle.state_room.specs.PartRows.{Shows, waits_queued}

@@ -1,6 +1,5 @@
 -- `state_events::copy_slot` meets its contract: a row is the words of its slot. Assumes nothing.
 use Rattle.state_events.proofs.SlotLaws.{copied}
-use borrow.Author.Rules.{rules}
 use Rattle.state_events.proofs.copy_slot.Goals as goal
 
 pub returns : goal.returns

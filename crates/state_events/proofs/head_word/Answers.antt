@@ -1,6 +1,5 @@
 -- `state_events::head_word` meets its contract. Assumes nothing.
 use Rattle.state_events.specs.Slots.{head_word}
-use borrow.Author.Rules.{rules}
 use Rattle.state_events.proofs.head_word.Goals as goal
 
 pub returns : goal.returns

@@ -1,8 +1,5 @@
 -- `state_events::put_row` meets its contract: so many words are put. Assumes nothing.
-use Prim.Native.Nat.{◌-◌}
-use lib.ListN.{get_or}
-use Rattle.state_events.specs.Slots.{slot_words}
-use Rattle.state_events.proofs.SlotLaws.{Put, put_none, put_more, put_list}
+use Rattle.state_events.proofs.SlotLaws.{put_none, put_more, put_list}
 use borrow.Author.Rules.{rules}
 use Rattle.state_events.proofs.put_row.Goals as goal
 

@@ -2,8 +2,7 @@
 use Prim.Native.Nat.{◌-◌}
 use lib.ListN.{get_or}
 use Rattle.state_events.specs.Slots.{slot_words}
-use Rattle.state_events.proofs.SlotLaws.{Put, put_none, put_more, put_list}
-use borrow.Author.Rules.{rules}
+use Rattle.state_events.proofs.SlotLaws.{Put}
 use Rattle.state_events.proofs.put_row.Given as goal
 
 abbrev pub invariant-loop-j : goal.invariant-loop-j

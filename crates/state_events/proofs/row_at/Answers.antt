@@ -1,10 +1,6 @@
 -- `state_events::row_at` meets its contract: so many words are read. Assumes nothing.
 use mathlib.Core.Path.{refl}
-use Prim.Native.Nat.{◌+◌, ◌-◌}
-use lib.ListN.{get_or}
-use Rattle.state_events.specs.Slots.{slot_words}
-use Rattle.state_events.proofs.SlotLaws.{Put, put_none, fill_more, fill_all}
-use borrow.Author.Rules.{rules}
+use Rattle.state_events.proofs.SlotLaws.{put_none, fill_more, fill_all}
 use Rattle.state_events.proofs.row_at.Goals as goal
 
 pub loop-j-init : goal.loop-j-init

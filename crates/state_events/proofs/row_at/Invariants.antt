@@ -1,10 +1,8 @@
 -- `state_events::row_at` meets its contract: so many words are read. Assumes nothing.
-use mathlib.Core.Path.{refl}
 use Prim.Native.Nat.{◌+◌, ◌-◌}
 use lib.ListN.{get_or}
 use Rattle.state_events.specs.Slots.{slot_words}
-use Rattle.state_events.proofs.SlotLaws.{Put, put_none, fill_more, fill_all}
-use borrow.Author.Rules.{rules}
+use Rattle.state_events.proofs.SlotLaws.{Put}
 use Rattle.state_events.proofs.row_at.Given as goal
 
 abbrev pub invariant-loop-j : goal.invariant-loop-j

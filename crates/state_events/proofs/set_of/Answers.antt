@@ -1,11 +1,7 @@
 -- `state_events::set_of` meets its contract: so many words are read. Assumes nothing.
 use mathlib.Core.Path.{refl}
-use Prim.Native.Nat.{◌+◌, ◌-◌}
-use lib.ListN.{get_or}
-use Rattle.state_events.specs.Slots.{number_words, decode}
-use Rattle.key_set.specs.Sets.{word_count}
-use Rattle.state_events.proofs.SlotLaws.{Put, put_none, fill_more, fill_all}
-use borrow.Author.Rules.{rules}
+use Rattle.state_events.specs.Slots.{decode}
+use Rattle.state_events.proofs.SlotLaws.{put_none, fill_more, fill_all}
 use Rattle.state_events.proofs.set_of.Goals as goal
 
 pub loop-j-init : goal.loop-j-init

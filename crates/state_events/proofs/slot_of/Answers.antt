@@ -1,6 +1,5 @@
 -- `state_events::slot_of` meets its contract. Assumes nothing.
 use Rattle.state_events.specs.Slots.{decode}
-use borrow.Author.Rules.{rules}
 use Rattle.state_events.proofs.slot_of.Goals as goal
 
 pub returns : goal.returns

@@ -1,7 +1,6 @@
 -- `state_events::steps_word` meets its contract. Assumes nothing.
 use mathlib.Core.Path.{refl}
 use Rattle.state_events.specs.Slots.{steps_word}
-use borrow.Author.Rules.{rules}
 use Rattle.state_events.proofs.steps_word.Goals as goal
 
 pub returns : goal.returns

@@ -1,9 +1,5 @@
 -- `state_events::with_set` meets its contract: so many words are put. Assumes nothing.
-use Prim.Native.Nat.{◌-◌}
-use lib.ListN.{get_or}
-use Rattle.state_events.specs.Slots.{number_words}
-use Rattle.key_set.specs.Sets.{word_count}
-use Rattle.state_events.proofs.SlotLaws.{Put, put_none, put_more, put_list}
+use Rattle.state_events.proofs.SlotLaws.{put_none, put_more, put_list}
 use borrow.Author.Rules.{rules}
 use Rattle.state_events.proofs.with_set.Goals as goal
 

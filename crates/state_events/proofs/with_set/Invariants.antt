@@ -3,8 +3,7 @@ use Prim.Native.Nat.{◌-◌}
 use lib.ListN.{get_or}
 use Rattle.state_events.specs.Slots.{number_words}
 use Rattle.key_set.specs.Sets.{word_count}
-use Rattle.state_events.proofs.SlotLaws.{Put, put_none, put_more, put_list}
-use borrow.Author.Rules.{rules}
+use Rattle.state_events.proofs.SlotLaws.{Put}
 use Rattle.state_events.proofs.with_set.Given as goal
 
 abbrev pub invariant-loop-j : goal.invariant-loop-j

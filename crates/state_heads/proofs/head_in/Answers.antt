@@ -5,7 +5,6 @@ use Rattle.tags.specs.Views.{of_queue}
 use Rattle.state_queues.specs.Queue.{leasts_of}
 use Rattle.machine.specs.Heads.{least, scope_head_of}
 use Rattle.state_heads.proofs.HeadsLaws.{in_nothing, in_at}
-use borrow.Author.Rules.{rules}
 use Rattle.state_heads.proofs.head_in.Goals as goal
 
 pub returns-in-Nothing : goal.returns-in-Nothing

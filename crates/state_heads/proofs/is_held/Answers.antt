@@ -1,6 +1,5 @@
 -- `state_heads::is_held` meets its contract. Assumes nothing.
 use Rattle.state_heads.proofs.HeadsLaws.{held_root, held_scope}
-use borrow.Author.Rules.{rules}
 use Rattle.state_heads.proofs.is_held.Goals as goal
 
 pub returns-then-h-eq-NONE : goal.returns-then-h-eq-NONE

@@ -1,6 +1,5 @@
 -- `state_heads::is_sooner` meets its contract. Assumes nothing.
 use Rattle.state_heads.proofs.HeadsLaws.{best_by}
-use borrow.Author.Rules.{rules}
 use Rattle.state_heads.proofs.is_sooner.Goals as goal
 
 pub returns-then-found : goal.returns-then-found

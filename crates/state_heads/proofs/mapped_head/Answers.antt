@@ -1,6 +1,5 @@
 -- `state_heads::mapped_head` meets its contract. Assumes nothing.
 use Rattle.state_heads.proofs.HeadsLaws.{maps}
-use borrow.Author.Rules.{rules}
 use Rattle.state_heads.proofs.mapped_head.Goals as goal
 
 pub returns-in-Tag : goal.returns-in-Tag

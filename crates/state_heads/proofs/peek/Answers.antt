@@ -1,6 +1,5 @@
 -- `state_heads::peek` meets its contract. Assumes nothing.
 use mathlib.Core.Path.{◌∙◌}
-use borrow.Author.Rules.{rules}
 use Rattle.state_heads.proofs.peek.Goals as goal
 
 pub returns : goal.returns

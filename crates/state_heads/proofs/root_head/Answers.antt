@@ -1,6 +1,5 @@
 -- `state_heads::root_head` meets its contract. Assumes nothing.
 use Rattle.state_heads.proofs.HeadsLaws.{root_nothing, root_at}
-use borrow.Author.Rules.{rules}
 use Rattle.state_heads.proofs.root_head.Goals as goal
 
 pub returns-in-Nothing : goal.returns-in-Nothing

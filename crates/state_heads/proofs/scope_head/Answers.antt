@@ -1,8 +1,5 @@
 -- `state_heads::scope_head` meets its contract: the least of the scopes before i, one more a turn. Assumes nothing.
-use Prim.Native.Nat.{◌-◌}
-use Rattle.state_scopes.specs.Scopes.{scopes_of}
-use Rattle.state_queues.specs.Queue.{leasts_of}
-use Rattle.state_heads.proofs.HeadsLaws.{Looked, looked_none, looked_empty, looked_sooner, looked_kept, looked_all}
+use Rattle.state_heads.proofs.HeadsLaws.{looked_none, looked_empty, looked_sooner, looked_kept, looked_all}
 use borrow.Author.Rules.{rules}
 use Rattle.state_heads.proofs.scope_head.Goals as goal
 

@@ -2,8 +2,7 @@
 use Prim.Native.Nat.{◌-◌}
 use Rattle.state_scopes.specs.Scopes.{scopes_of}
 use Rattle.state_queues.specs.Queue.{leasts_of}
-use Rattle.state_heads.proofs.HeadsLaws.{Looked, looked_none, looked_empty, looked_sooner, looked_kept, looked_all}
-use borrow.Author.Rules.{rules}
+use Rattle.state_heads.proofs.HeadsLaws.{Looked}
 use Rattle.state_heads.proofs.scope_head.Given as goal
 
 abbrev pub invariant-loop-i : goal.invariant-loop-i

@@ -1,6 +1,5 @@
 -- `state_heads::scope_head_of` meets its contract. Assumes nothing.
 use Rattle.state_heads.proofs.HeadsLaws.{scope_heads}
-use borrow.Author.Rules.{rules}
 use Rattle.state_heads.proofs.scope_head_of.Goals as goal
 
 pub returns-then-s : goal.returns-then-s

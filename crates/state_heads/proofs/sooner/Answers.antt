@@ -1,6 +1,5 @@
 -- `state_heads::sooner` meets its contract. Assumes nothing.
 use Rattle.state_heads.proofs.HeadsLaws.{sooners}
-use borrow.Author.Rules.{rules}
 use Rattle.state_heads.proofs.sooner.Goals as goal
 
 pub returns-in-Empty-b : goal.returns-in-Empty-b

@@ -1,7 +1,6 @@
 -- `state_queues::accept` meets its contract. Assumes nothing.
 use mathlib.Core.Path.{refl}
 use borrow.Author.Tests.{le-leb, lt-leb}
-use borrow.Author.Rules.{rules}
 use Rattle.state_queues.proofs.accept.Goals as goal
 
 pub returns-then-limit-n : goal.returns-then-limit-n

@@ -1,7 +1,6 @@
 -- `state_queues::clear` meets its contract: one blank more behind those that stay, a turn. Assumes nothing.
-use Prim.Native.Nat.{◌-◌, ◌≤◌}
 use Rattle.state_events.specs.Slots.{event_of}
-use Rattle.state_queues.proofs.TakeLaws.{Blanked, clear_none, clear_one, clear_all}
+use Rattle.state_queues.proofs.TakeLaws.{clear_none, clear_one, clear_all}
 use borrow.Author.Rules.{rules}
 use Rattle.state_queues.proofs.clear.Goals as goal
 

@@ -2,10 +2,7 @@
 use native.Mathlib.Omega.{arith}
 use Rattle.state_events.proofs.SlotLaws.{events_long}
 use Rattle.state_queues.proofs.HeadLaws.{heads_start, heads_step, heads_end, blank_heads}
-use Prim.Native.Nat.{◌≤◌}
-use lib.ListN.{take, drop}
 use Rattle.state_events.specs.Slots.{events_of}
-use Rattle.state_queues.specs.Queue.{Held, heads_of}
 use borrow.Author.Rules.{rules}
 use Rattle.state_queues.proofs.heads.Goals as goal
 

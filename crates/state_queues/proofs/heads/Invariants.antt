@@ -1,12 +1,8 @@
 -- `state_queues::heads` meets its contract: from the last event to the first, one entry is rewritten for each. Assumes nothing.
-use native.Mathlib.Omega.{arith}
-use Rattle.state_events.proofs.SlotLaws.{events_long}
-use Rattle.state_queues.proofs.HeadLaws.{heads_start, heads_step, heads_end, blank_heads}
 use Prim.Native.Nat.{◌≤◌}
 use lib.ListN.{take, drop}
 use Rattle.state_events.specs.Slots.{events_of}
 use Rattle.state_queues.specs.Queue.{Held, heads_of}
-use borrow.Author.Rules.{rules}
 use Rattle.state_queues.proofs.heads.Given as goal
 
 abbrev pub invariant-loop-i : goal.invariant-loop-i

@@ -1,7 +1,6 @@
 -- `state_queues::note` meets its contract: one entry is rewritten, or stays. Assumes nothing.
 use Rattle.state_queues.proofs.HeadLaws.{note_first, note_lesser, note_kept}
 use Rattle.lists.specs.Tests.{flag}
-use borrow.Author.Rules.{rules}
 use Rattle.state_queues.proofs.note.Goals as goal
 
 pub returns-in-Nothing : goal.returns-in-Nothing

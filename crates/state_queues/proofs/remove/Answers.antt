@@ -1,7 +1,6 @@
 -- `state_queues::remove` meets its contract: what stays is laid over the rows. Assumes nothing.
 use Rattle.state_queues.specs.Queue.{goes_of}
 use Rattle.state_queues.proofs.TakeLaws.{remove_room, remove_held}
-use borrow.Author.Rules.{rules}
 use Rattle.state_queues.proofs.remove.Goals as goal
 
 pub clear-requires : goal.clear-requires

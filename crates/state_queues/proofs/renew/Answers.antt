@@ -1,5 +1,4 @@
 -- `state_queues::renew` meets its contract: the entry is one or the other. Assumes nothing.
-use borrow.Author.Rules.{rules}
 use Rattle.state_queues.proofs.renew.Goals as goal
 
 pub returns-in-Nothing : goal.returns-in-Nothing

@@ -1,6 +1,5 @@
 -- `state_queues::stay` meets its contract. Assumes nothing.
 use Rattle.state_queues.proofs.TakeLaws.{stay_same}
-use borrow.Author.Rules.{rules}
 use Rattle.state_queues.proofs.stay.Goals as goal
 
 pub returns-then-to-from : goal.returns-then-to-from

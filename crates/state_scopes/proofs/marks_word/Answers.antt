@@ -1,6 +1,5 @@
 -- `state_scopes::marks_word` meets its contract. Assumes nothing.
 use Rattle.state_scopes.specs.Scopes.{marks_word}
-use borrow.Author.Rules.{rules}
 use Rattle.state_scopes.proofs.marks_word.Goals as goal
 
 pub returns : goal.returns

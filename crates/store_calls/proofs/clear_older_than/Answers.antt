@@ -1,6 +1,5 @@
 -- `store_calls::clear_older_than` meets its contract: the values that stay decide on the bucket. Assumes nothing.
 use Rattle.store_calls.proofs.Calls.{clear_before_done, left_room}
-use borrow.Author.Rules.{rules}
 use Rattle.store_calls.proofs.clear_older_than.Goals as goal
 
 pub find_value-there-requires : goal.find_value-there-requires

@@ -1,6 +1,5 @@
 -- `store_calls::next_microstep` meets its contract: with and without a bucket. Assumes nothing.
 use Rattle.store_calls.proofs.Calls.{no_bucket, this_bucket}
-use borrow.Author.Rules.{rules}
 use Rattle.store_calls.proofs.next_microstep.Goals as goal
 
 pub returns-then-n-j : goal.returns-then-n-j

@@ -1,7 +1,6 @@
 -- `store_calls::push` meets its contract: full, or both are put. Assumes nothing.
 use Rattle.store_calls.proofs.Calls.{push_no_value, push_no_bucket, push_done}
 use native.Mathlib.Omega.{arith}
-use borrow.Author.Rules.{rules}
 use Rattle.store_calls.proofs.push.Goals as goal
 
 pub returns-then-limit-i : goal.returns-then-limit-i

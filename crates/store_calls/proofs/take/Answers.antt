@@ -1,7 +1,6 @@
 -- `store_calls::take` meets its contract: held or not. Assumes nothing.
 use mathlib.Core.Path.{refl}
 use Rattle.store_calls.proofs.Calls.{no_value, this_value, take_none, take_some}
-use borrow.Author.Rules.{rules}
 use Rattle.store_calls.proofs.take.Goals as goal
 
 pub returns-then-n-i : goal.returns-then-n-i

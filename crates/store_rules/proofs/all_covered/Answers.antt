@@ -1,10 +1,5 @@
 -- `store_rules::all_covered` meets its contract: invariant: all have a bucket if those from i on have. Assumes nothing.
-use mathlib.Core.Path.{◌≡◌, refl}
-use Prim.Native.Nat.{◌-◌, ◌≤◌}
-use lib.ListN.{take, drop}
-use Rattle.lists.specs.Lists.{every}
-use Rattle.store_words.specs.Words.{values_of, buckets_of}
-use Rattle.store.specs.Store.{has_bucket}
+use mathlib.Core.Path.{refl}
 use Rattle.store_rules.proofs.Laws.{every_on, every_fails, every_all}
 use borrow.Author.Rules.{rules}
 use Rattle.store_rules.proofs.all_covered.Goals as goal

@@ -1,13 +1,5 @@
 -- `store_rules::buckets_differ` meets its contract: invariant: those from i on differ, and their slots are marked. Assumes nothing.
-use mathlib.Core.Path.{◌≡◌}
-use mathlib.Core.Bool.{true}
-use Prim.Native.Nat.{◌-◌, ◌≤◌}
-use lib.ListN.{length, take, drop}
-use Rattle.lists.specs.Lists.{distinct}
-use Rattle.store_words.specs.Words.{buckets_of}
-use Rattle.store.specs.Store.{same_bucket}
-use Rattle.lists.specs.Marks.{marked, marked_none, marked_one, differ_none, differ_one, differ_not, differ_all}
-use Rattle.store_rules.specs.Rules.{slots, bucket_slot}
+use Rattle.lists.specs.Marks.{marked_none, marked_one, differ_none, differ_one, differ_not, differ_all}
 use borrow.Author.Rules.{rules}
 use Rattle.store_rules.proofs.buckets_differ.Goals as goal
 

@@ -1,7 +1,6 @@
 -- `store_rules::has_bucket` meets its contract: the row that is noted, or some row. Assumes nothing.
 use mathlib.Core.Path.{refl}
 use Rattle.store_rules.proofs.Laws.{found_there, if_noted}
-use borrow.Author.Rules.{rules}
 use Rattle.store_rules.proofs.has_bucket.Goals as goal
 
 pub returns-then-is_noted : goal.returns-then-is_noted

@@ -1,7 +1,6 @@
 -- `store_rules::is_new_value` meets its contract: all later ones are looked at, or none has this slot. Assumes nothing.
 use mathlib.Core.Path.{refl}
 use Rattle.store_rules.proofs.Laws.{value_alone, value_unmarked}
-use borrow.Author.Rules.{rules}
 use Rattle.store_rules.proofs.is_new_value.Goals as goal
 
 pub returns-then-seen-h : goal.returns-then-seen-h

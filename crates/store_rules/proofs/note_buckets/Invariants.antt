@@ -1,6 +1,5 @@
 -- `store_rules::note_buckets` meets its contract: it is safe and ends. Assumes nothing.
 use Prim.Native.Nat.{◌-◌, ◌≤◌}
-use borrow.Author.Rules.{rules}
 use Rattle.store_rules.proofs.note_buckets.Given as goal
 
 abbrev pub invariant-loop-i : goal.invariant-loop-i

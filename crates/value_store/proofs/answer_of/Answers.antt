@@ -1,6 +1,5 @@
 -- `value_store::answer_of` meets its contract: by cases. Assumes nothing.
 use Rattle.value_store.proofs.Laws.{answer_refused}
-use borrow.Author.Rules.{rules}
 use Rattle.value_store.proofs.answer_of.Goals as goal
 
 pub returns-in-Refused : goal.returns-in-Refused

@@ -1,6 +1,5 @@
 -- `value_store::both_within` meets its contract: one after the other. Assumes nothing.
 use Rattle.value_store.proofs.Laws.{within_both, within_first}
-use borrow.Author.Rules.{rules}
 use Rattle.value_store.proofs.both_within.Goals as goal
 
 pub returns-then-within : goal.returns-then-within

@@ -1,14 +1,10 @@
 -- `value_store::bucket_rows` meets its contract: invariant: the first i rows hold the first i buckets. Assumes nothing.
-use mathlib.Core.Path.{◌≡◌, refl}
+use mathlib.Core.Path.{◌≡◌}
 use mathlib.Core.List.{map}
 use Prim.Native.Nat.{◌-◌, ◌≤◌}
 use lib.ListN.{take}
 use Rattle.store_words.specs.Entries.{room_for_entries, of_bucket}
-use Rattle.store_words.specs.Words.{buckets_of, WholeBuckets, zero_buckets}
-use Rattle.lists.specs.Loops.{rows_more, rows_all}
-use Rattle.value_store.proofs.Laws.{length_mapped}
-use borrow.Author.Rules.{rules}
-use native.Mathlib.Omega.{arith}
+use Rattle.store_words.specs.Words.{buckets_of, WholeBuckets}
 use Rattle.value_store.proofs.bucket_rows.Given as goal
 
 abbrev pub invariant-loop-i : goal.invariant-loop-i

@@ -1,6 +1,5 @@
 -- `value_store::call_rows` meets its contract: a law for each refusal, or the call. Assumes nothing.
 use Rattle.value_store.proofs.Laws.{call_key, call_tag, call_passed}
-use borrow.Author.Rules.{rules}
 use Rattle.value_store.proofs.call_rows.Goals as goal
 
 pub returns-then-actions-action : goal.returns-then-actions-action

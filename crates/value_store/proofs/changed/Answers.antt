@@ -1,6 +1,5 @@
 -- `value_store::changed` meets its contract: field by field. Assumes nothing.
 use mathlib.Core.Path.{refl}
-use borrow.Author.Rules.{rules}
 use Rattle.value_store.proofs.changed.Goals as goal
 
 pub returns : goal.returns

@@ -1,7 +1,6 @@
 -- `value_store::is_sound` meets its contract: by cases. Assumes nothing.
 use Rattle.value_store.proofs.Laws.{sound_rules, sound_table}
 use Rattle.store_words.specs.Entries.{held_fits}
-use borrow.Author.Rules.{rules}
 use Rattle.value_store.proofs.is_sound.Goals as goal
 
 pub keeps_rules-requires : goal.keeps_rules-requires

@@ -1,6 +1,5 @@
 -- `value_store::next_answer` meets its contract: by cases. Assumes nothing.
 use Rattle.value_store.proofs.Laws.{answers}
-use borrow.Author.Rules.{rules}
 use Rattle.value_store.proofs.next_answer.Goals as goal
 
 pub returns-in-Microstep : goal.returns-in-Microstep

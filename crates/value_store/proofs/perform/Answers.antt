@@ -1,6 +1,5 @@
 -- `value_store::perform` meets its contract: a law for each call. Assumes nothing.
 use Rattle.value_store.proofs.Laws.{call_push, call_next, call_take, call_clear_before, call_clear, call_move}
-use borrow.Author.Rules.{rules}
 use Rattle.value_store.proofs.perform.Goals as goal
 
 pub returns-in-Push : goal.returns-in-Push

@@ -1,5 +1,4 @@
 -- `value_store::store_of` meets its contract: both arrays. Assumes nothing.
-use borrow.Author.Rules.{rules}
 use Rattle.value_store.proofs.store_of.Goals as goal
 
 pub returns : goal.returns

@@ -1,13 +1,10 @@
 -- `value_store::values_of` meets its contract: invariant: the first i values are those of the rows. Assumes nothing.
-use mathlib.Core.Path.{◌≡◌, refl}
+use mathlib.Core.Path.{◌≡◌}
 use mathlib.Core.List.{map}
 use Prim.Native.Nat.{◌-◌, ◌≤◌}
 use lib.ListN.{take, length}
 use Rattle.store_words.specs.Entries.{room_for_entries, of_value}
 use Rattle.store_words.specs.Words.{values_of}
-use Rattle.lists.specs.Loops.{things_more, things_all}
-use borrow.Author.Rules.{rules}
-use native.Mathlib.Omega.{arith}
 use Rattle.value_store.proofs.values_of.Given as goal
 
 abbrev pub invariant-loop-i : goal.invariant-loop-i

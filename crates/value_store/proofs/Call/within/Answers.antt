@@ -1,6 +1,5 @@
 -- `value_store::Call::within` meets its contract: a law for each case. Assumes nothing.
 use Rattle.value_store.proofs.Laws.{arguments}
-use borrow.Author.Rules.{rules}
 use Rattle.value_store.proofs.Call.within.Goals as goal
 
 pub returns-in-Push : goal.returns-in-Push

@@ -1,6 +1,5 @@
 -- `value_store::Store::new` meets its contract: all blank. Assumes nothing.
 use Rattle.value_store.proofs.Laws.{new_is}
-use borrow.Author.Rules.{rules}
 use Rattle.value_store.proofs.Store.new.Goals as goal
 
 pub returns : goal.returns

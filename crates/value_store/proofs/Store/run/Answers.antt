@@ -1,6 +1,5 @@
 -- `value_store::Store::run` meets its contract: refused, or the call on rows laid over the arrays. Assumes nothing.
 use Rattle.value_store.proofs.Laws.{run_lent, run_eleven, run_called}
-use borrow.Author.Rules.{rules}
 use Rattle.value_store.proofs.Store.run.Goals as goal
 
 pub returns-then-not-is_sound : goal.returns-then-not-is_sound
