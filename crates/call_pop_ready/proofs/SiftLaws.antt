@@ -20,7 +20,6 @@ use Rattle.state_queues.proofs.LowLaws.{lower_yes, lower_no, stays_more, goes_mo
 use Rattle.state_queues.proofs.TakeLaws as T
 use Rattle.call_pop_ready.specs.Gathering.{gathering_of, added_to, Grown, Sifted}
 use Rattle.call_pop_ready.specs.declared.Gathered.{Gathered}
-use Rattle.call_pop_ready.specs.declared.Taken.{Taken}
 use Rattle.call_pop_ready.proofs.GatherLaws.{grown_none, grown_then, Going, going_none, going_yes, going_no, going_room, going_end}
 
 -- the loop has come to event i: w stay, over the front of the rows, k ordinary ones went, what went is gathered, and of queue q's

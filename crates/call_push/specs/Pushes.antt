@@ -14,7 +14,6 @@ use Rattle.state_scopes.specs.Scopes.{Scope, scopes_of, blank}
 use Rattle.state_room.specs.PartRows.{Queued, Waits}
 use Rattle.state_room.specs.Parts.{finished}
 pub use Rattle.state_room.specs.Holds.{reply_of}
-use Rattle.refusals.specs.declared.Outcome.{Outcome}
 use Rattle.call_push.specs.declared.Push.{Push}
 use Rattle.call_push.specs.declared.Push.TheVariants as P
 use Rattle.call_push.specs.declared.Made.{Made}

@@ -7,7 +7,7 @@ use Rattle.table_rows.specs.Rows.{none}
 use Rattle.tags.specs.Tags.{at}
 use Rattle.machine.specs.State.{root}
 use Rattle.machine.specs.Machine.{Call, plain, network, control, action, transit, pop, ok, refusal, nothing, ready, tag, flag, number}
-use Rattle.machine_days.specs.Computed.{day_of, asked_of, scope, clock, value, bucket}
+use Rattle.machine_days.specs.Computed.{day_of, long_day_of, asked_of, scope, clock, value, bucket}
 
 -- Each action key once, in order of taking: the root's in order of acceptance, then scope by scope; pushing puts no value.
 abbrev pub call_actions_once_image : Image

@@ -6,8 +6,8 @@ use Rattle.table_rows.specs.Bytes.{Image}
 use Rattle.table_rows.specs.Rows.{none}
 use Rattle.tags.specs.Tags.{at}
 use Rattle.machine.specs.State.{root}
-use Rattle.machine.specs.Machine.{Call, plain, network, control, action, transit, pop, ok, refusal, ready}
-use Rattle.machine_days.specs.Computed.{long_day_of, scope, clock, value, bucket}
+use Rattle.machine.specs.Machine.{Call, plain, network, control, action, transit, pop, ok, refusal, nothing, ready, tag, flag, number}
+use Rattle.machine_days.specs.Computed.{day_of, long_day_of, asked_of, scope, clock, value, bucket}
 
 -- 256 wait: keys (5), 6 and a mapped tag (7) still come before 8; a pop frees its slots.
 abbrev pub full_events_image : Image

@@ -1,15 +1,11 @@
 -- `call_pop::all_controlled` meets its contract: the first events are controlled, one more a turn. Assumes nothing.
 use Prim.Native.Nat.{◌-◌, ◌≤◌}
-use mathlib.Core.Path.{◌≡◌, refl, sym, ◌∙◌}
+use mathlib.Core.Path.{◌≡◌}
 use lib.ListN.{take, drop}
-use native.Mathlib.Omega.{arith}
-use borrow.Author.Rules.{rules}
 use Rattle.lists.specs.Lists.{every}
 use Rattle.tags.specs.Views.{of_global}
 use Rattle.machine.specs.Heads.{controlled}
-use Rattle.state_events.specs.Slots.{events_of, event_of}
-use Rattle.state_events.proofs.SlotLaws.{events_long}
-use Rattle.call_pop.proofs.PopLaws.{each_pass, each_fail, each_end}
+use Rattle.state_events.specs.Slots.{events_of}
 use Rattle.call_pop.proofs.all_controlled.Given as goal
 
 abbrev pub invariant-loop-i : goal.invariant-loop-i

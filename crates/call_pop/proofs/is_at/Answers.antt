@@ -1,6 +1,5 @@
 -- `call_pop::is_at` meets its contract. Assumes nothing.
 use Rattle.call_pop.proofs.PopLaws.{is_at_lem}
-use borrow.Author.Rules.{rules}
 use Rattle.call_pop.proofs.is_at.Goals as goal
 
 pub returns-in-At : goal.returns-in-At

@@ -1,6 +1,5 @@
 -- `call_pop::is_controlled` meets its contract. Assumes nothing.
 use mathlib.Core.Path.{sym, ◌∙◌}
-use borrow.Author.Rules.{rules}
 use borrow.Author.Tests.{eq-eqb, ne_eqb}
 use Rattle.lists.specs.Tests.{and_no}
 use Rattle.machine.specs.State.{at_head, in_queue}

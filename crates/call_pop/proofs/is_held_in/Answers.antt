@@ -1,6 +1,5 @@
 -- `call_pop::is_held_in` meets its contract. Assumes nothing.
 use mathlib.Core.Path.{◌∙◌}
-use borrow.Author.Rules.{rules}
 use Rattle.call_pop.proofs.is_held_in.Goals as goal
 
 pub returns-then-some : goal.returns-then-some

@@ -1,6 +1,5 @@
 -- `call_pop::peek_of` meets its contract. Assumes nothing.
 use Rattle.call_pop.proofs.PopLaws.{peeks}
-use borrow.Author.Rules.{rules}
 use Rattle.call_pop.proofs.peek_of.Goals as goal
 
 pub returns-in-At-local : goal.returns-in-At-local

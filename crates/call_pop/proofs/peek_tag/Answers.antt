@@ -1,7 +1,6 @@
 -- `call_pop::peek_tag` meets its contract. Assumes nothing.
 use Rattle.machine.specs.Machine.{perform}
 use Rattle.call_pop.proofs.PopLaws.{seen, seen_peek}
-use borrow.Author.Rules.{rules}
 use Rattle.call_pop.proofs.peek_tag.Goals as goal
 
 pub returns : goal.returns

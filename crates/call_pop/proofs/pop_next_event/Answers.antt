@@ -4,7 +4,6 @@ use lib.ListN.{take}
 use Rattle.tags.specs.Views.{of_global}
 use Rattle.state_events.specs.Slots.{events_of}
 use Rattle.call_pop.proofs.PopLaws.{root_head_lem, scope_head_lem, seen_in, start_room, local_still, takes_then, pops_nothing, pops_found}
-use borrow.Author.Rules.{rules}
 use Rattle.call_pop.proofs.pop_next_event.Goals as goal
 
 pub take_head-first-requires : goal.take_head-first-requires

@@ -7,7 +7,6 @@ use Rattle.tags.specs.Views.{of_queue}
 use Rattle.state_scopes.specs.Scopes.{scopes_of}
 use Rattle.state_queues.specs.Queue.{goes_of}
 use Rattle.call_pop.proofs.PopLaws.{went_few, takes_some, heads_left}
-use borrow.Author.Rules.{rules}
 use Rattle.call_pop.proofs.take_at.Goals as goal
 
 pub overflow_sub-left : goal.overflow_sub-left

@@ -1,7 +1,6 @@
 -- `call_pop::take_head` meets its contract. Assumes nothing.
 use mathlib.Core.Path.{sym, ◌∙◌}
 use Rattle.call_pop.proofs.PopLaws.{at_none, at_there, at_other, takes_none}
-use borrow.Author.Rules.{rules}
 use Rattle.call_pop.proofs.take_head.Goals as goal
 
 pub returns-in-Empty : goal.returns-in-Empty

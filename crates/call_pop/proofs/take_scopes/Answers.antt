@@ -4,13 +4,10 @@ use mathlib.Core.Path.{sym, ◌∙◌}
 use borrow.Author.Rules.{rules}
 use lib.ListN.{take}
 use Rattle.tags.specs.Views.{of_global}
-use Rattle.machine.specs.Heads.{take_scopes}
 use Rattle.state_events.specs.Slots.{events_of}
-use Rattle.state_queues.specs.Queue.{Held, heads_of}
 use Rattle.state_scopes.specs.Scopes.{scopes_of}
 use Rattle.state_heads.specs.Found.{head_of}
-use Rattle.call_pop.specs.Pops.{lent}
-use Rattle.call_pop.proofs.PopLaws.{scope_head_lem, Going, going_start, going_next, going_stop, going_end}
+use Rattle.call_pop.proofs.PopLaws.{scope_head_lem, going_start, going_next, going_stop, going_end}
 use Rattle.call_pop.proofs.take_scopes.Goals as goal
 
 pub loop-turns-init : goal.loop-turns-init

@@ -1,7 +1,4 @@
 -- `call_pop::take_scopes` meets its contract: what is left to take makes the whole, one turn less each time. Assumes nothing.
-use native.Mathlib.Omega.{arith}
-use mathlib.Core.Path.{sym, ◌∙◌}
-use borrow.Author.Rules.{rules}
 use lib.ListN.{take}
 use Rattle.tags.specs.Views.{of_global}
 use Rattle.machine.specs.Heads.{take_scopes}
@@ -10,7 +7,7 @@ use Rattle.state_queues.specs.Queue.{Held, heads_of}
 use Rattle.state_scopes.specs.Scopes.{scopes_of}
 use Rattle.state_heads.specs.Found.{head_of}
 use Rattle.call_pop.specs.Pops.{lent}
-use Rattle.call_pop.proofs.PopLaws.{scope_head_lem, Going, going_start, going_next, going_stop, going_end}
+use Rattle.call_pop.proofs.PopLaws.{Going}
 use Rattle.call_pop.proofs.take_scopes.Given as goal
 
 abbrev pub invariant-loop-turns : goal.invariant-loop-turns

@@ -8,7 +8,6 @@ use Rattle.state_events.specs.Slots.{event_of}
 use Rattle.call_pop_ready.specs.Gathering.{gathering_of}
 use Rattle.call_pop_ready.proofs.GatherLaws.{added}
 use native.Mathlib.Omega.{arith}
-use borrow.Author.Rules.{rules}
 use Rattle.call_pop_ready.proofs.add.Goals as goal
 
 pub returns : goal.returns

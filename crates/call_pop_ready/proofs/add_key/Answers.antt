@@ -1,7 +1,6 @@
 -- `call_pop_ready::add_key` meets its contract. Assumes nothing.
 use mathlib.Core.Path.{sym, ◌∙◌}
 use Rattle.call_pop_ready.proofs.GatherLaws.{key_none, key_there, key_new}
-use borrow.Author.Rules.{rules}
 use Rattle.call_pop_ready.proofs.add_key.Goals as goal
 
 pub returns-then-a-eq-NONE : goal.returns-then-a-eq-NONE

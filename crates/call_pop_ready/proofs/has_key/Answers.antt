@@ -1,10 +1,4 @@
 -- `call_pop_ready::has_key` meets its contract. Assumes nothing.
-use Prim.Native.Nat.{◌-◌, ◌≤◌}
-use mathlib.Core.Path.{◌≡◌}
-use mathlib.Core.Bool.{false}
-use lib.ListN.{take}
-use lib.Dec.{eqb}
-use Rattle.lists.specs.Lists.{any}
 use Rattle.call_pop_ready.proofs.GatherLaws.{key_first, key_found, key_next, key_missing}
 use native.Mathlib.Omega.{arith}
 use borrow.Author.Rules.{rules}

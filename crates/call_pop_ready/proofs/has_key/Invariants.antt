@@ -5,9 +5,6 @@ use mathlib.Core.Bool.{false}
 use lib.ListN.{take}
 use lib.Dec.{eqb}
 use Rattle.lists.specs.Lists.{any}
-use Rattle.call_pop_ready.proofs.GatherLaws.{key_first, key_found, key_next, key_missing}
-use native.Mathlib.Omega.{arith}
-use borrow.Author.Rules.{rules}
 use Rattle.call_pop_ready.proofs.has_key.Given as goal
 
 abbrev pub invariant-loop-i : goal.invariant-loop-i

@@ -1,11 +1,7 @@
 -- `call_pop_ready::sift` meets its contract: one event a turn is gathered or stays. Assumes nothing.
 use Prim.Native.Nat.{◌-◌}
-use mathlib.Core.Path.{refl, ap, ◌∙◌}
-use native.Mathlib.Omega.{arith}
-use Rattle.state_events.specs.Slots.{event_of}
-use Rattle.state_queues.specs.Queue.{goes_of, one_if}
-use Rattle.call_pop_ready.proofs.SiftLaws.{Sifting, sifting_none, sifting_room, sifting_keys, sifting_goes, sifting_lower, sifting_stays, sifting_all, sifting_held}
-use borrow.Author.Rules.{rules}
+use Rattle.state_queues.specs.Queue.{goes_of}
+use Rattle.call_pop_ready.proofs.SiftLaws.{Sifting}
 use Rattle.call_pop_ready.proofs.sift.Given as goal
 
 abbrev pub invariant-loop-i : goal.invariant-loop-i

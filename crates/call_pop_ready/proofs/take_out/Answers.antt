@@ -1,7 +1,6 @@
 -- `call_pop_ready::take_out` meets its contract: what stays is laid over the rows. Assumes nothing.
 use Rattle.state_queues.specs.Queue.{goes_of}
 use Rattle.state_queues.proofs.TakeLaws.{remove_room, remove_held}
-use borrow.Author.Rules.{rules}
 use Rattle.call_pop_ready.proofs.take_out.Goals as goal
 
 pub clear-requires : goal.clear-requires

@@ -3,7 +3,6 @@ use Rattle.lists.specs.Tests.{flag_no, flag_yes}
 use Rattle.tags.specs.Views.{of_global}
 use Rattle.state_scopes.specs.Scopes.{scopes_of}
 use Rattle.call_push.proofs.PushLaws.{action_key, action_tag, action_placed_lem}
-use borrow.Author.Rules.{rules}
 use Rattle.std.proofs.lemmas.Bool.{not_from_false, not_from_true}
 use Rattle.call_push.proofs.action_made.Goals as goal
 

@@ -3,7 +3,6 @@ use mathlib.Core.Path.{◌∙◌}
 use Rattle.lists.specs.Lists.{every, foldl}
 use Rattle.machine.specs.Table.{set_of}
 use Rattle.machine.specs.Machine.{keys_ok}
-use borrow.Author.Rules.{rules}
 use Rattle.call_push.proofs.event_of.Goals as goal
 
 pub returns-in-Plain : goal.returns-in-Plain

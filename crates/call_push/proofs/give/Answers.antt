@@ -3,7 +3,6 @@ use mathlib.Core.Path.{◌∙◌}
 use native.Mathlib.Omega.{arith}
 use Rattle.state_events.specs.Slots.{event_of}
 use Rattle.call_push.proofs.PushLaws.{work_small, give_refused, give_full, give_done}
-use borrow.Author.Rules.{rules}
 use Rattle.call_push.proofs.give.Goals as goal
 
 pub tallied-requires : goal.tallied-requires

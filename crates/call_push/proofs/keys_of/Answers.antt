@@ -1,11 +1,9 @@
 -- `call_push::keys_of` meets its contract. Assumes nothing.
-use Prim.Native.Nat.{◌-◌}
 use mathlib.Core.Path.{◌∙◌}
 use native.Mathlib.Omega.{arith}
-use lib.ListN.{length}
 use borrow.Author.Rules.{rules}
 use Rattle.machine.specs.Machine.{keys_ok}
-use Rattle.call_push.proofs.PushLaws.{Keying, keying_start, keying_next, keying_known, keying_set}
+use Rattle.call_push.proofs.PushLaws.{keying_start, keying_next, keying_known, keying_set}
 use Rattle.call_push.proofs.keys_of.Goals as goal
 
 pub loop-i-init : goal.loop-i-init

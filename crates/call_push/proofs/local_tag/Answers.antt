@@ -3,7 +3,6 @@ use mathlib.Core.Path.{sym, ◌∙◌}
 use Rattle.tags.specs.Views.{of_global}
 use Rattle.state_scopes.specs.Scopes.{scopes_of, scope_of}
 use Rattle.call_push.proofs.PushLaws.{local_over, local_idle, local_maps, local_image}
-use borrow.Author.Rules.{rules}
 use Rattle.call_push.proofs.local_tag.Goals as goal
 
 pub returns-then-maps : goal.returns-then-maps

@@ -1,6 +1,5 @@
 -- `call_push::maps` meets its contract. Assumes nothing.
 use Rattle.call_push.proofs.PushLaws.{mapped}
-use borrow.Author.Rules.{rules}
 use Rattle.call_push.proofs.maps.Goals as goal
 
 pub returns-in-Tag : goal.returns-in-Tag

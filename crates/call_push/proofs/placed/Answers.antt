@@ -3,7 +3,6 @@ use mathlib.Core.Path.{sym, ap, ◌∙◌}
 use Rattle.tags.specs.Views.{of_global, mapped_local}
 use Rattle.state_scopes.specs.Scopes.{scopes_of}
 use Rattle.call_push.proofs.PushLaws.{placed_root, placed_there, placed_refused}
-use borrow.Author.Rules.{rules}
 use Rattle.call_push.proofs.placed.Goals as goal
 
 pub returns-then-to_root : goal.returns-then-to_root

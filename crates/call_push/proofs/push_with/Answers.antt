@@ -2,7 +2,6 @@
 use Rattle.call_push.specs.Pushes.{made_of}
 use Rattle.call_push.proofs.PushLaws.{performs_made}
 use Rattle.call_push.proofs.HeadLaws.{push_more, heads_still}
-use borrow.Author.Rules.{rules}
 use Rattle.call_push.proofs.push_with.Goals as goal
 
 pub grow-requires : goal.grow-requires

@@ -2,7 +2,6 @@
 use borrow.Author.Tests.{not-true, not-false}
 use Rattle.lists.specs.Tests.{flag_no, flag_yes}
 use Rattle.call_push.proofs.PushLaws.{root_key, root_tag, root_done}
-use borrow.Author.Rules.{rules}
 use Rattle.std.proofs.lemmas.Bool.{not_from_false, not_from_true}
 use Rattle.call_push.proofs.root_made.Goals as goal
 

@@ -1,5 +1,4 @@
 -- `call_push::tallied` meets its contract. Assumes nothing.
-use borrow.Author.Rules.{rules}
 use Rattle.call_push.proofs.tallied.Goals as goal
 
 pub returns-then-ordinary : goal.returns-then-ordinary

@@ -3,7 +3,6 @@ use mathlib.Core.Path.{sym, ap, ◌∙◌}
 use mathlib.Core.Bool.{not}
 use Rattle.lists.specs.Tests.{flag_no, flag_yes}
 use Rattle.call_push.proofs.PushLaws.{root_physical, root_top, root_plain}
-use borrow.Author.Rules.{rules}
 use Rattle.std.proofs.lemmas.Bool.{not_from_false, not_from_true}
 use Rattle.call_push.proofs.to_root.Goals as goal
 

@@ -1,11 +1,5 @@
 -- `call_transition_plan::active_scopes` meets its contract: the scopes before i are marked. Assumes nothing.
 use Rattle.state_room.specs.Holds.{most_scopes_lem}
-use Prim.Native.Nat.{◌-◌, ◌≤◌}
-use mathlib.Core.Path.{◌≡◌}
-use Rattle.table_schedule.specs.Schedule.{is_active}
-use Rattle.state_scopes.specs.Scopes.{most_scopes}
-use Rattle.machine.specs.Table.{scopes}
-use Rattle.call_transition_plan.specs.Plans.{Marks}
 use Rattle.call_transition_plan.proofs.PlanLaws.{marks_none, marks_more, marks_all}
 use borrow.Author.Rules.{rules}
 use Rattle.call_transition_plan.proofs.active_scopes.Goals as goal

@@ -1,6 +1,5 @@
 -- `call_transition_plan::mode_after` meets its contract. Assumes nothing.
 use Rattle.call_transition_plan.proofs.PlanLaws.{mode_cases}
-use borrow.Author.Rules.{rules}
 use Rattle.call_transition_plan.proofs.mode_after.Goals as goal
 
 pub returns-then-reactor-request : goal.returns-then-reactor-request

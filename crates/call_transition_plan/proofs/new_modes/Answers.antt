@@ -1,11 +1,5 @@
 -- `call_transition_plan::new_modes` meets its contract: the modes of the reactors before i stand. Assumes nothing.
-use Prim.Native.Nat.{◌-◌, ◌≤◌}
 use mathlib.Core.Path.{◌≡◌}
-use mathlib.Core.List.{map}
-use Rattle.lists.specs.Lists.{from}
-use Rattle.state_room.specs.Padded.{padded}
-use Rattle.call_transition_plan.specs.Plans.{mode_after}
-use Rattle.state_room.specs.PartRows.{most_reactors}
 use Rattle.call_transition_plan.proofs.PlanLaws.{filled_none, filled_more}
 use borrow.Author.Rules.{rules}
 use Rattle.call_transition_plan.proofs.new_modes.Goals as goal

@@ -6,8 +6,6 @@ use Rattle.lists.specs.Lists.{from}
 use Rattle.state_room.specs.Padded.{padded}
 use Rattle.call_transition_plan.specs.Plans.{mode_after}
 use Rattle.state_room.specs.PartRows.{most_reactors}
-use Rattle.call_transition_plan.proofs.PlanLaws.{filled_none, filled_more}
-use borrow.Author.Rules.{rules}
 use Rattle.call_transition_plan.proofs.new_modes.Given as goal
 
 abbrev pub invariant-loop-i : goal.invariant-loop-i

@@ -1,6 +1,5 @@
 -- `call_transition_plan::subtree_if` meets its contract. Assumes nothing.
 use Rattle.call_transition_plan.proofs.PlanLaws.{marks_never}
-use borrow.Author.Rules.{rules}
 use Rattle.call_transition_plan.proofs.subtree_if.Goals as goal
 
 pub returns-then-reset : goal.returns-then-reset

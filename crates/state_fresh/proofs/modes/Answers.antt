@@ -1,13 +1,7 @@
 -- `state_fresh::modes` meets its contract: the modes of the reactors before i stand. Assumes nothing.
-use Prim.Native.Nat.{◌-◌, ◌≤◌}
 use mathlib.Core.Path.{◌≡◌}
-use mathlib.Core.List.{map}
-use Rattle.lists.specs.Lists.{from}
-use Rattle.table_rows.specs.Rows.{initial_mode}
 use Rattle.machine.specs.Table.{reactors}
-use Rattle.state_room.specs.Padded.{padded}
 use Rattle.state_room.specs.Holds.{most_reactors_lem}
-use Rattle.state_room.specs.PartRows.{most_reactors}
 use Rattle.state_fresh.proofs.FreshLaws.{modes_none, modes_more}
 use borrow.Author.Rules.{rules}
 use Rattle.state_fresh.proofs.modes.Goals as goal

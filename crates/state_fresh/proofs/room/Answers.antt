@@ -2,7 +2,6 @@
 use mathlib.Core.Path.{sym}
 use lib.Seq.{length-take-le}
 use Rattle.state_fresh.specs.Fresh.{modes_room, modes_taken, fresh_holds}
-use borrow.Author.Rules.{rules}
 use Rattle.state_fresh.proofs.room.Goals as goal
 
 pub slice_bounds-first-end : goal.slice_bounds-first-end

@@ -1,4 +1,3 @@
-use borrow.Author.Rules.{rules}
 use Rattle.state_fresh.proofs.scope.Goals as goal
 
 pub returns : goal.returns

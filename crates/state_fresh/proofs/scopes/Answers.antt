@@ -1,12 +1,7 @@
 -- `state_fresh::scopes` meets its contract: the scopes before i stand. Assumes nothing.
 use mathlib.Core.Path.{ap, ◌∙◌}
-use Prim.Native.Nat.{◌-◌, ◌≤◌}
 use mathlib.Core.Path.{◌≡◌}
-use mathlib.Core.List.{map}
-use Rattle.lists.specs.Lists.{from}
-use Rattle.table_schedule.specs.Schedule.{is_active}
 use Rattle.machine.specs.Table.{scopes}
-use Rattle.state_room.specs.PartRows.{Scoped}
 use Rattle.machine.specs.State.{fresh_scope}
 use Rattle.state_fresh.proofs.FreshLaws.{scopes_none, scopes_more}
 use borrow.Author.Rules.{rules}

@@ -1,6 +1,5 @@
 -- `call_pop_ready::Gathered::hold` meets its contract. Assumes nothing.
 use Rattle.call_pop_ready.proofs.GatherLaws.{held_too_lem}
-use borrow.Author.Rules.{rules}
 use Rattle.call_pop_ready.proofs.Gathered.hold.Goals as goal
 
 pub returns : goal.returns

@@ -1,5 +1,4 @@
 -- `call_pop_ready::Gathered::nothing_yet` meets its contract. Assumes nothing.
-use borrow.Author.Rules.{rules}
 use Rattle.call_pop_ready.proofs.Gathered.nothing_yet.Goals as goal
 
 pub returns : goal.returns
