@@ -1,7 +1,6 @@
 -- `call_transition_resets::clear_actions` meets its contract: what stays, then blanks, of values and of buckets. Assumes nothing.
 use Rattle.lists.specs.Loops.{lose_room}
 use Rattle.call_transition_resets.proofs.ResetLaws.{values_few, buckets_few, all_cleared}
-use borrow.Author.Rules.{rules}
 use Rattle.call_transition_resets.proofs.clear_actions.Goals as goal
 
 pub blank_values-requires : goal.blank_values-requires

@@ -2,7 +2,6 @@
 use Rattle.key_set.specs.Sets.{has}
 use Rattle.state_queues.specs.Queue.{goes_of}
 use Rattle.call_transition_resets.proofs.ResetLaws.{gone_fits, gone_waits, gone_step}
-use borrow.Author.Rules.{rules}
 use Rattle.call_transition_resets.proofs.drop_events.Goals as goal
 
 pub overflow_sub-work : goal.overflow_sub-work

@@ -2,7 +2,6 @@
 use Rattle.lists.specs.Steps.{and_pass, and_stop}
 use Rattle.call_transition_plan.proofs.PlanLaws.{row_has}
 use Rattle.call_transition_resets.proofs.ResetLaws.{clears_in, clears_past}
-use borrow.Author.Rules.{rules}
 use Rattle.call_transition_resets.proofs.is_cleared.Goals as goal
 
 pub returns-then-contains : goal.returns-then-contains

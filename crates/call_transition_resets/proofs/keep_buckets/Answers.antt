@@ -1,11 +1,6 @@
 -- `call_transition_resets::keep_buckets` meets its contract: invariant: those of the first i that stay lie over the front. Assumes nothing.
-use Prim.Native.Nat.{◌-◌, ◌≤◌}
 use native.Mathlib.Omega.{arith}
-use Rattle.lists.specs.Loops.{Compacted, compact_none, compact_goes, compact_stays, compact_count, compact_held}
-use Rattle.store_words.specs.Words.{decode_bucket, encode_bucket, bucket_words, long_bucket}
-use Rattle.store_words.specs.Entries.{room_for_entries}
-use Rattle.call_transition_resets.specs.Resetting.{clears_bucket}
-use borrow.Author.Rules.{rules}
+use Rattle.lists.specs.Loops.{compact_none, compact_goes, compact_stays, compact_count, compact_held}
 use Rattle.call_transition_resets.proofs.keep_buckets.Goals as goal
 
 pub loop-i-init : goal.loop-i-init

@@ -1,11 +1,9 @@
 -- `call_transition_resets::keep_buckets` meets its contract: invariant: those of the first i that stay lie over the front. Assumes nothing.
 use Prim.Native.Nat.{◌-◌, ◌≤◌}
-use native.Mathlib.Omega.{arith}
-use Rattle.lists.specs.Loops.{Compacted, compact_none, compact_goes, compact_stays, compact_count, compact_held}
+use Rattle.lists.specs.Loops.{Compacted}
 use Rattle.store_words.specs.Words.{decode_bucket, encode_bucket, bucket_words, long_bucket}
 use Rattle.store_words.specs.Entries.{room_for_entries}
 use Rattle.call_transition_resets.specs.Resetting.{clears_bucket}
-use borrow.Author.Rules.{rules}
 use Rattle.call_transition_resets.proofs.keep_buckets.Given as goal
 
 abbrev pub invariant-loop-i : goal.invariant-loop-i

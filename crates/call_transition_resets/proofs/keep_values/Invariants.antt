@@ -1,11 +1,9 @@
 -- `call_transition_resets::keep_values` meets its contract: invariant: those of the first i that stay lie over the front. Assumes nothing.
 use Prim.Native.Nat.{◌-◌, ◌≤◌}
-use native.Mathlib.Omega.{arith}
-use Rattle.lists.specs.Loops.{Compacted, compact_none, compact_goes, compact_stays, compact_count, compact_held}
+use Rattle.lists.specs.Loops.{Compacted}
 use Rattle.store_words.specs.Words.{decode_value, encode_value, value_words, long_value}
 use Rattle.store_words.specs.Entries.{room_for_entries}
 use Rattle.call_transition_resets.specs.Resetting.{clears_value}
-use borrow.Author.Rules.{rules}
 use Rattle.call_transition_resets.proofs.keep_values.Given as goal
 
 abbrev pub invariant-loop-i : goal.invariant-loop-i

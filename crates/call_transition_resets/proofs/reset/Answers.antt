@@ -8,7 +8,6 @@ use Rattle.key_set.proofs.Laws.{told_nothing, none_from}
 use Rattle.call_transition_plan.specs.Plans.{plan_in}
 use Rattle.state_room.proofs.Parts.{holds_good}
 use Rattle.call_transition_resets.proofs.ResetLaws.{holds_front, none_cleared, holds_cleared}
-use borrow.Author.Rules.{rules}
 use Rattle.call_transition_resets.proofs.reset.Goals as goal
 
 pub drop_events-counts-requires : goal.drop_events-counts-requires

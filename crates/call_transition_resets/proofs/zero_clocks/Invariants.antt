@@ -1,13 +1,11 @@
 -- `call_transition_resets::zero_clocks` meets its contract: the scopes before i are done. Assumes nothing.
-use Rattle.state_room.specs.Holds.{most_scopes_lem}
 use Prim.Native.Nat.{◌-◌, ◌≤◌}
 use mathlib.Core.Path.{◌≡◌}
 use lib.ListN.{take}
 use Rattle.machine.specs.Table.{scopes as scopes_in}
 use Rattle.state_scopes.specs.Scopes.{scopes_of}
 use Rattle.state_room.specs.PartRows.{Scoped}
-use Rattle.call_transition_resets.proofs.ResetLaws.{partly_all, taken_long, sofar_start, sofar_more, sofar_end}
-use borrow.Author.Rules.{rules}
+use Rattle.call_transition_resets.proofs.ResetLaws.{partly_all}
 use Rattle.call_transition_resets.proofs.zero_clocks.Given as goal
 
 abbrev pub invariant-loop-i : goal.invariant-loop-i

@@ -1,7 +1,6 @@
 -- `call_transition_resets::zero_if` meets its contract. Assumes nothing.
 use Rattle.lists.specs.Tests.{flag_no, flag_yes}
 use Rattle.call_transition_resets.proofs.ResetLaws.{zero_skip, zero_put}
-use borrow.Author.Rules.{rules}
 use Rattle.std.proofs.lemmas.Bool.{not_from_false, not_from_true}
 use Rattle.call_transition_resets.proofs.zero_if.Goals as goal
 
