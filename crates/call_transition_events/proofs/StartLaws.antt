@@ -21,7 +21,7 @@ use Rattle.table_rows.specs.Bytes.{Image}
 use Rattle.table_rows.specs.Limits.{limits}
 use Rattle.table_rows.specs.Kinds as K
 use Rattle.table_rows.specs.Kinds.{count}
-use Rattle.table_rows.specs.Rows.{none, startup_scope, startup_action, reset_scope, timer_action}
+use Rattle.table_rows.specs.Rows.{startup_scope, startup_action, reset_scope, timer_action}
 use Rattle.table.specs.Check.{is_table}
 use Rattle.table.specs.Rules.{timer_tag}
 use Rattle.table.proofs.TableLaws.{startup_scope_lem, reset_scope_lem, timer_action_lem, action_scope_lem}

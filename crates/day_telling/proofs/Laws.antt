@@ -10,7 +10,7 @@ use lib.ListN.{length, get_or, take, drop, drop_of_length-le}
 use lib.Seq.{drop-cons, take_all}
 use borrow.Author.Tests.{eq-eqb, ne_eqb, lt-ltb, le-ltb}
 use Rattle.lists.specs.Tests.{bit_of}
-use Rattle.tags.specs.Tags.{Tag, Answer, MappedAnswer, at, to_local, to_global, tag_only, held_in}
+use Rattle.tags.specs.Tags.{Tag, Answer, MappedAnswer, to_local, to_global, tag_only, held_in}
 use Rattle.machine.specs.State.{root}
 use Rattle.state_scopes.specs.Scopes.{Scope, blank}
 use Rattle.table_rows.specs.Kinds.{reaction}

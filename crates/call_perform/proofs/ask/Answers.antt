@@ -2,7 +2,6 @@
 use mathlib.Core.Path.{◌∙◌, ap}
 use Rattle.machine.specs.Machine.{perform, number}
 use Rattle.call_pop.proofs.PopLaws.{queue_is}
-use borrow.Author.Rules.{rules}
 use Rattle.call_perform.proofs.ask.Goals as goal
 
 pub returns-in-PeekTag : goal.returns-in-PeekTag

@@ -1,5 +1,4 @@
 -- `call_perform::outcome_answer` meets its contract: by cases. Assumes nothing.
-use borrow.Author.Rules.{rules}
 use Rattle.call_perform.proofs.outcome_answer.Goals as goal
 
 pub returns-in-Refused : goal.returns-in-Refused

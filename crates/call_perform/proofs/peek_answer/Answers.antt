@@ -1,5 +1,4 @@
 -- `call_perform::peek_answer` meets its contract: by cases. Assumes nothing.
-use borrow.Author.Rules.{rules}
 use Rattle.call_perform.proofs.peek_answer.Goals as goal
 
 pub returns-in-At : goal.returns-in-At

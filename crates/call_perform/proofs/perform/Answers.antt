@@ -4,7 +4,6 @@ use Rattle.value_store.specs.Views.{call_of}
 use Rattle.state_room.proofs.Holds.{kept_waits, kept_rules}
 use Rattle.call_perform.proofs.CallLaws.{pop_tells, idle_grown, answers_as, push_answers, pop_answers, ask_answers}
 use Rattle.call_perform.proofs.ValueLaws.{value_answers}
-use borrow.Author.Rules.{rules}
 use Rattle.call_perform.proofs.perform.Goals as goal
 
 pub push_with-p-requires : goal.push_with-p-requires

@@ -1,7 +1,6 @@
 -- `call_perform::scope_answer` meets its contract: 5, or the mark. Assumes nothing.
 use mathlib.Core.Bool.{true, false}
 use Rattle.call_perform.proofs.CallLaws.{mark_key, mark_is}
-use borrow.Author.Rules.{rules}
 use Rattle.call_perform.proofs.scope_answer.Goals as goal
 
 pub returns-then-n-i : goal.returns-then-n-i

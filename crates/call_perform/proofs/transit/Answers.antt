@@ -1,6 +1,5 @@
 -- `call_perform::transit` meets its contract: the transition's answer, and the least tags anew. Assumes nothing.
 use Rattle.call_perform.proofs.CallLaws.{few_after, answers_as}
-use borrow.Author.Rules.{rules}
 use Rattle.call_perform.proofs.transit.Goals as goal
 
 pub heads-requires : goal.heads-requires

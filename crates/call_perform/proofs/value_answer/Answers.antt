@@ -1,5 +1,4 @@
 -- `call_perform::value_answer` meets its contract: by cases. Assumes nothing.
-use borrow.Author.Rules.{rules}
 use Rattle.call_perform.proofs.value_answer.Goals as goal
 
 pub returns-in-Number : goal.returns-in-Number

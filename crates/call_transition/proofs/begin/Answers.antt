@@ -1,7 +1,6 @@
 -- `call_transition::begin` meets its contract: one step, and where it was done the other. Assumes nothing.
 use Rattle.state_room.specs.Holds.{steps_held, steps_then, steps_end}
 use Rattle.call_transition_events.specs.Starting.{startups_on, restarts_on}
-use borrow.Author.Rules.{rules}
 use Rattle.call_transition.proofs.begin.Goals as goal
 
 pub restarts-requires : goal.restarts-requires

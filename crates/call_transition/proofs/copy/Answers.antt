@@ -1,9 +1,7 @@
 -- `call_transition::copy` meets its contract: one word more a turn. Assumes nothing.
-use mathlib.Core.Path.{◌≡◌}
-use Prim.Native.Nat.{◌-◌, ◌≤◌}
 use native.Mathlib.Omega.{arith}
 use lib.ListN.{drop}
-use lib.Seq.{paste, paste-zero}
+use lib.Seq.{paste-zero}
 use borrow.Author.Rules.{rules}
 use Rattle.call_transition.proofs.SavingLaws.{copied_long, copied_next, copied_all}
 use Rattle.call_transition.proofs.copy.Goals as goal

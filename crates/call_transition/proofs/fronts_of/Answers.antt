@@ -1,6 +1,5 @@
 -- `call_transition::fronts_of` meets its contract. Assumes nothing.
 use Rattle.call_transition.proofs.SavingLaws.{fronts_fit}
-use borrow.Author.Rules.{rules}
 use Rattle.call_transition.proofs.fronts_of.Goals as goal
 
 pub returns : goal.returns

@@ -1,6 +1,5 @@
 -- `call_transition::is_known` meets its contract. Assumes nothing.
 use Rattle.call_transition.proofs.TransitLaws.{known_yes, known_no}
-use borrow.Author.Rules.{rules}
 use Rattle.call_transition.proofs.is_known.Goals as goal
 
 pub returns-then-request-reactors : goal.returns-then-request-reactors

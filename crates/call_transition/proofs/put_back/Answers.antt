@@ -1,6 +1,5 @@
 -- `call_transition::put_back` meets its contract: each part, and zeros behind it. Assumes nothing.
 use Rattle.call_transition.proofs.SavingLaws.{all_back}
-use borrow.Author.Rules.{rules}
 use Rattle.call_transition.proofs.put_back.Goals as goal
 
 pub returns : goal.returns

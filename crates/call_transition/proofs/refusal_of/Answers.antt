@@ -1,8 +1,5 @@
 -- `call_transition::refusal_of` meets its contract. Assumes nothing.
-use borrow.Author.Tests.{not-true, not-false}
 use Rattle.call_transition.proofs.TransitLaws.{refused_key, refused_target, refused_tag, refused_none}
-use borrow.Author.Rules.{rules}
-use Rattle.std.proofs.lemmas.Bool.{not_from_false, not_from_true}
 use Rattle.call_transition.proofs.refusal_of.Goals as goal
 
 pub returns-then-not-is_known : goal.returns-then-not-is_known

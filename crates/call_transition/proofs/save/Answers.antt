@@ -1,6 +1,5 @@
 -- `call_transition::save` meets its contract: each part behind the one before. Assumes nothing.
 use Rattle.call_transition.proofs.SavingLaws.{rows_few, saved_is}
-use borrow.Author.Rules.{rules}
 use Rattle.call_transition.proofs.save.Goals as goal
 
 pub fronts_of-f-requires : goal.fronts_of-f-requires

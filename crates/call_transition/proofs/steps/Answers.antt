@@ -1,6 +1,5 @@
 -- `call_transition::steps` meets its contract: step 1, then the others. Assumes nothing.
 use Rattle.call_transition.proofs.TransitLaws.{reset_held, reset_steps}
-use borrow.Author.Rules.{rules}
 use Rattle.call_transition.proofs.steps.Goals as goal
 
 pub turns_on-requires : goal.turns_on-requires

@@ -3,7 +3,6 @@ use Rattle.state_room.specs.Holds.{steps_held, steps_then, steps_end}
 use Rattle.call_transition_scopes.specs.Turns.{all_turns}
 use Rattle.call_transition.specs.Transiting.{starts_on}
 use Rattle.call_transition.proofs.TransitLaws.{turns_steps}
-use borrow.Author.Rules.{rules}
 use Rattle.call_transition.proofs.turns_on.Goals as goal
 
 pub firsts-first-requires : goal.firsts-first-requires

@@ -1,6 +1,5 @@
 -- `call_transition_events::accept` meets its contract. Assumes nothing.
 use Rattle.call_transition_events.proofs.StartLaws.{work_fits, accept_count, accept_refused}
-use borrow.Author.Rules.{rules}
 use Rattle.call_transition_events.proofs.accept.Goals as goal
 
 pub more_work-work-requires : goal.more_work-work-requires

@@ -2,7 +2,6 @@
 use mathlib.Core.Path.{refl}
 use Rattle.call_transition_plan.proofs.PlanLaws.{row_has}
 use Rattle.call_transition_events.proofs.StartLaws.{event_made, event_none}
-use borrow.Author.Rules.{rules}
 use Rattle.call_transition_events.proofs.accept_startup.Goals as goal
 
 pub returns-then-contains : goal.returns-then-contains

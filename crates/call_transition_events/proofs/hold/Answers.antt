@@ -1,7 +1,6 @@
 -- `call_transition_events::hold` meets its contract. Assumes nothing.
 use Rattle.state_room.specs.Holds.{lent}
 use Rattle.call_transition_events.proofs.StartLaws.{hold_steps}
-use borrow.Author.Rules.{rules}
 use Rattle.call_transition_events.proofs.hold.Goals as goal
 
 pub push-p-requires : goal.push-p-requires

@@ -1,7 +1,6 @@
 -- `call_transition_events::hold_startup` meets its contract. Assumes nothing.
 use Rattle.call_transition_plan.proofs.PlanLaws.{row_has}
 use Rattle.call_transition_events.proofs.StartLaws.{value_held, value_none}
-use borrow.Author.Rules.{rules}
 use Rattle.call_transition_events.proofs.hold_startup.Goals as goal
 
 pub returns-then-contains : goal.returns-then-contains

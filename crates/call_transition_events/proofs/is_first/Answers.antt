@@ -1,5 +1,4 @@
 -- `call_transition_events::is_first` meets its contract. Assumes nothing.
-use borrow.Author.Rules.{rules}
 use Rattle.call_transition_events.proofs.is_first.Goals as goal
 
 pub returns-then-contains : goal.returns-then-contains

@@ -1,5 +1,4 @@
 -- `call_transition_events::more_work` meets its contract. Assumes nothing.
-use borrow.Author.Rules.{rules}
 use Rattle.call_transition_events.proofs.more_work.Goals as goal
 
 pub returns-then-is_ordinary : goal.returns-then-is_ordinary

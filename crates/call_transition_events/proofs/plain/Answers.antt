@@ -1,5 +1,4 @@
 -- `call_transition_events::plain` meets its contract. Assumes nothing.
-use borrow.Author.Rules.{rules}
 use Rattle.call_transition_events.proofs.plain.Goals as goal
 
 pub returns : goal.returns

@@ -5,7 +5,6 @@ use Rattle.state_events.specs.Slots.{event_of}
 use Rattle.machine.specs.State.{accepted}
 use Rattle.machine.specs.Transition.{held}
 use Rattle.call_transition_events.specs.Starting.{put_step}
-use borrow.Author.Rules.{rules}
 use Rattle.call_transition_events.proofs.put.Goals as goal
 
 pub accept-requires : goal.accept-requires

@@ -1,7 +1,6 @@
 -- `call_transition_events::reset_reactions` meets its contract. Assumes nothing.
 use Rattle.lists.specs.Tests.{flag_no, flag_yes}
 use Rattle.call_transition_events.proofs.StartLaws.{resets_none, resets_made, resets_refused}
-use borrow.Author.Rules.{rules}
 use Rattle.std.proofs.lemmas.Bool.{not_from_false, not_from_true}
 use Rattle.call_transition_events.proofs.reset_reactions.Goals as goal
 

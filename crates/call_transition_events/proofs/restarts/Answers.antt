@@ -3,7 +3,6 @@ use Rattle.state_room.specs.Holds.{steps_held, steps_then, steps_end}
 use Rattle.machine.specs.Transition.{step5}
 use Rattle.call_transition_events.specs.Starting.{timers_on, resets_on}
 use Rattle.call_transition_events.proofs.StartLaws.{timers_are}
-use borrow.Author.Rules.{rules}
 use Rattle.call_transition_events.proofs.restarts.Goals as goal
 
 pub reset_reactions-requires : goal.reset_reactions-requires

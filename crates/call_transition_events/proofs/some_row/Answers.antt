@@ -1,14 +1,11 @@
 -- `call_transition_events::some_row` meets its contract: what is left of the rows decides. Assumes nothing.
-use Prim.Native.Nat.{◌-◌}
-use mathlib.Core.Path.{◌≡◌, sym, ◌∙◌}
+use mathlib.Core.Path.{sym, ◌∙◌}
 use native.Mathlib.Nat.{sub-zero}
-use Rattle.lists.specs.Lists.{any, from}
 use Rattle.lists.specs.Steps.{any_next, any_found, any_none}
 use Rattle.lists.specs.Marks.{any_no}
 use Rattle.key_set.proofs.Laws.{empty_has}
 use Rattle.call_transition_plan.proofs.PlanLaws.{row_has}
-use Rattle.call_transition_events.specs.Starting.{row_in, some_row}
-use borrow.Author.Rules.{rules}
+use Rattle.call_transition_events.specs.Starting.{row_in}
 use Rattle.call_transition_events.proofs.some_row.Goals as goal
 
 pub loop-j-init : goal.loop-j-init

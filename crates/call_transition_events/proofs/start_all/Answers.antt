@@ -2,7 +2,6 @@
 use Rattle.state_room.specs.Holds.{steps_held, steps_then, steps_end}
 use Rattle.call_transition_events.specs.declared.What.TheVariants as W
 use Rattle.call_transition_events.specs.Starting.{all_rows}
-use borrow.Author.Rules.{rules}
 use Rattle.call_transition_events.proofs.start_all.Goals as goal
 
 pub take_rows-requires : goal.take_rows-requires

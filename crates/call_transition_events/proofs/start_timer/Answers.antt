@@ -3,7 +3,6 @@ use mathlib.Core.Path.{refl}
 use Rattle.lists.specs.Tests.{flag_no, flag_yes}
 use Rattle.call_transition_plan.proofs.PlanLaws.{row_has}
 use Rattle.call_transition_events.proofs.StartLaws.{timer_none, timer_put, timer_refused}
-use borrow.Author.Rules.{rules}
 use Rattle.std.proofs.lemmas.Bool.{not_from_false, not_from_true}
 use Rattle.call_transition_events.proofs.start_timer.Goals as goal
 

@@ -1,7 +1,6 @@
 -- `call_transition_events::startups` meets its contract. Assumes nothing.
 use Rattle.lists.specs.Tests.{flag_no, flag_yes}
 use Rattle.call_transition_events.proofs.StartLaws.{startups_none, startups_all, startups_refused}
-use borrow.Author.Rules.{rules}
 use Rattle.std.proofs.lemmas.Bool.{not_from_false, not_from_true}
 use Rattle.call_transition_events.proofs.startups.Goals as goal
 

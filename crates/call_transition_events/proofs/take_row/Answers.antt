@@ -1,5 +1,4 @@
 -- `call_transition_events::take_row` meets its contract. Assumes nothing.
-use borrow.Author.Rules.{rules}
 use Rattle.call_transition_events.proofs.take_row.Goals as goal
 
 pub returns-in-Value : goal.returns-in-Value

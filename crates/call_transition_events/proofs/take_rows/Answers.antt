@@ -1,10 +1,7 @@
 -- `call_transition_events::take_rows` meets its contract: the walk so far. Assumes nothing.
 use mathlib.Core.Path.{◌∙◌, ap}
-use Prim.Native.Nat.{◌-◌}
 use Rattle.table_rows.specs.Kinds.{count}
-use Rattle.state_room.specs.Walks.{room, Walked, walked_none, walked_next, walked_refused, walked_end}
-use Rattle.call_transition_events.specs.Starting.{row_step}
-use borrow.Author.Rules.{rules}
+use Rattle.state_room.specs.Walks.{walked_none, walked_next, walked_refused, walked_end}
 use Rattle.call_transition_events.proofs.take_rows.Goals as goal
 
 pub loop-j-init : goal.loop-j-init

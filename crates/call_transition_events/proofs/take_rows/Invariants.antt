@@ -1,10 +1,7 @@
 -- `call_transition_events::take_rows` meets its contract: the walk so far. Assumes nothing.
-use mathlib.Core.Path.{◌∙◌, ap}
 use Prim.Native.Nat.{◌-◌}
-use Rattle.table_rows.specs.Kinds.{count}
-use Rattle.state_room.specs.Walks.{room, Walked, walked_none, walked_next, walked_refused, walked_end}
+use Rattle.state_room.specs.Walks.{room, Walked}
 use Rattle.call_transition_events.specs.Starting.{row_step}
-use borrow.Author.Rules.{rules}
 use Rattle.call_transition_events.proofs.take_rows.Given as goal
 
 abbrev pub invariant-loop-j : goal.invariant-loop-j

@@ -1,7 +1,6 @@
 -- `call_transition_events::timer_image` meets its contract. Assumes nothing.
 use mathlib.Core.Path.{ap}
 use Rattle.call_transition_events.proofs.StartLaws.{image_mapped}
-use borrow.Author.Rules.{rules}
 use Rattle.call_transition_events.proofs.timer_image.Goals as goal
 
 pub returns : goal.returns

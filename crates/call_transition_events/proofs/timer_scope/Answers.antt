@@ -1,6 +1,5 @@
 -- `call_transition_events::timer_scope` meets its contract. Assumes nothing.
 use mathlib.Core.Path.{◌∙◌}
-use borrow.Author.Rules.{rules}
 use Rattle.call_transition_events.proofs.timer_scope.Goals as goal
 
 pub returns : goal.returns

@@ -1,7 +1,6 @@
 -- `call_transition_events::timer_slot` meets its contract. Assumes nothing.
 use mathlib.Core.Path.{◌∙◌}
 use Rattle.call_transition_events.proofs.StartLaws.{timer_event_lem}
-use borrow.Author.Rules.{rules}
 use Rattle.call_transition_events.proofs.timer_slot.Goals as goal
 
 pub returns : goal.returns

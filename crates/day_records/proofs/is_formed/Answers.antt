@@ -1,6 +1,5 @@
 -- `day_records::is_formed` meets its contract. Assumes nothing.
 use Rattle.day_records.proofs.Laws.{short_not, body_formed, body_not}
-use borrow.Author.Rules.{rules}
 use Rattle.day_records.proofs.is_formed.Goals as goal
 
 pub returns-then-body-lt-VERSION_AND_OP : goal.returns-then-body-lt-VERSION_AND_OP

@@ -1,6 +1,5 @@
 -- `day_records::length_of` meets its contract. Assumes nothing.
 use Rattle.day_records.proofs.Laws.{lengths}
-use borrow.Author.Rules.{rules}
 use Rattle.day_records.proofs.length_of.Goals as goal
 
 pub returns-then-head-eq0 : goal.returns-then-head-eq0

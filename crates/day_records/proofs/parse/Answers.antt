@@ -1,6 +1,5 @@
 -- `day_records::parse` meets its contract. Assumes nothing.
 use Rattle.day_records.proofs.Laws.{bodies}
-use borrow.Author.Rules.{rules}
 use Rattle.day_records.proofs.parse.Goals as goal
 
 pub returns-then-body-lt-VERSION_AND_OP : goal.returns-then-body-lt-VERSION_AND_OP

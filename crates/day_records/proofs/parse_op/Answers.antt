@@ -1,6 +1,5 @@
 -- `day_records::parse_op` meets its contract. Assumes nothing.
 use Rattle.day_records.proofs.Laws.{bodies, op_3, op_5, op_6}
-use borrow.Author.Rules.{rules}
 use Rattle.day_records.proofs.parse_op.Goals as goal
 
 pub returns-in-1 : goal.returns-in-1

@@ -1,6 +1,5 @@
 -- `day_records::pop` meets its contract. Assumes nothing.
 use Rattle.day_records.proofs.Laws.{ops}
-use borrow.Author.Rules.{rules}
 use Rattle.day_records.proofs.pop.Goals as goal
 
 pub returns-then-op_formed : goal.returns-then-op_formed

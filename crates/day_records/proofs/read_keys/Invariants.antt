@@ -1,12 +1,9 @@
 -- `day_records::read_keys` meets its contract: one key more a turn, over the front of the array. Assumes nothing.
 use Prim.Native.Nat.{◌-◌, ◌≤◌}
 use mathlib.Core.Path.{◌≡◌}
-use borrow.Author.Rules.{rules}
-use native.Mathlib.Omega.{arith}
 use Rattle.lists.specs.Lists.{over}
 use Rattle.lists.specs.Rows.{tab}
 use Rattle.day_records.specs.Records.{key_at}
-use Rattle.day_records.proofs.Laws.{keys_none, keys_more, keys_all, fill_few, fill_long}
 use Rattle.day_records.proofs.read_keys.Given as goal
 
 abbrev pub invariant-loop-k : goal.invariant-loop-k

@@ -1,6 +1,5 @@
 -- `day_records::tag_there` meets its contract. Assumes nothing.
 use Rattle.day_records.proofs.Laws.{operands}
-use borrow.Author.Rules.{rules}
 use Rattle.day_records.proofs.tag_there.Goals as goal
 
 pub returns : goal.returns

@@ -1,6 +1,5 @@
 -- `day_records::transition` meets its contract. Assumes nothing.
 use Rattle.day_records.proofs.Laws.{ops, transition_long}
-use borrow.Author.Rules.{rules}
 use native.Mathlib.Omega.{arith}
 use Rattle.lists.specs.Tests.{flag}
 use Rattle.day_records.proofs.transition.Goals as goal

@@ -1,5 +1,4 @@
 -- `day_telling::call_words` meets its contract. Assumes nothing.
-use borrow.Author.Rules.{rules}
 use Rattle.day_telling.proofs.call_words.Goals as goal
 
 pub returns-in-Plain : goal.returns-in-Plain

@@ -1,7 +1,6 @@
 -- `day_telling::lacking` meets its contract. Assumes nothing.
 use mathlib.Core.Path.{refl}
 use Rattle.day_telling.proofs.Laws.{below_yes, below_no}
-use borrow.Author.Rules.{rules}
 use Rattle.day_telling.proofs.lacking.Goals as goal
 
 pub returns-in-Plain : goal.returns-in-Plain

@@ -1,9 +1,7 @@
 -- `day_telling::lacking_reaction` meets its contract: what is left of the keys decides. Assumes nothing.
 use Rattle.table_rows.specs.Kinds.{reaction}
-use Prim.Native.Nat.{◌-◌, ◌≤◌}
-use lib.ListN.{length, drop}
-use mathlib.Core.Path.{◌≡◌, refl, sym, ap, ◌∙◌}
-use Rattle.day_telling.specs.Facts.{lack, lacking_reaction}
+use mathlib.Core.Path.{refl, sym, ap, ◌∙◌}
+use Rattle.day_telling.specs.Facts.{lack}
 use Rattle.day_telling.proofs.Laws.{lacking_pass, lacking_here, lacking_none, lacking_by}
 use borrow.Author.Rules.{rules}
 use Rattle.day_telling.proofs.lacking_reaction.Goals as goal

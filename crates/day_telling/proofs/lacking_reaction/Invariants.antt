@@ -1,11 +1,8 @@
 -- `day_telling::lacking_reaction` meets its contract: what is left of the keys decides. Assumes nothing.
-use Rattle.table_rows.specs.Kinds.{reaction}
 use Prim.Native.Nat.{◌-◌, ◌≤◌}
 use lib.ListN.{length, drop}
-use mathlib.Core.Path.{◌≡◌, refl, sym, ap, ◌∙◌}
-use Rattle.day_telling.specs.Facts.{lack, lacking_reaction}
-use Rattle.day_telling.proofs.Laws.{lacking_pass, lacking_here, lacking_none, lacking_by}
-use borrow.Author.Rules.{rules}
+use mathlib.Core.Path.{◌≡◌}
+use Rattle.day_telling.specs.Facts.{lacking_reaction}
 use Rattle.day_telling.proofs.lacking_reaction.Given as goal
 
 abbrev pub invariant-loop-i : goal.invariant-loop-i

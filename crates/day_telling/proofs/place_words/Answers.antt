@@ -2,7 +2,6 @@
 use Rattle.day_telling.proofs.Laws.{place_root, place_scope}
 use mathlib.Core.Path.{ap, ◌∙◌}
 use Rattle.day_telling.specs.Facts.{scope_place, place_words}
-use borrow.Author.Rules.{rules}
 use Rattle.day_telling.proofs.place_words.Goals as goal
 
 pub returns-then-queue-eq-NONE : goal.returns-then-queue-eq-NONE

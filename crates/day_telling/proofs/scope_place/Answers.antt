@@ -1,6 +1,5 @@
 -- `day_telling::scope_place` meets its contract. Assumes nothing.
 use Rattle.day_telling.proofs.Laws.{scope_place_is}
-use borrow.Author.Rules.{rules}
 use Rattle.day_telling.proofs.scope_place.Goals as goal
 
 pub returns : goal.returns

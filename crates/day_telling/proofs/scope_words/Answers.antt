@@ -1,6 +1,5 @@
 -- `day_telling::scope_words` meets its contract. Assumes nothing.
 use Rattle.day_telling.proofs.Laws.{scope_words_are}
-use borrow.Author.Rules.{rules}
 use Rattle.day_telling.proofs.scope_words.Goals as goal
 
 pub returns : goal.returns

@@ -1,6 +1,5 @@
 -- `day_telling::write_fact` meets its contract. Assumes nothing.
 use Rattle.day_telling.proofs.Laws.{written_fact}
-use borrow.Author.Rules.{rules}
 use Rattle.day_telling.proofs.write_fact.Goals as goal
 
 pub returns : goal.returns

@@ -1,8 +1,5 @@
 -- `day_telling::write_words` meets its contract: one number more a turn. Assumes nothing.
 use borrow.Author.Rules.{rules}
-use Prim.Native.Nat.{◌-◌, ◌≤◌}
-use lib.ListN.{length, take}
-use Rattle.byte_writer.specs.Written.{Written}
 use Rattle.byte_writer.proofs.WrittenLaws.{written_none, written_room, written_long}
 use Rattle.day_telling.specs.Facts.{words_text}
 use Rattle.day_telling.proofs.Laws.{written_word, words_all}

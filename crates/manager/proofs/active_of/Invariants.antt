@@ -1,12 +1,9 @@
 -- `manager::active_of` meets its contract: invariant: the first i are those of the rows. Assumes nothing.
-use mathlib.Core.Path.{◌≡◌, refl}
+use mathlib.Core.Path.{◌≡◌}
 use Prim.Native.Nat.{◌-◌, ◌≤◌}
-use native.Mathlib.Omega.{arith}
 use mathlib.Core.List.{map}
 use lib.ListN.{take, length}
 use Rattle.state_scopes.specs.Scopes.{most_scopes, scopes_of}
-use Rattle.manager.proofs.Front.{active_next, active_all}
-use borrow.Author.Rules.{rules}
 use Rattle.manager.proofs.active_of.Given as goal
 
 abbrev pub invariant-loop-i : goal.invariant-loop-i

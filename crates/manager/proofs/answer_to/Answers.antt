@@ -1,7 +1,6 @@
 -- `manager::answer_to` meets its contract: no pop found a ready event. Assumes nothing.
 use Rattle.manager.specs.Views.{arrays_of}
 use Rattle.manager.proofs.Calls.{answer_is}
-use borrow.Author.Rules.{rules}
 use Rattle.manager.proofs.answer_to.Goals as goal
 
 pub returns : goal.returns

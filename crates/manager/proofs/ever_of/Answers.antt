@@ -1,10 +1,6 @@
 -- `manager::ever_of` meets its contract: invariant: the first i are those of the rows. Assumes nothing.
-use mathlib.Core.Path.{◌≡◌, refl}
-use Prim.Native.Nat.{◌-◌, ◌≤◌}
+use mathlib.Core.Path.{refl}
 use native.Mathlib.Omega.{arith}
-use mathlib.Core.List.{map}
-use lib.ListN.{take, length}
-use Rattle.state_scopes.specs.Scopes.{most_scopes, scopes_of}
 use Rattle.manager.proofs.Front.{ever_next, ever_all}
 use borrow.Author.Rules.{rules}
 use Rattle.manager.proofs.ever_of.Goals as goal

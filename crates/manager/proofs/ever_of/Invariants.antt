@@ -1,12 +1,9 @@
 -- `manager::ever_of` meets its contract: invariant: the first i are those of the rows. Assumes nothing.
-use mathlib.Core.Path.{◌≡◌, refl}
+use mathlib.Core.Path.{◌≡◌}
 use Prim.Native.Nat.{◌-◌, ◌≤◌}
-use native.Mathlib.Omega.{arith}
 use mathlib.Core.List.{map}
 use lib.ListN.{take, length}
 use Rattle.state_scopes.specs.Scopes.{most_scopes, scopes_of}
-use Rattle.manager.proofs.Front.{ever_next, ever_all}
-use borrow.Author.Rules.{rules}
 use Rattle.manager.proofs.ever_of.Given as goal
 
 abbrev pub invariant-loop-i : goal.invariant-loop-i

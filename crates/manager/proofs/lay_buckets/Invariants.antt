@@ -5,9 +5,6 @@ use lib.ListN.{take}
 use Rattle.state_room.specs.Padded.{padded}
 use Rattle.store_words.specs.Entries.{room_for_entries, blank_bucket, of_bucket}
 use Rattle.store_words.specs.Words.{HeldBuckets}
-use Rattle.value_store.proofs.Laws.{length_mapped}
-use Rattle.manager.proofs.Front.{end_few, rows_none, rows_next, rows_all}
-use borrow.Author.Rules.{rules}
 use Rattle.manager.proofs.lay_buckets.Given as goal
 
 abbrev pub invariant-loop-i : goal.invariant-loop-i

@@ -1,8 +1,7 @@
 -- `manager::lay_scopes` meets its contract: invariant: the first i scopes, and blanks behind them. Assumes nothing.
 use Prim.Native.Nat.{◌-◌, ◌≤◌}
 use Rattle.state_scopes.specs.Scopes.{most_scopes}
-use Rattle.manager.proofs.Front.{end_few, Copying, copying_none, copying_next, copying_all}
-use borrow.Author.Rules.{rules}
+use Rattle.manager.proofs.Front.{Copying}
 use Rattle.manager.proofs.lay_scopes.Given as goal
 
 abbrev pub invariant-loop-i : goal.invariant-loop-i

@@ -1,10 +1,4 @@
 -- `manager::lay_slots` meets its contract: invariant: the first i slots, and blanks behind them. Assumes nothing.
-use Prim.Native.Nat.{◌-◌, ◌≤◌}
-use mathlib.Core.List.{map}
-use lib.ListN.{take}
-use Rattle.state_room.specs.Padded.{padded}
-use Rattle.state_events.specs.Slots as slot
-use Rattle.state_events.specs.Slots.{event_of, room_for_events}
 use Rattle.value_store.proofs.Laws.{length_mapped}
 use Rattle.manager.proofs.Front.{end_few, rows_none, rows_next, rows_all}
 use borrow.Author.Rules.{rules}

@@ -5,9 +5,6 @@ use lib.ListN.{take}
 use Rattle.state_room.specs.Padded.{padded}
 use Rattle.state_events.specs.Slots as slot
 use Rattle.state_events.specs.Slots.{event_of, room_for_events}
-use Rattle.value_store.proofs.Laws.{length_mapped}
-use Rattle.manager.proofs.Front.{end_few, rows_none, rows_next, rows_all}
-use borrow.Author.Rules.{rules}
 use Rattle.manager.proofs.lay_slots.Given as goal
 
 abbrev pub invariant-loop-i : goal.invariant-loop-i

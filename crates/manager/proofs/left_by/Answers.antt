@@ -2,7 +2,6 @@
 use Rattle.state_room.specs.Holds.{rows}
 use Rattle.manager.specs.Views.{arrays_of, arrays_in}
 use Rattle.manager.proofs.Calls.{left_asked, left_found, left_refused, left_done}
-use borrow.Author.Rules.{rules}
 use Rattle.manager.proofs.left_by.Goals as goal
 
 pub returns-then-only_asks : goal.returns-then-only_asks

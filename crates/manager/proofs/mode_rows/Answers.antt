@@ -1,9 +1,4 @@
 -- `manager::mode_rows` meets its contract: invariant: the first i modes, and zeros behind them. Assumes nothing.
-use mathlib.Core.Path.{◌≡◌}
-use Prim.Native.Nat.{◌-◌, ◌≤◌}
-use lib.ListN.{length, take}
-use Rattle.state_room.specs.Padded.{padded}
-use Rattle.state_room.specs.PartRows.{most_reactors}
 use Rattle.manager.proofs.Front.{end_few, numbers_none, numbers_next, numbers_all}
 use borrow.Author.Rules.{rules}
 use Rattle.manager.proofs.mode_rows.Goals as goal

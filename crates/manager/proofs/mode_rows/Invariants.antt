@@ -4,8 +4,6 @@ use Prim.Native.Nat.{◌-◌, ◌≤◌}
 use lib.ListN.{length, take}
 use Rattle.state_room.specs.Padded.{padded}
 use Rattle.state_room.specs.PartRows.{most_reactors}
-use Rattle.manager.proofs.Front.{end_few, numbers_none, numbers_next, numbers_all}
-use borrow.Author.Rules.{rules}
 use Rattle.manager.proofs.mode_rows.Given as goal
 
 abbrev pub invariant-loop-i : goal.invariant-loop-i

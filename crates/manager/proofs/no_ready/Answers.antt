@@ -1,6 +1,5 @@
 -- `manager::no_ready` meets its contract: all blank. Assumes nothing.
 use Rattle.manager.proofs.Calls.{no_ready_is}
-use borrow.Author.Rules.{rules}
 use Rattle.manager.proofs.no_ready.Goals as goal
 
 pub returns : goal.returns

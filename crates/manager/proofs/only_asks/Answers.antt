@@ -1,7 +1,6 @@
 -- `manager::only_asks` meets its contract: by cases. Assumes nothing.
 use mathlib.Core.Path.{refl}
 use Rattle.manager.proofs.Calls.{push_asks, question_asks}
-use borrow.Author.Rules.{rules}
 use Rattle.manager.proofs.only_asks.Goals as goal
 
 pub returns-in-Push : goal.returns-in-Push

@@ -4,8 +4,6 @@ use Prim.Native.Nat.{◌-◌, ◌≤◌}
 use lib.ListN.{length, take}
 use Rattle.state_room.specs.Padded.{padded}
 use Rattle.state_events.specs.Slots.{room_for_events}
-use Rattle.manager.proofs.Front.{end_few, numbers_none, numbers_next, numbers_all}
-use borrow.Author.Rules.{rules}
 use Rattle.manager.proofs.own_keys.Given as goal
 
 abbrev pub invariant-loop-i : goal.invariant-loop-i

@@ -1,6 +1,5 @@
 -- `manager::pack` meets its contract: each array. Assumes nothing.
 use Rattle.manager.proofs.Front.{joined_back}
-use borrow.Author.Rules.{rules}
 use Rattle.manager.proofs.pack.Goals as goal
 
 pub returns : goal.returns

@@ -1,7 +1,6 @@
 -- `manager::popped_of` meets its contract: by cases. Assumes nothing.
 use Rattle.manager.specs.Views.{arrays_of}
 use Rattle.manager.proofs.Calls.{pop_found, pop_eleven, pop_nothing}
-use borrow.Author.Rules.{rules}
 use Rattle.manager.proofs.popped_of.Goals as goal
 
 pub returns-then-p : goal.returns-then-p

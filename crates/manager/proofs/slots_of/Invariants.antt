@@ -1,13 +1,10 @@
 -- `manager::slots_of` meets its contract: invariant: the first i slots are those of the rows. Assumes nothing.
-use mathlib.Core.Path.{◌≡◌, refl}
+use mathlib.Core.Path.{◌≡◌}
 use Prim.Native.Nat.{◌-◌, ◌≤◌}
-use native.Mathlib.Omega.{arith}
 use mathlib.Core.List.{map}
 use lib.ListN.{take, length}
 use Rattle.state_events.specs.Slots.{room_for_events}
 use Rattle.state_events.specs.Slots.{event_of, events_of}
-use Rattle.lists.specs.Loops.{things_more, things_all}
-use borrow.Author.Rules.{rules}
 use Rattle.manager.proofs.slots_of.Given as goal
 
 abbrev pub invariant-loop-i : goal.invariant-loop-i

@@ -1,5 +1,4 @@
 -- `manager::some_work` meets its contract: by cases. Assumes nothing.
-use borrow.Author.Rules.{rules}
 use Rattle.manager.proofs.some_work.Goals as goal
 
 pub returns-in-Tag : goal.returns-in-Tag

@@ -1,6 +1,5 @@
 -- `manager::unpack` meets its contract: each array. Assumes nothing.
 use Rattle.manager.proofs.Packs.{unpacks}
-use borrow.Author.Rules.{rules}
 use Rattle.manager.proofs.unpack.Goals as goal
 
 pub returns : goal.returns

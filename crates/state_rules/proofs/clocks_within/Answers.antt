@@ -1,10 +1,7 @@
 -- `state_rules::clocks_within` meets its contract: invariant: all are within if those from i on are. Assumes nothing.
 use borrow.Author.Rules.{rules}
-use Rattle.state_rules.proofs.Parts.{clocks_within, clock_on, clock_fails, clock_all}
-use Rattle.state_scopes.specs.Scopes.{scopes_of}
-use lib.ListN.{take, drop}
-use Prim.Native.Nat.{◌-◌, ◌≤◌}
-use mathlib.Core.Path.{◌≡◌, refl}
+use Rattle.state_rules.proofs.Parts.{clock_on, clock_fails, clock_all}
+use mathlib.Core.Path.{refl}
 use Rattle.state_rules.proofs.clocks_within.Goals as goal
 
 pub loop-i-init : goal.loop-i-init

@@ -1,7 +1,6 @@
 -- `state_rules::event_keeps` meets its contract: the three tests in order. Assumes nothing.
 use Rattle.state_rules.specs.Sound.{event_keeps}
 use Rattle.lists.specs.Steps.{chains}
-use borrow.Author.Rules.{rules}
 use Rattle.state_rules.proofs.event_keeps.Goals as goal
 
 pub returns-then-has_queue : goal.returns-then-has_queue

@@ -1,13 +1,11 @@
 -- `state_rules::events_keep` meets its contract: invariant: all keep the rules if those from i on do. Assumes nothing.
-use borrow.Author.Rules.{rules}
-use Rattle.state_rules.proofs.Parts.{event_on, event_fails, event_all}
 use Rattle.state_rules.specs.Sound.{event_keeps}
 use Rattle.state_events.specs.Slots.{events_of}
 use Rattle.state_scopes.specs.Scopes.{scopes_of}
 use Rattle.lists.specs.Lists.{every}
 use lib.ListN.{take, drop}
 use Prim.Native.Nat.{◌-◌, ◌≤◌}
-use mathlib.Core.Path.{◌≡◌, refl}
+use mathlib.Core.Path.{◌≡◌}
 use Rattle.state_rules.proofs.events_keep.Given as goal
 
 abbrev pub invariant-loop-i : goal.invariant-loop-i

@@ -1,6 +1,5 @@
 -- `state_rules::has_queue` meets its contract: by cases. Assumes nothing.
 use Rattle.state_rules.proofs.Parts.{proper_cases}
-use borrow.Author.Rules.{rules}
 use Rattle.state_rules.proofs.has_queue.Goals as goal
 
 pub returns-then-s-eq-NONE : goal.returns-then-s-eq-NONE

@@ -1,6 +1,5 @@
 -- `state_rules::is_proper` meets its contract: by cases. Assumes nothing.
 use Rattle.state_rules.proofs.Parts.{proper_cases}
-use borrow.Author.Rules.{rules}
 use Rattle.state_rules.proofs.is_proper.Goals as goal
 
 pub returns-then-not-within : goal.returns-then-not-within

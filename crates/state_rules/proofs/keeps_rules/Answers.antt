@@ -1,6 +1,5 @@
 -- `state_rules::keeps_rules` meets its contract: the queue's rules and the store's. Assumes nothing.
 use Rattle.state_rules.proofs.Rules.{sound_cases, few_held}
-use borrow.Author.Rules.{rules}
 use Rattle.state_rules.proofs.keeps_rules.Goals as goal
 
 pub returns-then-not-queue_rules : goal.returns-then-not-queue_rules

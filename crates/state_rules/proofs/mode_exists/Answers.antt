@@ -1,7 +1,6 @@
 -- `state_rules::mode_exists` meets its contract: by cases. Assumes nothing.
 use Rattle.machine.specs.Machine.{mode_rules}
 use Rattle.lists.specs.Steps.{chains}
-use borrow.Author.Rules.{rules}
 use Rattle.state_rules.proofs.mode_exists.Goals as goal
 
 pub returns-then-m-eq-NONE : goal.returns-then-m-eq-NONE

@@ -1,11 +1,7 @@
 -- `state_rules::modes_exist` meets its contract: invariant: all exist if those from i on do. Assumes nothing.
 use borrow.Author.Rules.{rules}
 use Rattle.state_rules.proofs.Parts.{mode_on, mode_fails, mode_all}
-use Rattle.machine.specs.Machine.{mode_rules}
-use Rattle.lists.specs.Lists.{every}
-use lib.ListN.{length, drop}
-use Prim.Native.Nat.{◌-◌, ◌≤◌}
-use mathlib.Core.Path.{◌≡◌, refl}
+use mathlib.Core.Path.{refl}
 use Rattle.state_rules.proofs.modes_exist.Goals as goal
 
 pub loop-i-init : goal.loop-i-init

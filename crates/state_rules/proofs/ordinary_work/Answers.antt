@@ -1,12 +1,6 @@
 -- `state_rules::ordinary_work` meets its contract: invariant: those from i on are counted. Assumes nothing.
 use borrow.Author.Rules.{rules}
 use Rattle.state_rules.proofs.Parts.{work_none, work_more, work_same, work_all}
-use Rattle.state_events.specs.Slots.{events_of}
-use Rattle.machine.specs.State.{ordinary}
-use Rattle.lists.specs.Lists.{count}
-use lib.ListN.{take, drop}
-use Prim.Native.Nat.{◌+◌, ◌≤◌}
-use mathlib.Core.Path.{◌≡◌}
 use Rattle.state_rules.proofs.ordinary_work.Goals as goal
 
 pub loop-i-init : goal.loop-i-init

@@ -1,6 +1,5 @@
 -- `state_rules::queue_rules` meets its contract: a law for each part that may fail. Assumes nothing.
 use Rattle.state_rules.proofs.Rules.{queue_cases, few_scopes, few_reactors, few_waiting, own_long, own_is}
-use borrow.Author.Rules.{rules}
 use Rattle.state_rules.proofs.queue_rules.Goals as goal
 
 pub returns-then-limit-waiting : goal.returns-then-limit-waiting

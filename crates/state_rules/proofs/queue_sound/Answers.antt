@@ -1,5 +1,4 @@
 -- `state_rules::queue_sound` meets its contract: the two tests in order. Assumes nothing.
-use borrow.Author.Rules.{rules}
 use Rattle.lists.specs.Steps.{chains}
 use Rattle.state_rules.specs.Sound.{queue_sound}
 use Rattle.state_rules.proofs.queue_sound.Goals as goal

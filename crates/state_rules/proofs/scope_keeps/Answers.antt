@@ -1,6 +1,5 @@
 -- `state_rules::scope_keeps` meets its contract: by cases. Assumes nothing.
 use Rattle.state_rules.proofs.Parts.{scope_cases, scope_stays}
-use borrow.Author.Rules.{rules}
 use Rattle.state_rules.proofs.scope_keeps.Goals as goal
 
 pub returns-then-current : goal.returns-then-current

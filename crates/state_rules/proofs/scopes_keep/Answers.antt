@@ -1,11 +1,6 @@
 -- `state_rules::scopes_keep` meets its contract: invariant: all keep the rule if those from i on do. Assumes nothing.
 use borrow.Author.Rules.{rules}
 use Rattle.state_rules.proofs.Parts.{index_none, index_on, index_fails, index_all}
-use Rattle.machine.specs.Machine.{scope_rules}
-use Rattle.state_scopes.specs.Scopes.{scopes_of}
-use Rattle.lists.specs.Lists.{every, from}
-use Prim.Native.Nat.{◌-◌, ◌≤◌}
-use mathlib.Core.Path.{◌≡◌}
 use Rattle.state_rules.proofs.scopes_keep.Goals as goal
 
 pub loop-i-init : goal.loop-i-init

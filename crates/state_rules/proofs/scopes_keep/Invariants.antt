@@ -1,6 +1,4 @@
 -- `state_rules::scopes_keep` meets its contract: invariant: all keep the rule if those from i on do. Assumes nothing.
-use borrow.Author.Rules.{rules}
-use Rattle.state_rules.proofs.Parts.{index_none, index_on, index_fails, index_all}
 use Rattle.machine.specs.Machine.{scope_rules}
 use Rattle.state_scopes.specs.Scopes.{scopes_of}
 use Rattle.lists.specs.Lists.{every, from}

@@ -1,5 +1,4 @@
 -- `state_rules::scopes_sound` meets its contract: the three tests in order. Assumes nothing.
-use borrow.Author.Rules.{rules}
 use Rattle.lists.specs.Steps.{chains}
 use Rattle.state_rules.specs.Sound.{scopes_sound}
 use Rattle.state_rules.proofs.scopes_sound.Goals as goal

@@ -1,5 +1,4 @@
 -- `state_rules::sizes_in` meets its contract: three counts. Assumes nothing.
-use borrow.Author.Rules.{rules}
 use Rattle.state_rules.proofs.sizes_in.Goals as goal
 
 pub returns : goal.returns

@@ -2,7 +2,6 @@
 use mathlib.Core.Path.{◌∙◌, ap}
 use Rattle.manager.specs.Views.{arrays_of, some_work}
 use Rattle.manager.specs.Arrays.{answered}
-use borrow.Author.Rules.{rules}
 use Rattle.manager.proofs.Manager.has_nonterminal_work.Goals as goal
 
 pub returns : goal.returns
