@@ -1,5 +1,5 @@
 -- The kept bytes and the dropped runs as parts of the file. Assumes nothing.
-use Rattle.std.specs.Prelude.{ℕ, ◌+◌, ◌-◌, ◌<◌, ◌≤◌, true, ◌≡◌, List, [], ◌∷◌, ◌++◌, length, take, drop}
+use Rattle.std.specs.Prelude.{ℕ, ◌+◌, ◌-◌, ◌<◌, ◌≤◌, true, ◌≡◌, List, [], ◌∷◌, ◌++◌, take, drop}
 use Rattle.lists.specs.Lists.{every}
 use Rattle.day_records.specs.Records.{is_formed, records_from}
 use Rattle.day_rescue.specs.declared.Run.{Run}

@@ -1,7 +1,6 @@
 -- `day_rescue::is_barren` meets its contract. Assumes nothing.
 use Rattle.day_rescue.proofs.PlaceLaws.{second_some, no_op_there, op_over_there}
 use native.Mathlib.Omega.{arith}
-use borrow.Author.Rules.{rules}
 use Rattle.day_rescue.proofs.is_barren.Goals as goal
 
 pub returns-then-bytes-at-ne0 : goal.returns-then-bytes-at-ne0

@@ -1,6 +1,5 @@
 -- `day_rescue::last_place` meets its contract. Assumes nothing.
 use Rattle.day_rescue.proofs.ListLaws.{last_few, last_many}
-use borrow.Author.Rules.{rules}
 use Rattle.day_rescue.proofs.last_place.Goals as goal
 
 pub returns-then-n-lt-AHEAD : goal.returns-then-n-lt-AHEAD

@@ -1,6 +1,5 @@
 -- `day_rescue::next_size` meets its contract. Assumes nothing.
 use mathlib.Core.Path.{sym}
-use borrow.Author.Rules.{rules}
 use Rattle.day_rescue.proofs.next_size.Goals as goal
 
 pub returns-then-is_pop : goal.returns-then-is_pop

@@ -1,7 +1,6 @@
 -- `day_rescue::put_run` meets its contract. Assumes nothing.
 use Rattle.byte_writer.proofs.WrittenLaws.{written_none, written_then, written_as}
 use Rattle.day_rescue.proofs.ListLaws.{run_none, run_some}
-use borrow.Author.Rules.{rules}
 use Rattle.day_rescue.proofs.put_run.Goals as goal
 
 pub returns-then-many-eq0 : goal.returns-then-many-eq0

@@ -1,6 +1,5 @@
 -- `day_rescue::roomy_end` meets its contract. Assumes nothing.
 use Rattle.day_rescue.proofs.PlaceLaws.{roomy_few, roomy_low, roomy_most}
-use borrow.Author.Rules.{rules}
 use Rattle.day_rescue.proofs.roomy_end.Goals as goal
 
 pub returns-then-bytes-lt-SHORTEST : goal.returns-then-bytes-lt-SHORTEST

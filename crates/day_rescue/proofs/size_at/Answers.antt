@@ -1,6 +1,5 @@
 -- `day_rescue::size_at` meets its contract. Assumes nothing.
 use Rattle.day_rescue.proofs.PlaceLaws.{size_few, at_length, size_short, body_yes, body_no, size_broken, size_over}
-use borrow.Author.Rules.{rules}
 use Rattle.day_rescue.proofs.size_at.Goals as goal
 
 pub returns-then-left-lt-LENGTH : goal.returns-then-left-lt-LENGTH

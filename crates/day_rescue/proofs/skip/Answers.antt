@@ -1,9 +1,7 @@
 -- `day_rescue::skip` meets its contract. Assumes nothing.
 use mathlib.Core.Path.{sym, ◌∙◌}
-use Prim.Native.Nat.{◌-◌}
 use native.Mathlib.Omega.{arith}
 use borrow.Author.Rules.{rules}
-use Rattle.day_rescue.specs.Places.{Passed}
 use Rattle.day_rescue.proofs.PlaceLaws.{passed_none, passed_one, passed_then, passed_end, size_some, none_size}
 use Rattle.day_rescue.proofs.skip.Goals as goal
 

@@ -1,10 +1,6 @@
 -- `day_rescue::stretch` meets its contract. Assumes nothing.
 use Prim.Native.Nat.{◌-◌}
-use mathlib.Core.Path.{sym, ◌∙◌}
-use native.Mathlib.Omega.{arith}
-use borrow.Author.Rules.{rules}
 use Rattle.day_rescue.specs.Places.{Stretched}
-use Rattle.day_rescue.proofs.WalkLaws.{stretch_none, size_inside, stretch_next, stretch_goes}
 use Rattle.day_rescue.proofs.stretch.Given as goal
 
 abbrev pub invariant-loop-at : goal.invariant-loop-at

@@ -1,5 +1,4 @@
 -- `day_run::key_count` meets its contract: by cases. Assumes nothing.
-use borrow.Author.Rules.{rules}
 use Rattle.day_run.proofs.key_count.Goals as goal
 
 pub returns-in-Action : goal.returns-in-Action

@@ -1,5 +1,4 @@
 -- `day_run::op_of` meets its contract: by cases. Assumes nothing.
-use borrow.Author.Rules.{rules}
 use Rattle.day_run.proofs.op_of.Goals as goal
 
 pub returns-in-Plain : goal.returns-in-Plain

@@ -1,7 +1,6 @@
 use Rattle.day_run.proofs.WholeLaws.{open_short, open_large, open_checked}
 use lib.Seq.{length-take-le}
 use mathlib.Core.Path.{sym}
-use borrow.Author.Rules.{rules}
 use Rattle.day_run.proofs.open.Goals as goal
 
 pub returns-then-day-end : goal.returns-then-day-end

@@ -1,5 +1,4 @@
 use Rattle.day_run.proofs.PartLaws.{body_there}
-use borrow.Author.Rules.{rules}
 use Rattle.day_run.proofs.read.Goals as goal
 
 pub returns : goal.returns

@@ -1,7 +1,6 @@
 use Rattle.day_run.proofs.WholeLaws.{open_fits, open_table, told_none, told_accepted, told_refused}
 use lib.Seq.{length-take-le}
 use mathlib.Core.Path.{sym, ◌∙◌}
-use borrow.Author.Rules.{rules}
 use Rattle.day_run.proofs.run_day.Goals as goal
 
 pub returns-then-out-lt-LONGEST : goal.returns-then-out-lt-LONGEST

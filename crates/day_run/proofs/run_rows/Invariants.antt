@@ -1,21 +1,17 @@
 -- `day_run::run_rows` meets its contract: the lines so far are written, and the arrays hold the state after the records so far. Assumes nothing.
 use Prim.Native.Nat.{ℕ, ◌-◌}
 use mathlib.Core.Bool.{false}
-use mathlib.Core.Path.{◌≡◌, refl, ◌∙◌}
-use native.Mathlib.Omega.{arith}
+use mathlib.Core.Path.{◌≡◌}
 use lib.ListN.{length, take}
 use mathlib.Core.List.{List}
 use Rattle.state_events.specs.Slots.{room_for_events}
 use Rattle.state_events.specs.Slots.{events_of}
 use Rattle.state_queues.specs.Queue.{Held, heads_of}
 use Rattle.day_records.specs.Records.{most_keys}
-use Rattle.byte_writer.proofs.WrittenLaws.{written_long}
 use Rattle.state_room.specs.declared.Ledger.{Ledger}
 use Rattle.state_room.specs.PartRows.{spare_room}
 use Rattle.state_room.specs.Holds.{Rows}
-use Rattle.state_room.proofs.Holds.{kept_waits}
-use Rattle.day_run.proofs.RunLaws.{Running, running_begins, room_left, told, fits, keeps_on, runs_on, stops_room, stops_pending, stops_broken, ends_here, ends_broken}
-use borrow.Author.Rules.{rules}
+use Rattle.day_run.proofs.RunLaws.{Running}
 use Rattle.day_run.proofs.run_rows.Given as goal
 
 -- the rows of the lent arrays

@@ -1,5 +1,4 @@
 use Rattle.day_run.proofs.WholeLaws.{run_ended, run_over, run_full, run_cut}
-use borrow.Author.Rules.{rules}
 use Rattle.state_room.specs.Holds.{rows_of}
 use Rattle.day_run.proofs.run_whole.Goals as goal
 

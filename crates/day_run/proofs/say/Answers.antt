@@ -1,5 +1,4 @@
 -- `day_run::say` meets its contract: malformed, or by the answer. Assumes nothing.
-use borrow.Author.Rules.{rules}
 use Rattle.day_run.proofs.say.Goals as goal
 
 pub returns-then-t : goal.returns-then-t

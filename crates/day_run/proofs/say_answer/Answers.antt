@@ -1,6 +1,5 @@
 -- `day_run::say_answer` meets its contract: by the answer. Assumes nothing.
 use Rattle.byte_writer.proofs.WrittenLaws.{written_none}
-use borrow.Author.Rules.{rules}
 use Rattle.day_run.proofs.say_answer.Goals as goal
 
 pub returns-then-p : goal.returns-then-p

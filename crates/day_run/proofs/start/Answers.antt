@@ -1,6 +1,5 @@
 -- `day_run::start` meets its contract. Assumes nothing.
 use Rattle.day_run.proofs.StartLaws.{started}
-use borrow.Author.Rules.{rules}
 use Rattle.day_run.proofs.start.Goals as goal
 
 pub returns : goal.returns

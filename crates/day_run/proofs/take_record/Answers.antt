@@ -4,7 +4,6 @@ use mathlib.Core.Path.{sym, ◌∙◌}
 use lib.Seq.{length-take-le}
 use Rattle.call_perform.proofs.CallLaws.{idle_grown}
 use Rattle.day_run.proofs.CallLaws.{call_takes, malformed_takes}
-use borrow.Author.Rules.{rules}
 use Rattle.day_run.proofs.take_record.Goals as goal
 
 pub slice_bounds-perform-end : goal.slice_bounds-perform-end

@@ -1,5 +1,4 @@
 use Rattle.exports.proofs.AnswerLaws.{short_place, check_told_lem}
-use borrow.Author.Rules.{rules}
 use Rattle.exports.proofs.barnshiver_check_table.Goals as goal
 
 pub returns-then-place-lt-PLACE_BYTES : goal.returns-then-place-lt-PLACE_BYTES

@@ -2,7 +2,6 @@ use mathlib.Core.Path.{ap}
 use Rattle.tags.specs.Views.{mapped_local}
 use Rattle.exports.specs.Told.{tag_bytes}
 use Rattle.exports.proofs.MapLaws.{short_tag, tag_told, refusal_told}
-use borrow.Author.Rules.{rules}
 use Rattle.exports.proofs.barnshiver_global_to_local.Goals as goal
 
 pub returns-then-tag-lt-TAG_BYTES : goal.returns-then-tag-lt-TAG_BYTES

@@ -4,7 +4,6 @@ use Rattle.byte_writer.proofs.WrittenLaws.{written_room}
 use Rattle.exports.proofs.ToldLaws.{mapped_written}
 use Rattle.exports.proofs.MapLaws.{short_tag, tag_told, refusal_told}
 use Rattle.exports.specs.Told.{mapped_bytes}
-use borrow.Author.Rules.{rules}
 use Rattle.exports.proofs.barnshiver_local_to_global.Goals as goal
 
 pub returns-then-tag-lt-MAPPED_BYTES : goal.returns-then-tag-lt-MAPPED_BYTES

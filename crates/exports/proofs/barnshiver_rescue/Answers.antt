@@ -1,7 +1,6 @@
 -- `exports::barnshiver_rescue` meets its contract. Assumes nothing.
 use native.Mathlib.Omega.{arith}
 use Rattle.exports.proofs.RescueLaws.{place_small, told_saved, told_refused, told_none}
-use borrow.Author.Rules.{rules}
 use Rattle.exports.proofs.barnshiver_rescue.Goals as goal
 
 pub overflow_add-result : goal.overflow_add-result

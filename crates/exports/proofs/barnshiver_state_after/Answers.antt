@@ -3,7 +3,6 @@ use Rattle.state_room.specs.Holds.{rows_of}
 use Rattle.exports.proofs.AnswerLaws.{short_state, image_refused, all_told}
 use lib.Seq.{length-take-le}
 use mathlib.Core.Path.{sym, ◌∙◌}
-use borrow.Author.Rules.{rules}
 use Rattle.exports.proofs.barnshiver_state_after.Goals as goal
 
 pub returns-then-state-lt-STATE_BYTES : goal.returns-then-state-lt-STATE_BYTES

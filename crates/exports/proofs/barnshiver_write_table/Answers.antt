@@ -1,7 +1,6 @@
 -- `exports::barnshiver_write_table` meets its contract. Assumes nothing.
 use native.Mathlib.Omega.{arith}
 use Rattle.exports.proofs.AnswerLaws.{write_small, write_told_lem}
-use borrow.Author.Rules.{rules}
 use Rattle.exports.proofs.barnshiver_write_table.Goals as goal
 
 pub overflow_add-result : goal.overflow_add-result

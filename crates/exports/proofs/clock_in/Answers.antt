@@ -1,5 +1,4 @@
 use Rattle.exports.proofs.MapLaws.{clock_are}
-use borrow.Author.Rules.{rules}
 use Rattle.exports.proofs.clock_in.Goals as goal
 
 pub returns : goal.returns

@@ -1,5 +1,4 @@
 use Rattle.exports.proofs.WordLaws.{few_wait, first_are}
-use borrow.Author.Rules.{rules}
 use Rattle.exports.proofs.first_words.Goals as goal
 
 pub heads-heads-requires : goal.heads-heads-requires

@@ -1,7 +1,6 @@
 use mathlib.Core.Path.{◌≡◌, refl}
 use mathlib.Core.Bool.{Bool, true, false, cond}
 use mir.Val.{bool_byte}
-use borrow.Author.Rules.{rules}
 use Rattle.exports.proofs.flag_word.Goals as goal
 
 as_number : (t : Bool) → bool_byte t ≡ cond t 1 0

@@ -1,5 +1,4 @@
 use Rattle.exports.proofs.MapLaws.{clock_long, not_long}
-use borrow.Author.Rules.{rules}
 use Rattle.exports.proofs.is_clock.Goals as goal
 
 pub returns-then-clock-eq-CLOCK_BYTES : goal.returns-then-clock-eq-CLOCK_BYTES

@@ -1,6 +1,5 @@
 use Rattle.exports.proofs.MapLaws.{by_clock, no_clock}
 use Rattle.tags.specs.Tags.{at, local_to_global}
-use borrow.Author.Rules.{rules}
 use Rattle.exports.proofs.mapped_global.Goals as goal
 
 pub returns-then-is_clock : goal.returns-then-is_clock

@@ -1,6 +1,5 @@
 use Rattle.exports.proofs.MapLaws.{by_clock, no_clock}
 use Rattle.tags.specs.Tags.{at, global_to_local}
-use borrow.Author.Rules.{rules}
 use Rattle.exports.proofs.mapped_local.Goals as goal
 
 pub returns-then-is_clock : goal.returns-then-is_clock

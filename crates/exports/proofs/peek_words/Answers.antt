@@ -1,7 +1,6 @@
 use Rattle.exports.specs.State.{peek_words}
 use Rattle.call_pop.specs.Pops.{reply_of}
 use mathlib.Core.Path.{ap, sym}
-use borrow.Author.Rules.{rules}
 use Rattle.exports.proofs.peek_words.Goals as goal
 
 pub returns-in-Nothing : goal.returns-in-Nothing

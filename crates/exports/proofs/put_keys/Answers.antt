@@ -1,9 +1,5 @@
-use Prim.Native.Nat.{◌-◌, ◌≤◌}
-use lib.ListN.{length, take}
 use borrow.Author.Rules.{rules}
-use Rattle.byte_writer.specs.Written.{Written}
 use Rattle.byte_writer.proofs.WrittenLaws.{written_room, written_long}
-use Rattle.exports.specs.Told.{word_bytes}
 use Rattle.exports.proofs.ToldLaws.{words_none, words_on, words_all}
 use Rattle.exports.proofs.put_keys.Goals as goal
 

@@ -1,7 +1,6 @@
 use mathlib.Core.Path.{sym}
 use Rattle.byte_writer.proofs.WrittenLaws.{written_room}
 use Rattle.exports.proofs.WordLaws.{events_long, values_long, buckets_long, state_are}
-use borrow.Author.Rules.{rules}
 use Rattle.exports.proofs.put_state.Goals as goal
 
 pub put_keys-scopes_at-requires : goal.put_keys-scopes_at-requires

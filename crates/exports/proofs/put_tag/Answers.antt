@@ -1,6 +1,5 @@
 use Rattle.byte_writer.proofs.WrittenLaws.{written_room}
 use Rattle.exports.proofs.ToldLaws.{tag_written}
-use borrow.Author.Rules.{rules}
 use Rattle.exports.proofs.put_tag.Goals as goal
 
 pub put_number-requires : goal.put_number-requires

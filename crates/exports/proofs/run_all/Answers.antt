@@ -1,15 +1,10 @@
 use Rattle.byte_writer.proofs.WrittenLaws.{written_long}
 use Rattle.exports.proofs.AfterLaws.{all_ends, all_rests, all_on, all_inside, all_over}
 use Rattle.exports.proofs.AfterLaws.{after_begins}
-use Rattle.exports.proofs.AfterLaws.{scratch, after_in}
-use Rattle.exports.specs.State.{after_all}
-use Rattle.state_room.specs.Holds.{rows_of, state_in}
-use Rattle.day_run.specs.Views.{Kept}
+use Rattle.state_room.specs.Holds.{rows_of}
 use borrow.Author.Rules.{rules}
-use lib.ListN.{length, drop}
 use native.Mathlib.Omega.{arith}
-use mathlib.Core.Path.{◌≡◌, sym, ◌∙◌}
-use Prim.Native.Nat.{◌≤◌}
+use mathlib.Core.Path.{sym, ◌∙◌}
 use Rattle.exports.proofs.run_all.Goals as goal
 
 pub loop-turns-init : goal.loop-turns-init
