@@ -5,12 +5,12 @@ use mathlib.Core.Bool.{Bool, true, false, cond, ◌&&◌, ◌||◌}
 use mathlib.Core.List.{List, [], ◌∷◌}
 use mathlib.Core.Option.{Option, none, some}
 use Prim.Native.Nat.{ℕ, zero, suc, ◌+◌, ◌-◌, ◌*◌, ◌/◌, ◌%◌, ◌^◌, ◌≤◌, ◌<◌, max}
-use native.Mathlib.Nat.{mod-lt, zero-lt-suc, div-eq_of_lt, div_self, zero-div, zero-max, max-zero, one-mul, mul-mod_left, div-div-eq-div-mul, pow-suc, pow-succ', div-one}
+use native.Mathlib.Nat.{mod-lt, zero-lt-suc, div-eq_of_lt, div_self, zero-div, zero-max, max-zero, mul-mod_left, div-div-eq-div-mul, pow-suc, pow-succ', div-one}
 use native.Mathlib.Numerals.{add-one}
 use native.Mathlib.Omega.{arith}
 use lib.Dec.{eqb, ltb}
 use lib.Bits.{bit_or, or_shr, or_mod, or_zero_r}
-use lib.Pow.{pow_pos, pow-lt, pow-add, shl-shr, shl_exact, shr_lt}
+use lib.Pow.{pow_pos, pow-lt, pow-add, shl-shr, shr_lt}
 use lib.ListN.{length, get_or, set, replicate, length-set, length-replicate, get_or-replicate, get_or-eq_default}
 use lib.Seq.{get_or-set_same, get_or-set_other, set_out, ext_get_or}
 use borrow.Author.Tests.{eq-eqb, ne_eqb, lt-ltb, le-ltb, le-leb}
@@ -20,8 +20,8 @@ use Rattle.lists.specs.Lists.{keep, any, foldl}
 use Rattle.lists.specs.Ranges.{ascending, first_none, Lowest, those_end, those_none}
 use Rattle.lists.proofs.Ranges.{those_ascend, those_first, those_lowest, those_empty, those_fit, those_any, those_same, keep_those, count_either, count_more}
 use Rattle.lists.specs.Ranges.{both, either}
-use Rattle.key_set.specs.declared.Found.{Found}
-use Rattle.key_set.specs.declared.Found.TheVariants.{Key, Nothing}
+use Rattle.std.specs.Prelude.{Some, None, is_some, not}
+use Rattle.std.specs.Prelude as code
 use Rattle.key_set.specs.Views.{found_of}
 use Rattle.key_set.specs.Sets.{capacity, bit, has, keys_from, keys_of, lowest_from, size_of, is_empty_of, no_keys, insert_key, union_of, only_keys}
 
@@ -74,10 +74,6 @@ bit_half x j = ap (λ (n : ℕ). n % 2) (ap (λ (n : ℕ). x / n) (pow-succ' 2 j
 
 pub half_lt : {x : ℕ} (n : ℕ) → x < 2 ^ suc n → x / 2 < 2 ^ n
 half_lt {x} n h = shr_lt n 1 (subst (λ (m : ℕ). x < 2 ^ m) (sym (add-one n)) h)
-
--- `1 << b`
-pub one_shl : (b : ℕ) → b < 64 → 1 * 2 ^ b % 2 ^ 64 ≡ 2 ^ b
-one_shl b h = shl_exact 1 b 64 (omega arith) (omega arith) ∙ one-mul (2 ^ b)
 
 -- ---- sets
 
@@ -271,11 +267,11 @@ pub keys_ext : (us vs : List ℕ) → length us ≡ length vs → ((i : ℕ) →
 keys_ext us vs e hu hv k = set_ext us vs e hu hv (λ j. sym (keys_has us j) ∙ ap (any (eqb j)) k ∙ keys_has vs j)
 
 -- what an answer of `lowest_from` says
-module _ {f : Found} {o : Option ℕ} where
-  pub told_key : {j : ℕ} → f ≡ Key j → found_of f ≡ o → some j ≡ o
+module _ {f : code.Option ℕ} {o : Option ℕ} where
+  pub told_key : {j : ℕ} → f ≡ Some j → found_of f ≡ o → some j ≡ o
   told_key e h = sym (ap found_of e) ∙ h
 
-  pub told_nothing : f ≡ Nothing → found_of f ≡ o → none ≡ o
+  pub told_nothing : f ≡ None → found_of f ≡ o → none ≡ o
   told_nothing e h = sym (ap found_of e) ∙ h
 
 -- what the lowest key at or above k says of the keys from k on
@@ -330,15 +326,15 @@ over_keys ws (suc n) k h = go (lowest_from ws k) refl (over_keys ws n)
         let l = lowest_key ws k e in
         rw (ih (m + 1) (omega (arith, l.is.from))) (sym l.on)
 
--- a fold over the keys from k on, as a loop by `lowest_from` takes it
-module _ {B : Type 0} (f : B → ℕ → B) (ws : List ℕ) (k : ℕ) {b a : B} (same : foldl f b (keys_from ws k) ≡ a) where
-  pub fold_end : none ≡ lowest_from ws k → b ≡ a
+-- a fold over the keys that are left, l, as a loop over `keys` takes it: none is left, or one is given and m are left
+module _ {B : Type 0} (f : B → ℕ → B) {b a : B} {l : List ℕ} (same : foldl f b l ≡ a) where
+  pub fold_end : l ≡ [] → b ≡ a
   unfolding foldl
-  fold_end e = rw (← same, lowest_none ws k e)
+  fold_end e = rw (← same, e)
 
-  pub fold_key : {j : ℕ} {c : B} → some j ≡ lowest_from ws k → c ≡ f b j → foldl f c (keys_from ws (j + 1)) ≡ a
+  pub fold_key : {j : ℕ} {m : List ℕ} {c : B} → l ≡ j ∷ m → c ≡ f b j → foldl f c m ≡ a
   unfolding foldl
-  fold_key e g = rw (g, ← same, (lowest_key ws k e).on)
+  fold_key e g = rw (g, ← same, e)
 
 -- ---- the keys that pass a test
 
@@ -436,6 +432,13 @@ module _ (ws : List ℕ) where
   pub empty_yes : none ≡ lowest_from ws 0 → true ≡ is_empty_of ws
   unfolding is_empty_of size_of
   empty_yes e = rw (lowest_none ws 0 e)
+
+  -- as `is_none` and `is_some` answer of the lowest key
+  pub empty_told : (f : code.Option ℕ) (r : Bool) → is_some f ≡ not r → found_of f ≡ lowest_from ws 0 → r ≡ is_empty_of ws
+  empty_told (Some j) false s e = empty_no e
+  empty_told (Some j) true s e = no_way (sym s)
+  empty_told None true s e = empty_yes e
+  empty_told None false s e = no_way s
 
   pub empty_has : is_empty_of ws ≡ true → (k : ℕ) → has ws k ≡ false
   empty_has e k = go (lowest_from ws 0) refl

@@ -4,8 +4,9 @@
 #![tactic(auto)]
 
 ghost use Rattle.std.specs.Prelude.{◌≡◌, cond, ◌/◌, ◌%◌, ◌^◌, eqb};
-ghost use Rattle.key_set.specs.Sets.{no_keys, has, insert_key, union_of, lowest_from, size_of, is_empty_of, word_count};
-ghost use Rattle.key_set.specs.Views.{found_of};
+ghost use Rattle.std.specs.Iterator.{YieldsFirst, item_count};
+ghost use Rattle.key_set.specs.Sets.{no_keys, has, keys_of, insert_key, union_of, lowest_from, size_of, is_empty_of, word_count};
+ghost use Rattle.key_set.specs.Views.{found_of, keys_left};
 
 // How many words a set has; `word_count` of specs/ says the same.
 pub const WORDS: usize = 2;
@@ -19,21 +20,32 @@ pub struct KeySet {
     pub words: [u64; WORDS],
 }
 
-// A key, or none.
+// The keys of a set from `at` on, ascending.
 #[derive(Clone, Copy)]
-pub enum Found {
-    Key(usize),
-    Nothing,
+pub struct Keys {
+    set: KeySet,
+    at: usize,
+}
+
+impl Iterator for Keys {
+    type Item = usize;
+
+    ghost next_gives = { YieldsFirst keys_left };
+
+    ghost remaining = { item_count keys_left };
+
+    fn next(&mut self) -> Option<usize> {
+        let k = self.set.lowest_from(self.at)?;
+        self.at = k + 1;
+        Some(k)
+    }
 }
 
 // Key k's bit in word i: 0 in any word but its own.
 fn bit_in(k: usize, i: usize) -> u64
     ensures { result ≡ cond (eqb (k / 64) i) (2 ^ (k % 64)) 0 }
 {
-    if k / 64 == i {
-        return 1 << (k % 64);
-    }
-    0
+    if k / 64 == i { 1 << (k % 64) } else { 0 }
 }
 
 impl KeySet {
@@ -46,13 +58,7 @@ impl KeySet {
     pub fn contains(self, k: usize) -> bool
         ensures { result ≡ has self.words k }
     {
-        let i = k / 64;
-        if i < WORDS {
-            let w = self.words[i];
-            let b = k % 64;
-            return (w >> b) % 2 == 1;
-        }
-        false
+        k / 64 < WORDS && (self.words[k / 64] >> (k % 64)) % 2 == 1
     }
 
     // Word by word: a word written at a computed place would keep the set out of registers.
@@ -60,11 +66,8 @@ impl KeySet {
         ensures { result.words ≡ insert_key self.words k }
     {
         let mut next = self;
-        let mut i = 0;
-        while i < WORDS {
-            let w = next.words[i];
-            next.words[i] = w | bit_in(k, i);
-            i += 1;
+        for (i, w) in next.words.iter_mut().enumerate() {
+            *w |= bit_in(k, i);
         }
         next
     }
@@ -72,47 +75,42 @@ impl KeySet {
     pub fn insert_if(self, test: bool, k: usize) -> Self
         ensures { result.words ≡ cond test (insert_key self.words k) self.words }
     {
-        if test {
-            return self.insert(k);
-        }
-        self
+        if test { self.insert(k) } else { self }
     }
 
     pub fn union(self, other: KeySet) -> Self
         ensures { result.words ≡ union_of self.words other.words }
     {
         let mut next = self;
-        let mut i = 0;
-        while i < WORDS {
-            let a = next.words[i];
-            let b = other.words[i];
-            next.words[i] = a | b;
-            i += 1;
+        for (i, w) in next.words.iter_mut().enumerate() {
+            *w |= other.words[i];
         }
         next
     }
 
-    // The lowest key at or above k, by trailing zeros: the one way to go over a set.
-    pub fn lowest_from(self, k: usize) -> Found
+    // The keys, ascending: the one way to go over a set.
+    pub fn keys(self) -> Keys
+        ensures { keys_left result ≡ keys_of self.words }
+    {
+        Keys { set: self, at: 0 }
+    }
+
+    // The lowest key at or above k, by trailing zeros.
+    pub fn lowest_from(self, k: usize) -> Option<usize>
         ensures { found_of result ≡ lowest_from self.words k }
     {
         let mut at = k;
-        let mut i = 0;
-        while i < WORDS {
-            let w = self.words[i];
-            i += 1;
-            let end = i * 64;
+        for (i, w) in self.words.iter().enumerate() {
+            let end = (i + 1) * 64;
             if at < end {
                 let rest = w >> (at % 64);
                 if rest != 0 {
-                    let zeros = u64::trailing_zeros(rest) as usize;
-                    let key = at + zeros;
-                    return Found::Key(key);
+                    return Some(at + rest.trailing_zeros() as usize);
                 }
                 at = end;
             }
         }
-        Found::Nothing
+        None
     }
 
     // How many keys the set has, by the ones of its words.
@@ -120,11 +118,8 @@ impl KeySet {
         ensures { result ≡ size_of self.words }
     {
         let mut n = 0;
-        let mut i = 0;
-        while i < WORDS {
-            let w = self.words[i];
-            n += u64::count_ones(w) as usize;
-            i += 1;
+        for w in self.words {
+            n += w.count_ones() as usize;
         }
         n
     }
@@ -132,10 +127,6 @@ impl KeySet {
     pub fn is_empty(self) -> bool
         ensures { result ≡ is_empty_of self.words }
     {
-        let f = self.lowest_from(0);
-        match f {
-            Found::Key(_) => false,
-            Found::Nothing => true,
-        }
+        self.lowest_from(0).is_none()
     }
 }

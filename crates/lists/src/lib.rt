@@ -9,8 +9,5 @@ ghost use Rattle.lists.specs.Tests.{bit_of};
 pub fn bit(b: bool) -> u64
     ensures { (result ≡ bit_of b) × (result < 2) }
 {
-    if b {
-        return 1;
-    }
-    0
+    u64::from(b)
 }

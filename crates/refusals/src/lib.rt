@@ -1,12 +1,12 @@
-// What a call answers instead of its result: document 01, "Numbers of refusal"; and `Outcome`, done or a refusal, the only one there is.
-// A new number comes in here: a case of `Refusal`, in `number_of` and in `number_of`. Images and records have types of their own.
+// What a call answers instead of its result: document 01, "Numbers of refusal". A call that has no result answers `Result<(), Refusal>`.
+// A new number comes in here: a case of `Refusal`, in `u8::from` and in `number_of`. Images and records have types of their own.
 #![tactic(auto)]
 
 ghost use Rattle.std.specs.Prelude.{◌≡◌};
 ghost use Rattle.refusals.specs.Refusals.{number_of};
 
 // One case for each number that a call may answer. Refusals of an image and of a record have types of their own.
-#[derive(Clone, Copy)]
+#[derive(Clone, Copy, PartialEq, Eq)]
 pub enum Refusal {
     // a key the table lacks
     Key,
@@ -24,24 +24,19 @@ pub enum Refusal {
     StateRule,
 }
 
-// Done, or the refusal.
-#[derive(Clone, Copy)]
-pub enum Outcome {
-    Done,
-    Refused(Refusal),
-}
-
 // The refusal's number in document 01.
-pub fn number_of(refusal: Refusal) -> u8
-    ensures { result ≡ number_of refusal }
-{
-    match refusal {
-        Refusal::Key => 5,
-        Refusal::ArgumentTag => 6,
-        Refusal::MappedTag => 7,
-        Refusal::Waiting => 8,
-        Refusal::Held => 9,
-        Refusal::TargetMode => 10,
-        Refusal::StateRule => 11,
+impl From<Refusal> for u8 {
+    ghost from_gives = { λ refusal n. n ≡ number_of refusal };
+
+    fn from(refusal: Refusal) -> u8 {
+        match refusal {
+            Refusal::Key => 5,
+            Refusal::ArgumentTag => 6,
+            Refusal::MappedTag => 7,
+            Refusal::Waiting => 8,
+            Refusal::Held => 9,
+            Refusal::TargetMode => 10,
+            Refusal::StateRule => 11,
+        }
     }
 }

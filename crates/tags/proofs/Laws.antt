@@ -3,21 +3,19 @@
 -- Assumes nothing.
 use Prim.Native.Nat.{ℕ, zero, suc, ◌+◌, ◌-◌, ◌<◌, ◌≤◌, zero-le}
 use mathlib.Core.Path.{◌≡◌, refl, sym, ap, ◌∙◌}
-use mathlib.Core.Bool.{Bool, true, false, cond, ◌&&◌}
-use lib.Dec.{ltb, eqb}
+use mathlib.Core.Logic.{◌⊎◌, inl, inr}
+use mathlib.Core.Bool.{Bool, true, false, cond, not, ◌&&◌}
+use lib.Dec.{ltb, leb, eqb}
 use lib.IntN.{ℤ, pos, negsuc, neg_ℤ, sub_ℕ, ◌+ℤ◌, ◌-ℤ◌, +ℤ_assoc}
 use native.Mathlib.Omega.{arith}
 use borrow.Author.Tests.{lt-ltb, le-ltb, le-leb, lt-leb, eq-eqb, ne_eqb, leb-true, ltb-false, eqb-true}
 use Rattle.lists.specs.Tests.{gt_ltb, gt_eqb, flag, flag_no, flag_yes, and_left, and_right}
-use Rattle.lists.specs.Walk.{done, refused}
+use Rattle.lists.specs.Walk.{Result, done, refused}
 use Rattle.refusals.specs.declared.Refusal.{Refusal}
 use Rattle.refusals.specs.declared.Refusal.TheVariants.{ArgumentTag, MappedTag, StateRule}
 use Rattle.tags.specs.Tags.{Tag, Clock, Answer, at, max_offset, max_microstep, within, within_clock, same_tag, earlier, delayed, shifted}
-use Rattle.tags.specs.Tags.{MappedAnswer, flagged, held_back, placed, settled_tag, checked, to_local, to_global, global_to_local, local_to_global}
-use Rattle.tags.specs.Views.{of_fields, answered, wide, place_of, place_at, settled_at, placed_at}
-use Rattle.tags.specs.declared.Fields.{Fields}
-use Rattle.tags.specs.declared.Settled.{Settled}
-use Rattle.tags.specs.declared.Settled.TheVariants as S
+use Rattle.tags.specs.Tags.{MappedAnswer, held_back, placed, settled_tag, checked, to_local, to_global}
+use Rattle.tags.specs.Views.{wide, place_of, place_at, settled_at, held_at, placed_at}
 use Rattle.tags.specs.declared.Place.{Place}
 use Rattle.tags.specs.declared.Place.TheVariants.{Below, Beyond, At}
 
@@ -30,6 +28,16 @@ within_offset t e = leb-true _ _ (and_left _ _ e)
 pub within_both : (t : Tag) → t.offset ≤ max_offset → t.microstep ≤ max_microstep → within t ≡ true
 unfolding within
 within_both t h k = simp (le-leb _ _ h, le-leb _ _ k)
+
+-- as the code tests them, of the tag's two fields
+module _ (t : Tag) {o : ℕ} (e : o ≡ t.offset) where
+  pub within_left : {m : ℕ} → m ≡ t.microstep → o ≤ max_offset → leb m max_microstep ≡ within t
+  unfolding within
+  within_left k h = let l : t.offset ≤ max_offset = omega arith in simp (le-leb _ _ l) (rw k)
+
+  pub within_past : max_offset < o → leb o max_offset ≡ within t
+  unfolding within
+  within_past h = let l : max_offset < t.offset = omega arith in rw e (simp (lt-leb _ _ l))
 
 pub within_not_offset : (t : Tag) → max_offset < t.offset → within t ≡ false
 unfolding within
@@ -63,16 +71,6 @@ pub clock_not_G : (c : Clock) → within c.G ≡ false → false ≡ within_cloc
 unfolding within_clock
 clock_not_G c g = simp g
 
-pub ruleset clocks = (clock_all, clock_not_L, clock_not_G, flag)
-
-pub level_yes : {b r : Bool} (a : Bool) → r ≡ b → r ≡ true → a ≡ (b && a)
-level_yes a p q = rw (flag p q)
-
-pub level_no : {b r : Bool} (a : Bool) → r ≡ b → r ≡ false → false ≡ (b && a)
-level_no a p q = rw (flag p q)
-
-pub ruleset levels = (level_yes, level_no)
-
 -- ---- equal tags
 
 pub same_tag_lem : (t u : Tag) → same_tag t u ≡ true → t ≡ u
@@ -89,57 +87,26 @@ pub delayed_six : (t : Tag) → within t ≡ false → refused ArgumentTag ≡ d
 unfolding delayed
 delayed_six t w = simp w
 
-pub delayed_more : (t : Tag) {n : ℕ} {a : Answer} → n ≡ max_microstep → within t ≡ true → t.microstep < n → a ≡ done (at t.offset (t.microstep + 1)) → a ≡ delayed t
-unfolding delayed
-delayed_more t q w h e = let k : t.microstep < max_microstep = omega arith in simp (w, lt-ltb _ _ k) e
+module _ (t : Tag) {m : ℕ} (w : within t ≡ true) (e : m ≡ t.microstep) where
+  pub delayed_more : {o : ℕ} {u : Tag} → m < max_microstep → o ≡ t.offset → u ≡ at o (m + 1) → done u ≡ delayed t
+  unfolding delayed
+  delayed_more h q f = let k : t.microstep < max_microstep = omega arith in simp (w, lt-ltb _ _ k) (rw (f, q, e))
 
-pub delayed_over : (t : Tag) {n : ℕ} → n ≡ max_microstep → within t ≡ true → n ≤ t.microstep → refused MappedTag ≡ delayed t
-unfolding delayed
-delayed_over t q w h = let k : max_microstep ≤ t.microstep = omega arith in simp (w, le-ltb _ _ k)
-
-pub ruleset delays = (delayed_six, delayed_more, delayed_over, flag)
-
--- ---- an answer taken over from one scale's fields to the other type
-
-module _ {s : Settled} {a : Answer} where
-  pub answered_tag : {t : Fields} → s ≡ S.Tag t → answered s ≡ a → done (of_fields t) ≡ a
-  answered_tag e h = sym (ap answered e) ∙ h
-
-  pub answered_refused : {n : Refusal} → s ≡ S.Refused n → answered s ≡ a → refused n ≡ a
-  answered_refused e h = sym (ap answered e) ∙ h
-
-pub ruleset answers = (answered_tag, answered_refused, refl)
-
-module _ (s : Settled) (held : Bool) where
-  pub flagged_tag : {t : Fields} → s ≡ S.Tag t → done (record { tag = of_fields t; held = held }) ≡ flagged held (answered s)
-  flagged_tag e = rw e
-
-  pub flagged_refused : {n : Refusal} → s ≡ S.Refused n → refused n ≡ flagged held (answered s)
-  flagged_refused e = rw e
-
-pub ruleset flaggeds = (flagged_tag, flagged_refused)
+  pub delayed_over : max_microstep ≤ m → refused MappedTag ≡ delayed t
+  unfolding delayed
+  delayed_over h = let k : max_microstep ≤ t.microstep = omega arith in simp (w, le-ltb _ _ k)
 
 -- ---- a place
 
-pub settled_tag_lem : (p : Place) {o m a b : ℕ} → a ≡ max_offset → b ≡ max_microstep → p ≡ At o m → o ≤ a → m ≤ b → done (at o m) ≡ settled_at p
-settled_tag_lem p {o} {m} x y e h k = let i : o ≤ max_offset = omega arith in let j : m ≤ max_microstep = omega arith in rw e (simp (within_both _ i j))
+module _ (p : Place) {o m : ℕ} (e : p ≡ At o m) where
+  pub settled_tag_lem : {u : Tag} → o ≤ max_offset → m ≤ max_microstep → u ≡ at o m → done u ≡ settled_at p
+  settled_tag_lem h k f = rw (e, f) (simp (within_both (at o m) h k))
 
-pub settled_below : (p : Place) → p ≡ Below → refused MappedTag ≡ settled_at p
-settled_below p e = rw e
+  pub settled_offset : max_offset < o → refused MappedTag ≡ settled_at p
+  settled_offset h = rw e (simp (within_not_offset (at o m) h))
 
-pub settled_beyond : (p : Place) → p ≡ Beyond → refused MappedTag ≡ settled_at p
-settled_beyond p e = rw e
-
-pub settled_offset : (p : Place) {o m a : ℕ} → a ≡ max_offset → p ≡ At o m → a < o → refused MappedTag ≡ settled_at p
-settled_offset p {o} {m} x e h = let i : max_offset < o = omega arith in rw e (simp (within_not_offset (at o m) i))
-
-pub settled_microstep : (p : Place) {o m a b : ℕ} → a ≡ max_offset → b ≡ max_microstep → p ≡ At o m → o ≤ a → b < m → refused MappedTag ≡ settled_at p
-settled_microstep p {o} {m} x y e h k =
-    let i : o ≤ max_offset = omega arith in
-    let j : max_microstep < m = omega arith in
-    rw e (simp (within_not_microstep (at o m) i j))
-
-pub ruleset settles = (settled_tag_lem, settled_below, settled_beyond, settled_offset, settled_microstep)
+  pub settled_microstep : o ≤ max_offset → max_microstep < m → refused MappedTag ≡ settled_at p
+  settled_microstep h k = rw e (simp (within_not_microstep (at o m) h k))
 
 -- a + (x - b), with its sign
 minus : (n b : ℕ) → pos n -ℤ pos b ≡ sub_ℕ n b
@@ -150,71 +117,68 @@ moved : (a x b : ℕ) → pos a +ℤ (pos x -ℤ pos b) ≡ sub_ℕ (a + x) b
 moved a x b = sym (+ℤ_assoc (pos a) (pos x) (neg_ℤ (pos b))) ∙ minus (a + x) b
 
 module _ (to from x : Tag) where
-  pub step_shifted :
-      {m : ℕ} → x.offset ≡ from.offset → from.microstep ≤ x.microstep → m ≡ to.microstep + (x.microstep - from.microstep) → m ≡ (shifted to from x).microstep
-  unfolding shifted
-  step_shifted e h = simp (eq-eqb _ _ e, le-leb _ _ h) λ k. k
-
-  pub step_apart : {m : ℕ} → (x.offset ≡ from.offset → ⊥) → m ≡ x.microstep → m ≡ (shifted to from x).microstep
-  unfolding shifted
-  step_apart e = simp (ne_eqb _ _ e) λ k. k
-
-  pub step_own : {m : ℕ} → x.offset ≡ from.offset → x.microstep < from.microstep → m ≡ x.microstep → m ≡ (shifted to from x).microstep
-  unfolding shifted
-  step_own e h = simp (eq-eqb _ _ e, lt-leb _ _ h) λ k. k
-
-  -- in the code's four cases: L is at or before G's offset, or behind it
-  module _ (h : from.offset ≤ to.offset) where
-    pub shifted_beyond : 18446744073709551615 - (to.offset - from.offset) < x.offset → Beyond ≡ place_of (shifted to from x)
+  -- the code's two tests, of x's offset d and from's e, of from's microstep b and x's c
+  module _ {b c d e : ℕ} (q : b ≡ from.microstep) (r : c ≡ x.microstep) (u : d ≡ x.offset) (v : e ≡ from.offset) where
+    pub step_shifted : {a m : ℕ} → a ≡ to.microstep → d ≡ e → b ≤ c → m ≡ a + (c - b) → m ≡ (shifted to from x).microstep
     unfolding shifted
-    shifted_beyond b =
+    step_shifted p w h k =
+        let y : x.offset ≡ from.offset = omega arith in
+        let z : from.microstep ≤ x.microstep = omega arith in
+        simp (eq-eqb _ _ y, le-leb _ _ z) (omega arith)
+
+    pub step_own : {m : ℕ} → ((d ≡ e) × (c < b)) ⊎ (d ≡ e → ⊥) → m ≡ c → m ≡ (shifted to from x).microstep
+    unfolding shifted
+    step_own {m = m} w k = go w
+      where
+        go : ((d ≡ e) × (c < b)) ⊎ (d ≡ e → ⊥) → m ≡ (shifted to from x).microstep
+        go (inl w) =
+            let y : x.offset ≡ from.offset = omega arith in
+            let z : x.microstep < from.microstep = omega arith in
+            simp (eq-eqb _ _ y, lt-leb _ _ z) (k ∙ r)
+        go (inr w) = let n : x.offset ≡ from.offset → ⊥ = (λ f. w (omega arith)) in simp (ne_eqb _ _ n) (k ∙ r)
+
+  -- in the code's four cases, of the offsets a, b and c: from's is at or before to's, or behind it
+  module _ {a b c : ℕ} (p : a ≡ to.offset) (q : b ≡ from.offset) (r : c ≡ x.offset) where
+    pub shifted_beyond : b ≤ a → (c + (a - b) < wide → ⊥) → Beyond ≡ place_of (shifted to from x)
+    unfolding shifted
+    shifted_beyond h k =
         let l : from.offset ≤ to.offset + x.offset = omega arith in
-        let g : wide ≤ to.offset + x.offset - from.offset = omega arith in
+        let g : wide ≤ to.offset + x.offset - from.offset = omega (arith, k) in
         simp (moved, le-ltb _ _ l, le-ltb _ _ g)
 
-    pub shifted_ahead :
-        {k : Place} {m : ℕ} → to.offset < wide → x.offset ≤ 18446744073709551615 - (to.offset - from.offset) → m ≡ (shifted to from x).microstep →
-        k ≡ At (to.offset - from.offset + x.offset) m → k ≡ place_of (shifted to from x)
+    pub shifted_ahead : b ≤ a → {o m : ℕ} → (c + (a - b) < wide) × (o ≡ c + (a - b)) → m ≡ (shifted to from x).microstep → At o m ≡ place_of (shifted to from x)
     unfolding shifted
-    shifted_ahead w b e r =
+    shifted_ahead h k e =
         let l : from.offset ≤ to.offset + x.offset = omega arith in
         let g : to.offset + x.offset - from.offset < wide = omega arith in
-        let q : to.offset - from.offset + x.offset ≡ to.offset + x.offset - from.offset = omega arith in
-        r ∙ rw (q, e) (simp (moved, le-ltb _ _ l, lt-ltb _ _ g))
+        let w : c + (a - b) ≡ to.offset + x.offset - from.offset = omega arith in
+        rw (k.1, w, e) (simp (moved, le-ltb _ _ l, lt-ltb _ _ g))
 
-  module _ (h : to.offset < from.offset) where
-    pub shifted_below : x.offset < from.offset - to.offset → Below ≡ place_of (shifted to from x)
+    pub shifted_below : a < b → (b - a ≤ c → ⊥) → Below ≡ place_of (shifted to from x)
     unfolding shifted
-    shifted_below b = let l : to.offset + x.offset < from.offset = omega arith in simp (moved, lt-ltb _ _ l)
+    shifted_below h k = let l : to.offset + x.offset < from.offset = omega (arith, k) in simp (moved, lt-ltb _ _ l)
 
-    pub shifted_behind :
-        {k : Place} {m : ℕ} → x.offset < wide → from.offset - to.offset ≤ x.offset → m ≡ (shifted to from x).microstep →
-        k ≡ At (x.offset - (from.offset - to.offset)) m → k ≡ place_of (shifted to from x)
+    pub shifted_behind : a < b → c < wide → {o m : ℕ} → (b - a ≤ c) × (o ≡ c - (b - a)) → m ≡ (shifted to from x).microstep → At o m ≡ place_of (shifted to from x)
     unfolding shifted
-    shifted_behind w b e r =
+    shifted_behind h f k e =
         let l : from.offset ≤ to.offset + x.offset = omega arith in
         let g : to.offset + x.offset - from.offset < wide = omega arith in
-        let q : x.offset - (from.offset - to.offset) ≡ to.offset + x.offset - from.offset = omega arith in
-        r ∙ rw (q, e) (simp (moved, le-ltb _ _ l, lt-ltb _ _ g))
+        let w : c - (b - a) ≡ to.offset + x.offset - from.offset = omega arith in
+        rw (k.1, w, e) (simp (moved, le-ltb _ _ l, lt-ltb _ _ g))
 
-pub ruleset shifts = (shifted_beyond, shifted_ahead, shifted_below, shifted_behind)
+-- ---- held back
 
-pub ruleset steps = (step_shifted, step_apart, step_own)
+-- a place is earlier than G, or is G: r and s are what the code's two tests answered
+module _ (G : Tag) (allowed : Bool) (p : Place) {o m : ℕ} (e : p ≡ At o m) {r : Bool} (b : r ≡ earlier (at o m) G) where
+  pub held_before : r ≡ true → r ≡ held_at G allowed p
+  held_before y = rw (e, ← b, y)
 
-module _ (G : Tag) (allowed : Bool) (p : Place) {a : MappedAnswer} {t : Answer} where
-  pub placed_below : p ≡ Below → t ≡ delayed G → a ≡ flagged true t → a ≡ placed_at G allowed p
-  placed_below e d h = h ∙ (ap (flagged true) d ∙ rw e)
+  module _ {s : Bool} (c : s ≡ same_tag (at o m) G) (n : r ≡ false) where
+    pub held_same : s ≡ true → not allowed ≡ held_at G allowed p
+    held_same y = rw (e, ← b, ← c, n, y)
 
-  pub placed_held : {o m : ℕ} → p ≡ At o m → held_back G allowed (at o m) ≡ true → t ≡ delayed G → a ≡ flagged true t → a ≡ placed_at G allowed p
-  placed_held e b d h = h ∙ (ap (flagged true) d ∙ rw e (simp b))
-
-  pub placed_late : {o m : ℕ} → p ≡ At o m → held_back G allowed (at o m) ≡ false → t ≡ settled_at (At o m) → a ≡ flagged false t → a ≡ placed_at G allowed p
-  placed_late e b d h = h ∙ (ap (flagged false) d ∙ rw e (simp b))
-
-pub placed_beyond : (G : Tag) (allowed : Bool) (p : Place) → p ≡ Beyond → refused MappedTag ≡ placed_at G allowed p
-placed_beyond G allowed p e = rw e
-
-pub ruleset places = (placed_below, placed_beyond, placed_held, placed_late, flag)
+    pub held_not : s ≡ false → s ≡ held_at G allowed p
+    held_not y = rw (e, ← b, ← c, n, y)
 
 -- what the code keeps of a place is all that matters
 past_limit : (o m : ℕ) → wide ≤ o → within (at o m) ≡ false
@@ -242,6 +206,40 @@ placed_place : (G : Tag) (allowed : Bool) (o : ℤ) (m : ℕ) → G.offset < wid
 placed_place G allowed (pos o) m g = placed_pos G allowed o m (ltb o wide) g refl
 placed_place G allowed (negsuc o) m g = refl
 
+-- ---- the calls: the clock, then the tag, then the answer
+
+module _ (c : Clock) (t : Tag) where
+  pub checked_clock : within_clock c ≡ false → refused StateRule ≡ checked {A = Unit {0}} c t (done tt)
+  unfolding checked
+  checked_clock w = simp w
+
+  pub checked_tag : within_clock c ≡ true → within t ≡ false → refused ArgumentTag ≡ checked {A = Unit {0}} c t (done tt)
+  unfolding checked
+  checked_tag w v = simp (w, v)
+
+  pub checked_both : within_clock c ≡ true → within t ≡ true → done tt ≡ checked {A = Unit {0}} c t (done tt)
+  unfolding checked
+  checked_both w v = simp (w, v)
+
+  module _ {A : Type 0} (a : Result Refusal A) where
+    pub checked_err : {r : Refusal} → refused r ≡ checked {A = Unit {0}} c t (done tt) → refused r ≡ checked c t a
+    unfolding checked
+    checked_err {r} e = go (within_clock c) (within t) e
+      where
+        go : (w v : Bool) → ◌≡◌ {A = Result Refusal (Unit {0})} (refused r) (cond w (cond v (done tt) (refused ArgumentTag)) (refused StateRule)) → refused r ≡ cond w (cond v a (refused ArgumentTag)) (refused StateRule)
+        go true true e = cc
+        go true false e = cc
+        go false v e = cc
+
+    pub checked_ok : done tt ≡ checked {A = Unit {0}} c t (done tt) → a ≡ checked c t a
+    unfolding checked
+    checked_ok e = go (within_clock c) (within t) e
+      where
+        go : (w v : Bool) → ◌≡◌ {A = Result Refusal (Unit {0})} (done tt) (cond w (cond v (done tt) (refused ArgumentTag)) (refused StateRule)) → a ≡ cond w (cond v a (refused ArgumentTag)) (refused StateRule)
+        go true true e = refl
+        go true false e = cc
+        go false v e = cc
+
 -- ---- the maps
 
 module _ (c : Clock) (g : Tag) where
@@ -256,19 +254,7 @@ module _ (c : Clock) (g : Tag) where
       let u = shifted c.L c.G g in
       simp s (k ∙ h ∙ ap settled_at e ∙ settled_place u.offset u.microstep)
 
-  pub local_11 : within_clock c ≡ false → refused StateRule ≡ global_to_local c g
-  unfolding global_to_local checked
-  local_11 w = simp w
-
-  pub local_6 : within_clock c ≡ true → within g ≡ false → refused ArgumentTag ≡ global_to_local c g
-  unfolding global_to_local checked
-  local_6 w t = simp (w, t)
-
-  pub local_checked : {a : Answer} → within_clock c ≡ true → within g ≡ true → a ≡ to_local c g → a ≡ global_to_local c g
-  unfolding global_to_local checked
-  local_checked w t h = simp (w, t) h
-
-pub ruleset locals = (local_level, local_shifted, local_11, local_6, local_checked, flag, flag_no, flag_yes)
+pub ruleset locals = (local_level, local_shifted, flag)
 
 module _ (c : Clock) (x : Tag) where
   pub global_identity : (same_tag c.G c.L && c.allowed) ≡ true → done (record { tag = x; held = false }) ≡ to_global c x
@@ -283,16 +269,4 @@ module _ (c : Clock) (x : Tag) where
       let u = shifted c.G c.L x in
       simp s (h ∙ (ap (placed_at c.G c.allowed) e ∙ placed_place c.G c.allowed u.offset u.microstep g))
 
-  pub global_11 : within_clock c ≡ false → refused StateRule ≡ local_to_global c x
-  unfolding local_to_global checked
-  global_11 w = simp w
-
-  pub global_6 : within_clock c ≡ true → within x ≡ false → refused ArgumentTag ≡ local_to_global c x
-  unfolding local_to_global checked
-  global_6 w t = simp (w, t)
-
-  pub global_checked : {a : MappedAnswer} → within_clock c ≡ true → within x ≡ true → a ≡ to_global c x → a ≡ local_to_global c x
-  unfolding local_to_global checked
-  global_checked w t h = simp (w, t) h
-
-pub ruleset globals = (global_identity, global_shifted, global_11, global_6, global_checked, flag, flag_no, flag_yes)
+pub ruleset globals = (global_identity, global_shifted, flag)

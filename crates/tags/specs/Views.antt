@@ -1,25 +1,17 @@
 -- The code's values as document 01's: one line for each type, and what the code's steps between mean. Assumes nothing.
-use Rattle.std.specs.Prelude.{ℕ, Bool, true, cond, ltb, ℤ, pos, negsuc}
-use Rattle.lists.specs.Walk.{done, refused}
+use Rattle.std.specs.Prelude.{ℕ, Bool, true, false, cond, ltb, ℤ, pos, negsuc, Ok, Err}
+use Rattle.std.specs.Prelude as code
+use Rattle.lists.specs.Walk.{Result, done, refused}
+use Rattle.refusals.specs.declared.Refusal.{Refusal}
 use Rattle.refusals.specs.declared.Refusal.TheVariants.{MappedTag}
 use Rattle.tags.specs.declared.GlobalTag.{GlobalTag}
 use Rattle.tags.specs.declared.LocalTag.{LocalTag}
 use Rattle.tags.specs.declared.QueueTag.{QueueTag}
-use Rattle.tags.specs.declared.Fields.{Fields}
 use Rattle.tags.specs.declared.ScopeClock.{ScopeClock}
-use Rattle.tags.specs.declared.DelayedGlobal.{DelayedGlobal}
-use Rattle.tags.specs.declared.DelayedGlobal.TheVariants as DG
-use Rattle.tags.specs.declared.DelayedLocal.{DelayedLocal}
-use Rattle.tags.specs.declared.DelayedLocal.TheVariants as DL
-use Rattle.tags.specs.declared.MappedGlobal.{MappedGlobal}
-use Rattle.tags.specs.declared.MappedGlobal.TheVariants as MG
-use Rattle.tags.specs.declared.MappedLocal.{MappedLocal}
-use Rattle.tags.specs.declared.MappedLocal.TheVariants as ML
-use Rattle.tags.specs.declared.Settled.{Settled}
-use Rattle.tags.specs.declared.Settled.TheVariants as S
+use Rattle.tags.specs.declared.Mapped as M
 use Rattle.tags.specs.declared.Place.{Place}
 use Rattle.tags.specs.declared.Place.TheVariants.{Below, Beyond, At}
-use Rattle.tags.specs.Tags.{Tag, Clock, Answer, Shifted, MappedAnswer, at, delayed, settled_tag, flagged, placed}
+use Rattle.tags.specs.Tags.{Tag, Clock, Answer, Shifted, MappedAnswer, at, delayed, settled_tag, flagged, held_back, placed}
 
 abbrev pub of_global : GlobalTag → Tag
 of_global t = at t.0 t.1
@@ -30,9 +22,6 @@ of_local t = at t.0 t.1
 -- on whichever scale its queue has
 abbrev pub of_queue : QueueTag → Tag
 of_queue t = at t.0 t.1
-
-abbrev pub of_fields : Fields → Tag
-of_fields t = at t.0 t.1
 
 abbrev pub of_clock : ScopeClock → Clock
 of_clock c =
@@ -45,25 +34,28 @@ of_clock c =
 
 -- ---- answers: the tag, or the refusal (`number_of` of crate refusals gives its number)
 
-abbrev pub delayed_global : DelayedGlobal → Answer
-delayed_global (DG.Tag t) = done (of_global t)
-delayed_global (DG.Refused n) = refused n
+-- of any scale
+abbrev pub answered : {T : Type 0} → (T → Tag) → code.Result T Refusal → Answer
+answered f (Ok t) = done (f t)
+answered f (Err r) = refused r
 
-abbrev pub delayed_local : DelayedLocal → Answer
-delayed_local (DL.Tag t) = done (of_local t)
-delayed_local (DL.Refused n) = refused n
+-- that a clock and a tag lie within the limits
+abbrev pub of_check : code.Result Unit Refusal → Result Refusal Unit
+of_check (Ok x) = done x
+of_check (Err r) = refused r
 
-abbrev pub mapped_global : MappedGlobal → MappedAnswer
-mapped_global (MG.Tag t held) = done (record { tag = of_global t; held = held })
-mapped_global (MG.Refused n) = refused n
+abbrev pub delayed_global : code.Result GlobalTag Refusal → Answer
+delayed_global = answered of_global
 
-abbrev pub mapped_local : MappedLocal → Answer
-mapped_local (ML.Tag t) = done (of_local t)
-mapped_local (ML.Refused n) = refused n
+abbrev pub delayed_local : code.Result LocalTag Refusal → Answer
+delayed_local = answered of_local
 
-abbrev pub answered : Settled → Answer
-answered (S.Tag t) = done (of_fields t)
-answered (S.Refused n) = refused n
+abbrev pub mapped_global : code.Result M.Mapped Refusal → MappedAnswer
+mapped_global (Ok m) = done (record { tag = of_global m.tag; held = m.held })
+mapped_global (Err r) = refused r
+
+abbrev pub mapped_local : code.Result LocalTag Refusal → Answer
+mapped_local = answered of_local
 
 -- ---- places: below zero all are alike, and so are all that 64 bits don't hold
 
@@ -82,6 +74,12 @@ abbrev pub settled_at : Place → Answer
 settled_at (At o m) = settled_tag (pos o) m
 settled_at Beyond = refused MappedTag
 settled_at Below = refused MappedTag
+
+-- held back, where it is a place at all
+abbrev pub held_at : Tag → Bool → Place → Bool
+held_at G allowed (At o m) = held_back G allowed (at o m)
+held_at G allowed Beyond = false
+held_at G allowed Below = true
 
 abbrev pub placed_at : Tag → Bool → Place → MappedAnswer
 placed_at G allowed (At o m) = placed G allowed (pos o) m

@@ -1,48 +1,103 @@
 // Tags on the two scales, and the scope clock that maps between them: document 01, "a local tag is never given where a global one is due".
 // Carried over from boomerang_runtime's time.rs (`Tag`) and sched/modal.rs (`ScopeClockState`, both maps).
-// What a map answers is changed here (`MappedGlobal`, `MappedLocal`, specs/Tags); callers use the maps, and name the scale that they mean.
+// What a map answers is changed here (`Mapped`, specs/Tags); callers use the maps, and name the scale that they mean.
 #![tactic(auto)]
 
-ghost use Rattle.std.specs.Prelude.{◌≡◌, true, ◌&&◌};
-ghost use Rattle.tags.specs.Tags.{max_offset, max_microstep, within, same_tag, earlier, delayed, shifted, at};
-ghost use Rattle.tags.specs.Tags.{within_clock, flagged, held_back, held_in, to_local, to_global, global_to_local, local_to_global, fresh_clock};
-ghost use Rattle.tags.specs.Views.{of_global, of_local, of_queue, of_fields, of_clock, answered, delayed_global, delayed_local};
-ghost use Rattle.tags.specs.Views.{mapped_global, mapped_local, place_of, settled_at, placed_at};
+ghost use Rattle.std.specs.Prelude.{◌≡◌, ◌&&◌};
+ghost use Rattle.tags.specs.Tags.{Tag, within, same_tag, delayed, shifted, at};
+ghost use Rattle.lists.specs.Walk.{done};
+ghost use Rattle.tags.specs.Tags.{within_clock, checked, held_in, to_local, to_global, global_to_local, local_to_global, fresh_clock};
+ghost use Rattle.tags.specs.Views.{of_global, of_local, of_queue, of_clock, of_check, answered, mapped_global, mapped_local, place_of, settled_at, held_at, placed_at};
 
 use refusals::Refusal;
 
-// A global tag: offset in nanoseconds, microstep.
-#[derive(Clone, Copy)]
+// The limits of every scale: 2^62 - 1 nanoseconds, and the largest microstep.
+pub const MAX_OFFSET: u64 = 4611686018427387903;
+
+pub const MAX_MICROSTEP: u32 = 4294967295;
+
+// A tag's scale: offset in nanoseconds, microstep. Each scale has a type of its own, and the scales stay apart.
+pub trait Scale: Copy {
+    ghost tag: { Self → Tag };
+
+    fn new(offset: u64, microstep: u32) -> Self
+        ensures { tag result ≡ at offset microstep };
+
+    fn offset(self) -> u64
+        ensures { result ≡ (tag self).offset };
+
+    fn microstep(self) -> u32
+        ensures { result ≡ (tag self).microstep };
+
+    // The tag lies within the limits.
+    fn within(self) -> bool
+        ensures { result ≡ within (tag self) }
+    {
+        self.offset() <= MAX_OFFSET && self.microstep() <= MAX_MICROSTEP
+    }
+
+    // The tag delayed by zero: one microstep more, or 7; 6 of what is no tag.
+    fn delay(self) -> Result<Self, Refusal>
+        ensures { answered tag result ≡ delayed (tag self) }
+    {
+        if !self.within() {
+            return Err(Refusal::ArgumentTag);
+        }
+        let step = self.microstep();
+        if step < MAX_MICROSTEP {
+            Ok(Self::new(self.offset(), step + 1))
+        } else {
+            Err(Refusal::MappedTag)
+        }
+    }
+}
+
+// A global tag. Order is offset first, here and below.
+#[derive(Clone, Copy, PartialEq, Eq, PartialOrd, Ord)]
 pub struct GlobalTag(pub u64, pub u32);
 
-// A local tag: the same fields on a scope's own scale. The scales stay apart.
-#[derive(Clone, Copy)]
+impl GlobalTag {
+    pub const ZERO: GlobalTag = GlobalTag(0, 0);
+}
+
+impl Scale for GlobalTag {
+    ghost tag = { of_global };
+
+    fn new(offset: u64, microstep: u32) -> Self {
+        Self(offset, microstep)
+    }
+
+    fn offset(self) -> u64 {
+        self.0
+    }
+
+    fn microstep(self) -> u32 {
+        self.1
+    }
+}
+
+// A tag on a scope's own scale.
+#[derive(Clone, Copy, PartialEq, Eq, PartialOrd, Ord)]
 pub struct LocalTag(pub u64, pub u32);
 
-// What the delay by zero answers.
-#[derive(Clone, Copy)]
-pub enum DelayedGlobal {
-    Tag(GlobalTag),
-    Refused(Refusal),
+impl LocalTag {
+    pub const ZERO: LocalTag = LocalTag(0, 0);
 }
 
-#[derive(Clone, Copy)]
-pub enum DelayedLocal {
-    Tag(LocalTag),
-    Refused(Refusal),
-}
+impl Scale for LocalTag {
+    ghost tag = { of_local };
 
-// What a map answers: a tag of the other scale, or a refusal. To global, also whether the tag was held back: moved to G delayed by zero.
-#[derive(Clone, Copy)]
-pub enum MappedGlobal {
-    Tag(GlobalTag, bool),
-    Refused(Refusal),
-}
+    fn new(offset: u64, microstep: u32) -> Self {
+        Self(offset, microstep)
+    }
 
-#[derive(Clone, Copy)]
-pub enum MappedLocal {
-    Tag(LocalTag),
-    Refused(Refusal),
+    fn offset(self) -> u64 {
+        self.0
+    }
+
+    fn microstep(self) -> u32 {
+        self.1
+    }
 }
 
 // A scope's clock: activation global G, activation local L, allowed, suspended local S.
@@ -54,11 +109,21 @@ pub struct ScopeClock {
     pub suspended_local: LocalTag,
 }
 
-// ---- what the two scales share, on the fields alone
-
-// The fields of a tag of either scale.
+// What the map to global answers: the tag, and whether it was held back, that is moved to G delayed by zero.
 #[derive(Clone, Copy)]
-struct Fields(u64, u32);
+pub struct Mapped {
+    pub tag: GlobalTag,
+    pub held: bool,
+}
+
+// Held back; what is refused is not.
+pub fn is_held(image: Result<Mapped, Refusal>) -> bool
+    ensures { result ≡ held_in (mapped_global image) }
+{
+    image.is_ok_and(|m| m.held)
+}
+
+// ---- from one scale to the other
 
 // A place on a scale before its limits are looked at: below zero, beyond 64 bits, or an offset and a microstep.
 #[derive(Clone, Copy)]
@@ -68,256 +133,74 @@ enum Place {
     At(u64, u64),
 }
 
-// The fields of a tag within the limits, or a refusal.
-#[derive(Clone, Copy)]
-enum Settled {
-    Tag(Fields),
-    Refused(Refusal),
-}
-
-// `last` has the scale's own limits, here and below.
-fn is_within(t: Fields, last: Fields) -> bool
-    requires { (last.0 ≡ max_offset) × (last.1 ≡ max_microstep) }
-    ensures { result ≡ within (of_fields t) }
-{
-    t.0 <= last.0
-}
-
-fn is_same(t: Fields, u: Fields) -> bool
-    ensures { result ≡ same_tag (of_fields t) (of_fields u) }
-{
-    t.0 == u.0 && t.1 == u.1
-}
-
-fn is_earlier(t: Fields, u: Fields) -> bool
-    ensures { result ≡ earlier (of_fields t) (of_fields u) }
-{
-    if t.0 < u.0 {
-        return true;
-    }
-    if u.0 < t.0 {
-        return false;
-    }
-    t.1 < u.1
-}
-
-// One microstep more, or 7; 6 of what is no tag.
-fn delay(t: Fields, last: Fields) -> Settled
-    requires { (last.0 ≡ max_offset) × (last.1 ≡ max_microstep) }
-    ensures { answered result ≡ delayed (of_fields t) }
-{
-    if is_within(t, last) {
-        if t.1 < last.1 {
-            Settled::Tag(Fields(t.0, t.1 + 1))
-        } else {
-            Settled::Refused(Refusal::MappedTag)
-        }
-    } else {
-        Settled::Refused(Refusal::ArgumentTag)
-    }
-}
-
 // to + (x - from) of the microstep, where x has from's offset and at least its microstep; else x's own.
-fn shifted_step(to: Fields, from: Fields, x: Fields) -> u64
-    ensures { result ≡ (shifted (of_fields to) (of_fields from) (of_fields x)).microstep }
+fn shifted_step<T: Scale, F: Scale>(to: T, from: F, x: F) -> u64
+    ensures { result ≡ (shifted (T.tag to) (F.tag from) (F.tag x)).microstep }
 {
-    let own = x.1 as u64;
-    if x.0 == from.0 {
-        if from.1 <= x.1 {
-            return (to.1 as u64) + ((x.1 - from.1) as u64);
-        }
+    let (own, first) = (x.microstep(), from.microstep());
+    if x.offset() == from.offset() && first <= own {
+        u64::from(to.microstep()) + u64::from(own - first)
+    } else {
+        u64::from(own)
     }
-    own
 }
 
 // to + (x - from), with its sign.
-fn shift(to: Fields, from: Fields, x: Fields) -> Place
-    ensures { result ≡ place_of (shifted (of_fields to) (of_fields from) (of_fields x)) }
+fn shift<T: Scale, F: Scale>(to: T, from: F, x: F) -> Place
+    ensures { result ≡ place_of (shifted (T.tag to) (F.tag from) (F.tag x)) }
 {
     let step = shifted_step(to, from, x);
-    if from.0 <= to.0 {
-        let ahead = to.0 - from.0;
-        if 18446744073709551615 - ahead < x.0 {
-            return Place::Beyond;
+    let (to, from) = (to.offset(), from.offset());
+    if from <= to {
+        match x.offset().checked_add(to - from) {
+            Some(offset) => Place::At(offset, step),
+            None => Place::Beyond,
         }
-        return Place::At(ahead + x.0, step);
+    } else {
+        match x.offset().checked_sub(from - to) {
+            Some(offset) => Place::At(offset, step),
+            None => Place::Below,
+        }
     }
-    let behind = from.0 - to.0;
-    if x.0 < behind {
-        return Place::Below;
-    }
-    Place::At(x.0 - behind, step)
 }
 
 // A place as a tag, or 7.
-fn settle(p: Place, last: Fields) -> Settled
-    requires { (last.0 ≡ max_offset) × (last.1 ≡ max_microstep) }
-    ensures { answered result ≡ settled_at p }
+fn settle<T: Scale>(p: Place) -> Result<T, Refusal>
+    ensures { answered T.tag result ≡ settled_at p }
 {
     match p {
-        Place::Below => Settled::Refused(Refusal::MappedTag),
-        Place::Beyond => Settled::Refused(Refusal::MappedTag),
+        Place::Below | Place::Beyond => Err(Refusal::MappedTag),
         Place::At(offset, microstep) => {
-            if offset <= last.0 {
-                if microstep <= last.1 as u64 {
-                    return Settled::Tag(Fields(offset, microstep as u32));
-                }
+            if offset <= MAX_OFFSET && microstep <= u64::from(MAX_MICROSTEP) {
+                Ok(T::new(offset, microstep as u32))
+            } else {
+                Err(Refusal::MappedTag)
             }
-            Settled::Refused(Refusal::MappedTag)
         }
     }
 }
 
 // A place is earlier than G, or is G where that is not allowed.
-fn is_held_back(g: Fields, allowed: bool, offset: u64, microstep: u64) -> bool
-    ensures { result ≡ held_back (of_fields g) allowed (at offset microstep) }
+fn is_held_back(g: GlobalTag, allowed: bool, p: Place) -> bool
+    ensures { result ≡ held_at (of_global g) allowed p }
 {
-    let step = g.1 as u64;
-    if offset < g.0 {
-        return true;
-    }
-    if g.0 < offset {
-        return false;
-    }
-    if microstep < step {
-        return true;
-    }
-    if step < microstep {
-        return false;
-    }
-    !allowed
-}
-
-// A tag of the global scale, held back or not; or the refusal.
-fn as_global(s: Settled, held: bool) -> MappedGlobal
-    ensures { mapped_global result ≡ flagged held (answered s) }
-{
-    match s {
-        Settled::Tag(t) => MappedGlobal::Tag(GlobalTag(t.0, t.1), held),
-        Settled::Refused(n) => MappedGlobal::Refused(n),
+    match p {
+        Place::Below => true,
+        Place::Beyond => false,
+        Place::At(offset, microstep) => {
+            let (x, g) = ((offset, microstep), (g.0, u64::from(g.1)));
+            x < g || x == g && !allowed
+        }
     }
 }
 
 // A place that is held back becomes G delayed by zero.
-fn hold_back(g: Fields, allowed: bool, p: Place) -> MappedGlobal
-    ensures { mapped_global result ≡ placed_at (of_fields g) allowed p }
+fn hold_back(g: GlobalTag, allowed: bool, p: Place) -> Result<Mapped, Refusal>
+    ensures { mapped_global result ≡ placed_at (of_global g) allowed p }
 {
-    match p {
-        Place::Below => as_global(delay(g, GlobalTag::LAST), true),
-        Place::Beyond => MappedGlobal::Refused(Refusal::MappedTag),
-        Place::At(offset, microstep) => {
-            if is_held_back(g, allowed, offset, microstep) {
-                as_global(delay(g, GlobalTag::LAST), true)
-            } else {
-                as_global(settle(p, GlobalTag::LAST), false)
-            }
-        }
-    }
-}
-
-// ---- the two scales
-
-impl GlobalTag {
-    pub const ZERO: GlobalTag = GlobalTag(0, 0);
-
-    // 2^62 - 1 nanoseconds.
-    pub const MAX_OFFSET: u64 = 4611686018427387903;
-
-    pub const MAX_MICROSTEP: u32 = 4294967295;
-
-    const LAST: Fields = Fields(GlobalTag::MAX_OFFSET, GlobalTag::MAX_MICROSTEP);
-
-    // The tag lies within the limits.
-    pub fn within(self) -> bool
-        ensures { result ≡ within (of_global self) }
-    {
-        is_within(Fields(self.0, self.1), GlobalTag::LAST)
-    }
-
-    pub fn same(self, other: GlobalTag) -> bool
-        ensures { result ≡ same_tag (of_global self) (of_global other) }
-    {
-        is_same(Fields(self.0, self.1), Fields(other.0, other.1))
-    }
-
-    // Offset first.
-    pub fn earlier(self, other: GlobalTag) -> bool
-        ensures { result ≡ earlier (of_global self) (of_global other) }
-    {
-        is_earlier(Fields(self.0, self.1), Fields(other.0, other.1))
-    }
-
-    // The tag delayed by zero: one microstep more, or 7; 6 of what is no tag.
-    pub fn delay(self) -> DelayedGlobal
-        ensures { delayed_global result ≡ delayed (of_global self) }
-    {
-        match delay(Fields(self.0, self.1), GlobalTag::LAST) {
-            Settled::Tag(t) => DelayedGlobal::Tag(GlobalTag(t.0, t.1)),
-            Settled::Refused(n) => DelayedGlobal::Refused(n),
-        }
-    }
-}
-
-impl LocalTag {
-    pub const ZERO: LocalTag = LocalTag(0, 0);
-
-    // 2^62 - 1 nanoseconds.
-    pub const MAX_OFFSET: u64 = 4611686018427387903;
-
-    pub const MAX_MICROSTEP: u32 = 4294967295;
-
-    const LAST: Fields = Fields(LocalTag::MAX_OFFSET, LocalTag::MAX_MICROSTEP);
-
-    // The tag lies within the limits.
-    pub fn within(self) -> bool
-        ensures { result ≡ within (of_local self) }
-    {
-        is_within(Fields(self.0, self.1), LocalTag::LAST)
-    }
-
-    pub fn same(self, other: LocalTag) -> bool
-        ensures { result ≡ same_tag (of_local self) (of_local other) }
-    {
-        is_same(Fields(self.0, self.1), Fields(other.0, other.1))
-    }
-
-    // Offset first.
-    pub fn earlier(self, other: LocalTag) -> bool
-        ensures { result ≡ earlier (of_local self) (of_local other) }
-    {
-        is_earlier(Fields(self.0, self.1), Fields(other.0, other.1))
-    }
-
-    // The tag delayed by zero: one microstep more, or 7; 6 of what is no tag.
-    pub fn delay(self) -> DelayedLocal
-        ensures { delayed_local result ≡ delayed (of_local self) }
-    {
-        match delay(Fields(self.0, self.1), LocalTag::LAST) {
-            Settled::Tag(t) => DelayedLocal::Tag(LocalTag(t.0, t.1)),
-            Settled::Refused(n) => DelayedLocal::Refused(n),
-        }
-    }
-}
-
-impl MappedGlobal {
-    // Held back; what is refused is not.
-    pub fn is_held(self) -> bool
-        ensures { result ≡ held_in (mapped_global self) }
-    {
-        match self {
-            MappedGlobal::Tag(_, held) => held,
-            MappedGlobal::Refused(_) => false,
-        }
-    }
-}
-
-fn as_local(s: Settled) -> MappedLocal
-    ensures { mapped_local result ≡ answered s }
-{
-    match s {
-        Settled::Tag(t) => MappedLocal::Tag(LocalTag(t.0, t.1)),
-        Settled::Refused(n) => MappedLocal::Refused(n),
-    }
+    let held = is_held_back(g, allowed, p);
+    let tag = if held { g.delay()? } else { settle(p)? };
+    Ok(Mapped { tag, held })
 }
 
 impl ScopeClock {
@@ -325,7 +208,7 @@ impl ScopeClock {
     pub fn fresh(active: bool) -> Self
         ensures { of_clock result ≡ fresh_clock active }
     {
-        ScopeClock {
+        Self {
             activation_global: GlobalTag::ZERO,
             activation_local: LocalTag::ZERO,
             allowed: active,
@@ -337,80 +220,74 @@ impl ScopeClock {
     pub fn within(self) -> bool
         ensures { result ≡ within_clock (of_clock self) }
     {
-        if self.activation_global.within() {
-            if self.activation_local.within() {
-                self.suspended_local.within()
-            } else {
-                false
-            }
-        } else {
-            false
-        }
+        self.activation_global.within()
+            && self.activation_local.within()
+            && self.suspended_local.within()
     }
 
     // G = L.
     fn is_level(self) -> bool
         ensures { result ≡ same_tag (of_global self.activation_global) (of_local self.activation_local) }
     {
-        let g = self.activation_global;
-        let l = self.activation_local;
-        is_same(Fields(g.0, g.1), Fields(l.0, l.1))
+        let (g, l) = (self.activation_global, self.activation_local);
+        (g.0, g.1) == (l.0, l.1)
     }
 
     // G = L and allowed.
     fn is_identity(self) -> bool
         ensures { result ≡ (same_tag (of_global self.activation_global) (of_local self.activation_local) && self.allowed) }
     {
-        if self.is_level() { self.allowed } else { false }
+        self.is_level() && self.allowed
     }
 
     // Global g to local, of a clock and a tag that are not looked at.
-    pub fn to_local(self, g: GlobalTag) -> MappedLocal
+    pub fn to_local(self, g: GlobalTag) -> Result<LocalTag, Refusal>
         ensures { mapped_local result ≡ to_local (of_clock self) (of_global g) }
     {
         if self.is_level() {
-            return MappedLocal::Tag(LocalTag(g.0, g.1));
+            return Ok(LocalTag(g.0, g.1));
         }
-        let from = self.activation_global;
-        let to = self.activation_local;
-        let p = shift(Fields(to.0, to.1), Fields(from.0, from.1), Fields(g.0, g.1));
-        as_local(settle(p, LocalTag::LAST))
+        settle(shift(self.activation_local, self.activation_global, g))
     }
 
     // Local x to global, of a clock and a tag that are not looked at; with whether it was held back.
-    pub fn to_global(self, x: LocalTag) -> MappedGlobal
+    pub fn to_global(self, x: LocalTag) -> Result<Mapped, Refusal>
         ensures { mapped_global result ≡ to_global (of_clock self) (of_local x) }
     {
         if self.is_identity() {
-            return MappedGlobal::Tag(GlobalTag(x.0, x.1), false);
+            return Ok(Mapped {
+                tag: GlobalTag(x.0, x.1),
+                held: false,
+            });
         }
-        let to = self.activation_global;
-        let from = self.activation_local;
-        let p = shift(Fields(to.0, to.1), Fields(from.0, from.1), Fields(x.0, x.1));
-        hold_back(Fields(to.0, to.1), self.allowed, p)
+        let p = shift(self.activation_global, self.activation_local, x);
+        hold_back(self.activation_global, self.allowed, p)
     }
 
-    pub fn global_to_local(self, g: GlobalTag) -> MappedLocal
-        ensures { mapped_local result ≡ global_to_local (of_clock self) (of_global g) }
+    // 11 of a clock beyond the limits, then 6 of a tag beyond them.
+    fn check<T: Scale>(self, t: T) -> Result<(), Refusal>
+        ensures { of_check result ≡ checked (of_clock self) (T.tag t) (done tt) }
     {
         if !self.within() {
-            return MappedLocal::Refused(Refusal::StateRule);
+            return Err(Refusal::StateRule);
         }
-        if !g.within() {
-            return MappedLocal::Refused(Refusal::ArgumentTag);
+        if !t.within() {
+            return Err(Refusal::ArgumentTag);
         }
+        Ok(())
+    }
+
+    pub fn global_to_local(self, g: GlobalTag) -> Result<LocalTag, Refusal>
+        ensures { mapped_local result ≡ global_to_local (of_clock self) (of_global g) }
+    {
+        self.check(g)?;
         self.to_local(g)
     }
 
-    pub fn local_to_global(self, x: LocalTag) -> MappedGlobal
+    pub fn local_to_global(self, x: LocalTag) -> Result<Mapped, Refusal>
         ensures { mapped_global result ≡ local_to_global (of_clock self) (of_local x) }
     {
-        if !self.within() {
-            return MappedGlobal::Refused(Refusal::StateRule);
-        }
-        if !x.within() {
-            return MappedGlobal::Refused(Refusal::ArgumentTag);
-        }
+        self.check(x)?;
         self.to_global(x)
     }
 }
@@ -419,8 +296,25 @@ impl ScopeClock {
 
 // A tag on its queue's own scale: global in the root's queue, local in a scope's. Which of the two it is only the queue tells,
 // so it is made from either by name, and turned back by name where the queue is known.
-#[derive(Clone, Copy)]
+// Stays: `from` and `into` would not say which scale is meant.
+#[derive(Clone, Copy, PartialEq, Eq, PartialOrd, Ord)]
 pub struct QueueTag(pub u64, pub u32);
+
+impl Scale for QueueTag {
+    ghost tag = { of_queue };
+
+    fn new(offset: u64, microstep: u32) -> Self {
+        Self(offset, microstep)
+    }
+
+    fn offset(self) -> u64 {
+        self.0
+    }
+
+    fn microstep(self) -> u32 {
+        self.1
+    }
+}
 
 impl QueueTag {
     pub const ZERO: QueueTag = QueueTag(0, 0);
@@ -429,14 +323,14 @@ impl QueueTag {
     pub fn of_global(t: GlobalTag) -> Self
         ensures { of_queue result ≡ of_global t }
     {
-        QueueTag(t.0, t.1)
+        Self(t.0, t.1)
     }
 
     // For a scope's queue.
     pub fn of_local(t: LocalTag) -> Self
         ensures { of_queue result ≡ of_local t }
     {
-        QueueTag(t.0, t.1)
+        Self(t.0, t.1)
     }
 
     // Of the root's queue.
@@ -451,19 +345,5 @@ impl QueueTag {
         ensures { of_local result ≡ of_queue self }
     {
         LocalTag(self.0, self.1)
-    }
-
-    // The tag lies within the limits, which are those of both scales.
-    pub fn within(self) -> bool
-        ensures { result ≡ within (of_queue self) }
-    {
-        is_within(Fields(self.0, self.1), GlobalTag::LAST)
-    }
-
-    // Offset first; both of one queue.
-    pub fn earlier(self, other: QueueTag) -> bool
-        ensures { result ≡ earlier (of_queue self) (of_queue other) }
-    {
-        is_earlier(Fields(self.0, self.1), Fields(other.0, other.1))
     }
 }

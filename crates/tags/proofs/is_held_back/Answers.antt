@@ -1,24 +1,22 @@
 -- `tags::is_held_back` meets its contract. Assumes nothing.
-use Rattle.lists.specs.Tests.{tests}
-use Rattle.tags.specs.Tags.{earlier, same_tag}
+use Rattle.tags.specs.Tags.{at}
+use Rattle.tags.specs.Views.{of_global}
+use Rattle.tags.proofs.Laws.{held_before, held_same, held_not}
+use Rattle.tags.proofs.Orders.{told_same, told_earlier}
 use Rattle.tags.proofs.is_held_back.Goals as goal
 
-pub returns-then-offset-g : goal.returns-then-offset-g
-unfolding earlier same_tag
-returns-then-offset-g c = search tests
+pub returns-then-lt : goal.returns-then-lt
+returns-then-lt c =
+    held_before _ _ _ c.in-At.is (told_earlier (at c.in-At.offset c.in-At.microstep) (of_global c.args.g) (rw c.from.ensures at c.lt.ensures)) c.if-lt.true
 
-pub returns-then-g-offset : goal.returns-then-g-offset
-unfolding earlier same_tag
-returns-then-g-offset c = search tests
+pub returns-then-eq : goal.returns-then-eq
+returns-then-eq c =
+    let l = told_earlier (at c.in-At.offset c.in-At.microstep) (of_global c.args.g) (rw c.from.ensures at c.lt.ensures) in
+    let e = told_same (at c.in-At.offset c.in-At.microstep) (of_global c.args.g) (rw c.from.ensures at c.eq.ensures) in
+    held_same _ _ _ c.in-At.is l e c.if-lt.false c.if-eq.true
 
-pub returns-then-microstep-step : goal.returns-then-microstep-step
-unfolding earlier same_tag
-returns-then-microstep-step c = search tests
-
-pub returns-then-step-microstep : goal.returns-then-step-microstep
-unfolding earlier same_tag
-returns-then-step-microstep c = search tests
-
-pub returns : goal.returns
-unfolding earlier same_tag
-returns c = search tests
+pub returns-else-eq : goal.returns-else-eq
+returns-else-eq c =
+    let l = told_earlier (at c.in-At.offset c.in-At.microstep) (of_global c.args.g) (rw c.from.ensures at c.lt.ensures) in
+    let e = told_same (at c.in-At.offset c.in-At.microstep) (of_global c.args.g) (rw c.from.ensures at c.eq.ensures) in
+    held_not _ _ _ c.in-At.is l e c.if-lt.false c.if-eq.false

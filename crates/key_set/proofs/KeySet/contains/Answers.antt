@@ -2,16 +2,18 @@
 use mathlib.Core.Path.{◌≡◌, refl, sym}
 use native.Mathlib.Omega.{arith}
 use lib.ListN.{length}
+use Prim.Native.Nat.{◌/◌}
 use borrow.Author.Rules.{rules}
+use borrow.Author.Tests.{le-ltb}
 use Rattle.key_set.specs.Sets.{word_count, bit, has}
 use Rattle.key_set.proofs.Laws.{has_past}
 use Rattle.key_set.proofs.KeySet.contains.Goals as goal
 
-pub returns-then-i-lt-WORDS : goal.returns-then-i-lt-WORDS
+pub returns-then-k-lt-WORDS : goal.returns-then-k-lt-WORDS
 unfolding has bit
-returns-then-i-lt-WORDS c = refl
+returns-then-k-lt-WORDS c = refl
 
-pub returns : goal.returns
-returns c =
+pub returns-else-k-lt-WORDS : goal.returns-else-k-lt-WORDS
+returns-else-k-lt-WORDS c =
     let l : length c.args.self.words ≡ word_count = search rules in
-    sym (has_past c.args.self.words c.args.k (omega arith))
+    rw (le-ltb (c.args.k / 64) word_count (omega arith)) (sym (has_past c.args.self.words c.args.k (omega arith)))

@@ -4,11 +4,8 @@ use native.Mathlib.Omega.{arith}
 use lib.ListN.{length}
 use borrow.Author.Rules.{rules}
 use Rattle.key_set.specs.Sets.{word_count}
-use Rattle.key_set.proofs.Laws.{laid_none, laid_more, laid_all, length_insert, get_or_insert}
+use Rattle.key_set.proofs.Laws.{laid_more, laid_all, length_insert, get_or_insert}
 use Rattle.key_set.proofs.KeySet.insert.Goals as goal
-
-pub loop-i-init : goal.loop-i-init
-loop-i-init c = laid_none _ _
 
 pub loop-i-preserved : goal.loop-i-preserved
 loop-i-preserved c =

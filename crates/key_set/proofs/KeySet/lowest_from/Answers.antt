@@ -1,9 +1,7 @@
 -- `key_set::KeySet::lowest_from` meets its contract: the keys from k on are those from `at` on, which no word before i has, as long as none was met.
 -- Assumes nothing.
-use mathlib.Core.Path.{◌≡◌, refl}
-use Prim.Native.Nat.{◌/◌, ◌%◌, ◌^◌}
+use mathlib.Core.Path.{◌≡◌}
 use native.Mathlib.Omega.{arith}
-use lib.Count.{trailing_le}
 use lib.ListN.{length, get_or}
 use borrow.Author.Rules.{rules}
 use mir.Val.{Fits}
@@ -12,17 +10,7 @@ use Rattle.key_set.specs.Sets.{word_count}
 use Rattle.key_set.proofs.Laws.{found_none}
 use Rattle.key_set.proofs.Counts.{found_word, passed_word}
 use Rattle.key_set.proofs.KeySet.lowest_from.Goals as goal
-
-pub loop-i-init : goal.loop-i-init
-loop-i-init c = (omega arith, refl)
-
-pub overflow_cast-zeros : goal.overflow_cast-zeros
-overflow_cast-zeros c =
-    omega (arith, trailing_le 64 (get_or c.args.self.words c.loop-i.i 0 / 2 ^ (c.loop-i.at % 64)))
-
-pub overflow_add-key : goal.overflow_add-key
-overflow_add-key c =
-    omega (arith, trailing_le 64 (get_or c.args.self.words c.loop-i.i 0 / 2 ^ (c.loop-i.at % 64)))
+use Rattle.key_set.proofs.KeySet.lowest_from.Goals.{then-at-end+else-rest-ne0, else-at-end}
 
 pub returns-then-rest-ne0 : goal.returns-then-rest-ne0
 returns-then-rest-ne0 c =
@@ -31,14 +19,15 @@ returns-then-rest-ne0 c =
     let f : Fits w64 (get_or c.args.self.words c.loop-i.i 0) = search rules in
     found_word _ _ _ _ v.1 v.0 c.if-at-end.true (omega arith) f.fits c.if-rest-ne0.true
 
-pub loop-i-preserved-then-at-end : goal.loop-i-preserved-then-at-end
-loop-i-preserved-then-at-end c =
+pub loop-i-preserved : goal.loop-i-preserved
+loop-i-preserved c =
     let v = c.loop-i.invariant in
     let l : length c.args.self.words ≡ word_count = search rules in
-    (omega arith, passed_word _ _ _ _ v.1 v.0 c.if-at-end.true (omega arith) c.if-rest-ne0.false)
-
-pub loop-i-preserved : goal.loop-i-preserved
-loop-i-preserved c = (c.if-at-end.false, c.loop-i.invariant.1)
+    elim c.if-at-end.branch [
+      | then-at-end+else-rest-ne0 w ↦
+          rw w.at-is (omega arith, passed_word _ _ _ _ v.1 v.0 w.if-at-end.true (omega arith) w.if-rest-ne0.false)
+      | else-at-end w ↦ rw w.at-is (w.if-at-end.false, v.1)
+    ]
 
 pub returns : goal.returns
 returns c =

@@ -9,29 +9,23 @@ use Rattle.key_set.specs.Sets.{word_count, size_of}
 use Rattle.key_set.proofs.Counts.{counted_word, counted_fit, counted_all}
 use Rattle.key_set.proofs.KeySet.size.Goals as goal
 
-pub loop-i-init : goal.loop-i-init
+pub loop-w-init : goal.loop-w-init
 unfolding size_of
-loop-i-init c = omega arith
-
-pub overflow_cast-n : goal.overflow_cast-n
-overflow_cast-n c =
-    let l : length c.args.self.words ≡ word_count = search rules in
-    let f : Fits w64 (get_or c.args.self.words c.loop-i.i 0) = search rules in
-    omega (arith, counted_fit _ _ _ c.loop-i.invariant (omega arith) f.fits)
+loop-w-init c = omega arith
 
 pub overflow_add-n : goal.overflow_add-n
 overflow_add-n c =
     let l : length c.args.self.words ≡ word_count = search rules in
-    let f : Fits w64 (get_or c.args.self.words c.loop-i.i 0) = search rules in
-    omega (arith, counted_fit _ _ _ c.loop-i.invariant (omega arith) f.fits)
+    let f : Fits w64 (get_or c.args.self.words c.loop-w.w-index 0) = search rules in
+    omega (arith, counted_fit _ _ _ c.loop-w.invariant (omega arith) f.fits)
 
-pub loop-i-preserved : goal.loop-i-preserved
-loop-i-preserved c =
+pub loop-w-preserved : goal.loop-w-preserved
+loop-w-preserved c =
     let l : length c.args.self.words ≡ word_count = search rules in
-    let f : Fits w64 (get_or c.args.self.words c.loop-i.i 0) = search rules in
-    counted_word _ _ _ c.loop-i.invariant (omega arith) f.fits
+    let f : Fits w64 (get_or c.args.self.words c.loop-w.w-index 0) = search rules in
+    counted_word _ _ _ c.loop-w.invariant (omega arith) f.fits
 
 pub returns : goal.returns
 returns c =
     let l : length c.args.self.words ≡ word_count = search rules in
-    counted_all _ _ _ c.loop-i.invariant (omega arith)
+    counted_all _ _ _ c.loop-w.invariant (omega arith)

@@ -1,12 +1,16 @@
 -- `tags::ScopeClock::local_to_global` meets its contract. Assumes nothing.
-use Rattle.tags.proofs.Laws.{globals}
+use mathlib.Core.Path.{◌∙◌}
+use Rattle.std.proofs.lemmas.Result.{err_from_is_err_and}
+use Rattle.tags.proofs.Laws.{checked_err, checked_ok}
+use Rattle.tags.specs.Tags.{local_to_global}
 use Rattle.tags.proofs.ScopeClock.local_to_global.Goals as goal
 
-pub returns-then-not-within : goal.returns-then-not-within
-returns-then-not-within c = search globals
-
-pub returns-then-not-within-2 : goal.returns-then-not-within-2
-returns-then-not-within-2 c = search globals
+pub returns-in_err-check : goal.returns-in_err-check
+unfolding local_to_global
+returns-in_err-check c =
+    let p = err_from_is_err_and c.from_residual.result c.from_residual.ensures.1 in
+    rw (p.1, p.2) (checked_err _ _ _ c.in_err-check.ensures)
 
 pub returns : goal.returns
-returns c = search globals
+unfolding local_to_global
+returns c = c.to_global.ensures ∙ checked_ok _ _ _ c.in_ok-check.ensures
