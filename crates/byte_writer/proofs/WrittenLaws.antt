@@ -1,14 +1,15 @@
 -- Laws of what is written one behind the other. Assumes nothing.
 use mathlib.Core.Path.{◌≡◌, refl, sym, ap, ◌∙◌}
 use mathlib.Core.Logic.{◌⊎◌, inl, inr}
-use mathlib.Core.List.{List, [], ◌∷◌, ◌++◌}
-use Prim.Native.Nat.{ℕ, suc, ◌+◌, ◌≤◌, ◌<◌}
+use mathlib.Core.List.{List, [], ◌∷◌, ◌++◌, append_assoc}
+use Prim.Native.Nat.{ℕ, suc, ◌+◌, ◌-◌, min, ◌≤◌, ◌<◌}
 use native.Mathlib.Omega.{arith}
-use native.Mathlib.Numerals.{add-one}
-use lib.ListN.{length, take, drop, get_or, set, length-append, length-drop}
-use lib.Seq.{sets, length-sets, sets-eq, set_out, take-suc, take_all, take_at, length-take-le, get_or-take, get_or-drop}
+use lib.ListN.{length, take, drop, set, length-append, take-append-drop}
+use Rattle.std.proofs.Common.{drop-drop}
+use lib.Seq.{sets, length-sets, sets-eq, paste, take_all, take_at, length-take-le}
+use borrow.Rule.Slice.PartMut.{put_mid}
 use Rattle.lists.specs.Tests.{below?}
-use Rattle.lists.specs.Rows.{sets_high, sets_out}
+use Rattle.lists.specs.Rows.{sets_out}
 use Rattle.byte_writer.specs.Written.{Written}
 
 pub sets_append : (l : List ℕ) (i : ℕ) (x y : List ℕ) → sets l i (x ++ y) ≡ sets (sets l i x) (i + length x) y
@@ -45,13 +46,13 @@ written_then {old} {at} {x} {mid} {m} {y} {new} {end} v w =
         let g : length (sets old at x) ≤ at + length x = omega arith in
         rw (v.all, sets_out (sets old at x) m y e, sets_append old at x y) (sym (sets_out (sets old at x) (at + length x) y g))
 
--- one byte: there is room, or not
-module _ (old : List ℕ) (at a : ℕ) where
-  pub put_in : at < length old → Written old at (a ∷ []) (set old at a) (at + 1)
-  put_in h = record { all = refl; end_is = omega arith }
+-- one byte where there is room
+pub put_in : (old : List ℕ) (at a : ℕ) → at < length old → Written old at (a ∷ []) (set old at a) (at + 1)
+put_in old at a h = record { all = refl; end_is = omega arith }
 
-  pub put_past : at ≤ length old → length old ≤ at → Written old at (a ∷ []) old at
-  put_past h g = record { all = sym (set_out old at a g); end_is = omega arith }
+-- no room is left
+pub written_past : (old : List ℕ) (at : ℕ) (x : List ℕ) → at ≤ length old → length old ≤ at → Written old at x old at
+written_past old at x h g = record { all = sym (sets_out old at x g); end_is = omega arith }
 
 -- the same bytes, said otherwise
 pub written_as : {old : List ℕ} {at : ℕ} {x y new : List ℕ} {end : ℕ} → Written old at x new end → x ≡ y → Written old at y new end
@@ -63,37 +64,24 @@ written_front {old} {x} {new} {end} w h =
     let e : length x ≡ end = omega (arith, w.end_is) in
     ap (take end) (w.all ∙ sets-eq x old 0 (omega arith)) ∙ take_at x (drop (0 + length x) old) end e
 
--- the first i of a text, and one more
-pub written_next : {old : List ℕ} {at : ℕ} {mid : List ℕ} {m : ℕ} {new : List ℕ} {end : ℕ} (t : List ℕ) (i a : ℕ)
-    → i < length t → a ≡ get_or t i 0 → Written old at (take i t) mid m → Written mid m (a ∷ []) new end → Written old at (take (i + 1) t) new end
-written_next t i a h e v w = written_as (written_then v w) (rw (e, add-one) (sym (take-suc t i 0 h)))
+-- bytes for which there is room, over those that stood there
+pub written_over : (old : List ℕ) (at k : ℕ) (x y : List ℕ) → y ≡ x → k ≡ length x → at + length x ≤ length old → Written old at x (put_mid at k old y) (at + length x)
+written_over old at k x y e f h =
+    rw (e, f) (record { all = ap (λ d. take at old ++ (x ++ d)) (drop-drop (length x) at old) ∙ sym (rw append_assoc at (sets-eq x old at h)); end_is = omega arith })
 
--- the same where there is room for all of it
-pub copied_none : (old : List ℕ) (at : ℕ) (t : List ℕ) → at + length t ≤ length old → Written old at (take 0 t) old (at + 0)
-copied_none old at t r = let e : at + 0 ≡ at = omega arith in rw e (written_none old at (omega arith))
+-- the same, the front of a list
+pub written_paste : (old : List ℕ) (at : ℕ) (s : List ℕ) (n : ℕ) {end : ℕ} → end ≡ at + n → n ≤ length s → at + n ≤ length old → Written old at (take n s) (paste old at s n) end
+written_paste old at s n {end} e g h =
+    let l : length (take n s) ≡ n = length-take-le n s g in
+    record { all = sym (rw l at (sets-eq (take n s) old at (rw l h))); end_is = rw (l, e) (omega arith) }
 
-pub copied_next : {old : List ℕ} {at : ℕ} {mid : List ℕ} (t : List ℕ) (i : ℕ) → at + length t ≤ length old → i < length t
-    → Written old at (take i t) mid (at + i) → Written old at (take (i + 1) t) (set mid (at + i) (get_or t i 0)) (at + (i + 1))
-copied_next {old} {at} {mid} t i r h w =
-    let l : length mid ≡ length old = written_long w in
-    let e : at + i + 1 ≡ at + (i + 1) = omega arith in
-    rw (← e) (written_next t i (get_or t i 0) h refl w (put_in mid (at + i) (get_or t i 0) (omega arith)))
-
-pub written_whole : {old : List ℕ} {at : ℕ} {new : List ℕ} {end : ℕ} (t : List ℕ) (i : ℕ) → length t ≤ i → Written old at (take i t) new end → Written old at t new end
-written_whole t i h w = written_as w (take_all i t h)
-
--- ---- bytes over the front of their own buffer: what is read next lies behind all that is written
-
-module _ {old mid : List ℕ} (from n k : ℕ) (room : from + n ≤ length old) where
-  pub shifted_next : {i : ℕ} → i ≡ from + k → k < n → Written old 0 (take k (take n (drop from old))) mid k → Written old 0 (take (k + 1) (take n (drop from old))) (set mid k (get_or mid i 0)) (k + 1)
-  shifted_next q h w =
-      let t = take n (drop from old) in
-      let l : length t ≡ n = length-take-le n (drop from old) (omega (arith, length-drop from old)) in
-      let m : length (take k t) ≡ k = length-take-le k t (omega (arith, l)) in
-      let o = written_long w in
-      let e : get_or mid (from + k) 0 ≡ get_or t k 0 =
-      ap (λ b. get_or b (from + k) 0) w.all ∙ (sets_high old 0 (take k t) (from + k) 0 (omega (arith, m)) ∙ sym (get_or-take n (drop from old) k 0 h ∙ get_or-drop from old k 0)) in
-      rw q (written_next t k (get_or mid (from + k) 0) (omega (arith, h, l)) e w (put_in mid k (get_or mid (from + k) 0) (omega (arith, o, room))))
-
-  pub shifted_all : n ≤ k → Written old 0 (take k (take n (drop from old))) mid k → Written old 0 (take n (drop from old)) mid k
-  shifted_all h w = written_whole (take n (drop from old)) k (omega (arith, length-take-le n (drop from old) (omega (arith, length-drop from old)))) w
+-- what there is room for of a text, for the text
+pub written_part : {old : List ℕ} {at : ℕ} {new : List ℕ} {end : ℕ} (t : List ℕ) (n : ℕ) → n ≡ min (length t) (length old - at) → at ≤ length old → Written old at (take n t) new end → Written old at t new end
+written_part {old} {at} {new} {end} t n e h w = go (below? n (length t))
+  where
+    go : (n < length t) ⊎ (length t ≤ n) → Written old at t new end
+    go (inl g) =
+        let l : length (take n t) ≡ n = length-take-le n t (omega arith) in
+        let m = written_long w in
+        written_as (written_then w (written_past new end (drop n t) (omega (arith, w.end_is)) (omega (arith, w.end_is)))) (take-append-drop n t)
+    go (inr g) = written_as w (take_all n t g)

@@ -22,24 +22,10 @@ pub fn put(buffer: &mut [u8], at: usize, byte: u8) -> usize
     ensures { Written buffer.old at (byte ∷ []) buffer.new result }
 {
     if at < buffer.len() {
-        return copy_byte(buffer, at, byte);
+        copy_byte(buffer, at, byte)
+    } else {
+        at
     }
-    at
-}
-
-// As much of it as there is room for.
-fn write_some(buffer: &mut [u8], at: usize, text: &[u8]) -> usize
-    requires { at ≤ length buffer.old }
-    ensures { Written buffer.old at text.now buffer.new result }
-{
-    let mut end = at;
-    let mut i: usize = 0;
-    while i < text.len() {
-        let byte = text[i];
-        end = put(buffer, end, byte);
-        i += 1;
-    }
-    end
 }
 
 // A text for which there is room.
@@ -48,23 +34,18 @@ pub fn copy_text(buffer: &mut [u8], at: usize, text: &[u8]) -> usize
     ensures value { result ≡ at + length text.now }
     ensures written { Written buffer.old at text.now buffer.new result }
 {
-    let mut i: usize = 0;
-    while i < text.len() {
-        buffer[at + i] = text[i];
-        i += 1;
-    }
-    at + i
+    let end = at + text.len();
+    buffer[at..end].copy_from_slice(text);
+    end
 }
 
-// A text; the room is tested once.
+// A text, as much of it as there is room for.
 pub fn write_text(buffer: &mut [u8], at: usize, text: &[u8]) -> usize
     requires { at ≤ length buffer.old }
     ensures { Written buffer.old at text.now buffer.new result }
 {
-    if text.len() <= buffer.len() - at {
-        return copy_text(buffer, at, text);
-    }
-    write_some(buffer, at, text)
+    let n = text.len().min(buffer.len() - at);
+    copy_text(buffer, at, &text[..n])
 }
 
 // The low bytes of a number, so many, the highest first; the place behind them.
@@ -76,8 +57,7 @@ pub fn put_number(bytes: &mut [u8], at: usize, width: u8, n: u64) -> usize
         return at;
     }
     let next = put_number(bytes, at, width - 1, n / 256);
-    let low = (n % 256) as u8;
-    put(bytes, next, low)
+    put(bytes, next, (n % 256) as u8)
 }
 
 // The bytes from `from` up to `end` over the front; how many they are.
@@ -85,13 +65,6 @@ pub fn shift(buffer: &mut [u8], from: usize, end: usize) -> usize
     requires { (from ≤ end) × (end ≤ length buffer.old) }
     ensures { Written buffer.old 0 (take (end - from) (drop from buffer.old)) buffer.new result }
 {
-    let mut i = from;
-    let mut to: usize = 0;
-    while i < end {
-        let byte = buffer[i];
-        buffer[to] = byte;
-        to += 1;
-        i += 1;
-    }
-    to
+    buffer.copy_within(from..end, 0);
+    end - from
 }

@@ -15,7 +15,7 @@ use Rattle.table_rows.specs.declared.Limits.{Limits}
 use Rattle.table.specs.Rules.{key_fields, key_exists, keys_exist, parent_rule, scope_rule, initial_rule, reactor_rule, own_rule, row_rule}
 use Rattle.table.specs.Check.{wrong_length, count_fits, bad_count, bad_row, kind_fits, bad_kind, check_rows, check}
 use Rattle.table.specs.Table.{Table}
-use Rattle.table.specs.declared.Checked.TheVariants.{Accepted}
+use Rattle.std.specs.Prelude.{Ok}
 use Rattle.table.proofs.TableLaws.{count_least, count_most}
 
 -- where the rows of the kind k begin, with c j rows of each kind j
@@ -63,7 +63,7 @@ smallest =
 pub smallest_size : length smallest ≡ 33
 smallest_size = refl
 
-pub smallest_accepted : check smallest ≡ Accepted
+pub smallest_accepted : check smallest ≡ Ok tt
 unfolding check wrong_length be count_fits bad_count bad_row kind_fits bad_kind check_rows scan kind_of kinds versions limits count count_place place row_place field key_fields key_exists keys_exist every
     parent_rule scope_rule initial_rule reactor_rule own_rule row_rule
 smallest_accepted = refl

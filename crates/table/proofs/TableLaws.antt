@@ -23,29 +23,29 @@ use Rattle.table.specs.Rules.{key, key_fields, key_exists, keys_exist, parent_ru
 use Rattle.table.specs.Rules.{mode_rule, max_level, reaction_rule, action_rule, timer_tag, timer_rule, own_rule, row_rule}
 use Rattle.table.specs.Check.{version, wrong_length, count_fits, bad_count, bad_row, kind_fits, bad_kind, check_rows, check}
 use Rattle.table.specs.Table.{Table}
-use Rattle.table.specs.declared.Checked.{Checked}
-use Rattle.table.specs.declared.Checked.TheVariants.{Accepted, Refused}
+use Rattle.table.specs.Check.{Checked}
+use Rattle.std.specs.Prelude.{Ok, Err}
 use Rattle.table.specs.declared.ImageRefusal.{ImageRefusal}
 use Rattle.table.specs.declared.ImageRefusal.TheVariants.{Length, Version, Short, Count, Unfilled, Row}
 
 -- ---- from the check to the table
 
-refused : {P : Type 0} (r : ImageRefusal) → Refused r ≡ Accepted → P
-refused r e = absurd (let z : ◌≡◌ {A = ℕ} 0 1 = cc in omega arith)
+refused : {P : Type 0} (r : ImageRefusal) → ◌≡◌ {A = Checked} (Err r) (Ok tt) → P
+refused r e = cc
 
 -- a test that did not refuse
-pub passed : {P : Type 0} (b : Bool) (r : ImageRefusal) (a : Checked) → cond b (Refused r) a ≡ Accepted → (b ≡ false → a ≡ Accepted → P) → P
+pub passed : {P : Type 0} (b : Bool) (r : ImageRefusal) (a : Checked) → cond b (Err r) a ≡ Ok tt → (b ≡ false → a ≡ Ok tt → P) → P
 passed true r a e k = refused r e
 passed false r a e k = k refl e
 
-rows_kept : (s : Image) → check_rows s ≡ Accepted → (k i : ℕ) → k < kind_count → i < count s k → row_rule s k i ≡ true
+rows_kept : (s : Image) → check_rows s ≡ Ok tt → (k i : ℕ) → k < kind_count → i < count s k → row_rule s k i ≡ true
 unfolding check_rows bad_kind kind_fits bad_row
 rows_kept s e k i l m =
-    passed (ltb (bad_kind s) kind_count) (Row (row_place s (bad_kind s) (bad_row s (bad_kind s)))) Accepted e λ h q.
+    passed (ltb (bad_kind s) kind_count) (Row (row_place s (bad_kind s) (bad_row s (bad_kind s)))) (Ok tt) e λ h q.
     let kept = rw zero-add at (scan_all (kind_fits s) kind_count 0 (ltb-false _ _ h) k l) in
     rw zero-add at (scan_all (row_rule s k) (count s k) 0 (rw (zero-add (count s k)) (leb-true _ _ kept)) i m)
 
-pub table_of : (s : Image) → check s ≡ Accepted → Table s
+pub table_of : (s : Image) → check s ≡ Ok tt → Table s
 unfolding check bad_count
 table_of s e =
     passed (wrong_length s) Length _ e λ a e.

@@ -3,18 +3,19 @@
 #![tactic(auto)]
 
 ghost use Rattle.std.specs.Prelude.{◌≡◌, ◌+◌, get_or};
-ghost use Rattle.table.specs.Rules.{key, key_fields, key_count, key_exists, keys_exist, parent_rule, agrees, scope_rule, initial_rule};
+ghost use Rattle.table_rows.specs.Rows.{parent, scope_reactor};
+ghost use Rattle.table.specs.Rules.{key, key_fields, key_count, key_exists, keys_exist, parent_rule, agrees, scope_rule};
 ghost use Rattle.table.specs.Rules.{reactor_rule, mode_rule, reaction_rule, action_rule, timer_rule, own_rule, row_rule};
 ghost use Rattle.table.specs.Check.{number_of, place_of, wrong_length, count_fits, bad_count, bad_row, check_rows, is_table, check as check_of};
 
-use tags::LocalTag;
+use tags::{LocalTag, Scale};
 
 pub const VERSION: u8 = 1;
 
 const MAX_LEVEL: u8 = 15;
 
 // Why an image is refused.
-#[derive(Clone, Copy)]
+#[derive(Clone, Copy, PartialEq, Eq)]
 pub enum ImageRefusal {
     // under 5 bytes or wrong length: 1 at 0
     Length,
@@ -30,37 +31,30 @@ pub enum ImageRefusal {
     Row(usize),
 }
 
-#[derive(Clone, Copy)]
-pub enum Checked {
-    Accepted,
-    Refused(ImageRefusal),
-}
-
 // The refusal's number in document 01.
-pub fn number_of(refusal: ImageRefusal) -> u8
-    ensures { result ≡ number_of refusal }
-{
-    match refusal {
-        ImageRefusal::Length => 1,
-        ImageRefusal::Version => 2,
-        ImageRefusal::Short => 1,
-        ImageRefusal::Count(_) => 3,
-        ImageRefusal::Unfilled => 1,
-        ImageRefusal::Row(_) => 4,
+impl From<ImageRefusal> for u8 {
+    ghost from_gives = { λ refusal number. number ≡ number_of refusal };
+
+    fn from(refusal: ImageRefusal) -> u8 {
+        match refusal {
+            ImageRefusal::Length | ImageRefusal::Short | ImageRefusal::Unfilled => 1,
+            ImageRefusal::Version => 2,
+            ImageRefusal::Count(_) => 3,
+            ImageRefusal::Row(_) => 4,
+        }
     }
 }
 
-// The place that is answered with it, counted from the image's first byte.
-pub fn place_of(refusal: ImageRefusal) -> usize
-    ensures { result ≡ place_of refusal }
-{
-    match refusal {
-        ImageRefusal::Length => 0,
-        ImageRefusal::Version => 4,
-        ImageRefusal::Short => 0,
-        ImageRefusal::Count(at) => at,
-        ImageRefusal::Unfilled => 0,
-        ImageRefusal::Row(at) => at,
+impl ImageRefusal {
+    // The place that is answered with it, counted from the image's first byte.
+    pub fn place(self) -> usize
+        ensures { result ≡ place_of self }
+    {
+        match self {
+            ImageRefusal::Length | ImageRefusal::Short | ImageRefusal::Unfilled => 0,
+            ImageRefusal::Version => 4,
+            ImageRefusal::Count(at) | ImageRefusal::Row(at) => at,
+        }
     }
 }
 
@@ -150,12 +144,13 @@ pub fn key_field(j: usize) -> KeyField
     ensures { result ≡ get_or key_fields j (key 0 0 0) }
 {
     if j < KEYS {
-        return KEY_FIELDS[j];
-    }
-    KeyField {
-        kind: 0,
-        offset: 0,
-        names: 0,
+        KEY_FIELDS[j]
+    } else {
+        KeyField {
+            kind: 0,
+            offset: 0,
+            names: 0,
+        }
     }
 }
 
@@ -163,164 +158,101 @@ pub fn key_field(j: usize) -> KeyField
 pub fn key_exists(image: &[u8], k: u8, i: u16, f: KeyField) -> bool
     ensures { result ≡ key_exists image.now k i f }
 {
-    if k != f.kind {
-        return true;
-    }
-    let named = table_rows::field16(image, k, i, f.offset);
-    let total = table_rows::count(image, f.names);
-    named < total
+    k != f.kind || table_rows::field16(image, k, i, f.offset) < table_rows::count(image, f.names)
 }
 
 fn keys_exist(image: &[u8], k: u8, i: u16) -> bool
     ensures { result ≡ keys_exist image.now k i }
 {
-    let mut j = 0;
-    while j < KEYS {
-        let f = key_field(j);
-        if key_exists(image, k, i, f) {
-            j += 1;
-        } else {
-            return false;
-        }
-    }
-    true
+    KEY_FIELDS.iter().all(|f| key_exists(image, k, i, *f))
 }
 
 // None, or lower than scope i.
-fn parent_rule(image: &[u8], i: u16) -> bool
+pub fn parent_rule(image: &[u8], i: u16) -> bool
     ensures { result ≡ parent_rule image.now i }
 {
     let above = table_rows::parent(image, i);
-    if above == table_rows::NONE {
-        return true;
-    }
-    above < i
+    above == table_rows::NONE || above < i
 }
 
-// Scope i, with its parent and reactor, and the mode that it names.
-fn mode_agrees(image: &[u8], i: u16, parent: u16, reactor: u16, mode: u16) -> bool
-    ensures { result ≡ agrees image.now i parent reactor mode }
+// Scope i and the mode that it names.
+fn mode_agrees(image: &[u8], i: u16, mode: u16) -> bool
+    ensures { result ≡ agrees image.now i (parent image.now i) (scope_reactor image.now i) mode }
 {
-    let modes = table_rows::count(image, table_rows::MODE);
-    if modes <= mode {
-        return false;
-    }
-    if parent == table_rows::NONE {
-        return false;
-    }
-    let scope = table_rows::mode_scope(image, mode);
-    if scope != i {
-        return false;
-    }
-    let owner = table_rows::mode_reactor(image, mode);
-    if owner != reactor {
-        return false;
-    }
-    let root = table_rows::root_scope(image, reactor);
-    table_rows::under(image, root, i)
+    let reactor = table_rows::scope_reactor(image, i);
+    mode < table_rows::count(image, table_rows::MODE)
+        && table_rows::parent(image, i) != table_rows::NONE
+        && table_rows::mode_scope(image, mode) == i
+        && table_rows::mode_reactor(image, mode) == reactor
+        && table_rows::under(image, table_rows::root_scope(image, reactor), i)
 }
 
 fn scope_rule(image: &[u8], i: u16) -> bool
     ensures { result ≡ scope_rule image.now i }
 {
-    if !parent_rule(image, i) {
-        return false;
-    }
     let mode = table_rows::scope_mode(image, i);
-    if mode == table_rows::NONE {
-        return true;
-    }
-    let parent = table_rows::parent(image, i);
-    let reactor = table_rows::scope_reactor(image, i);
-    mode_agrees(image, i, parent, reactor, mode)
+    parent_rule(image, i) && (mode == table_rows::NONE || mode_agrees(image, i, mode))
 }
 
 // A reactor's initial mode is none, or of that reactor.
-fn initial_rule(image: &[u8], reactor: u16, mode: u16) -> bool
-    ensures { result ≡ initial_rule image.now reactor mode }
-{
-    if mode == table_rows::NONE {
-        return true;
-    }
-    let modes = table_rows::count(image, table_rows::MODE);
-    if modes <= mode {
-        return false;
-    }
-    let owner = table_rows::mode_reactor(image, mode);
-    owner == reactor
-}
-
 fn reactor_rule(image: &[u8], i: u16) -> bool
     ensures { result ≡ reactor_rule image.now i }
 {
     let mode = table_rows::initial_mode(image, i);
-    initial_rule(image, i, mode)
+    mode == table_rows::NONE
+        || mode < table_rows::count(image, table_rows::MODE)
+            && table_rows::mode_reactor(image, mode) == i
 }
 
 // The mode's scope names it back.
-fn mode_rule(image: &[u8], i: u16) -> bool
+pub fn mode_rule(image: &[u8], i: u16) -> bool
     ensures { result ≡ mode_rule image.now i }
 {
     let scope = table_rows::mode_scope(image, i);
-    let back = table_rows::scope_mode(image, scope);
-    back == i
+    table_rows::scope_mode(image, scope) == i
 }
 
-fn reaction_rule(image: &[u8], i: u16) -> bool
+pub fn reaction_rule(image: &[u8], i: u16) -> bool
     ensures { result ≡ reaction_rule image.now i }
 {
-    let level = table_rows::level(image, i);
-    level <= MAX_LEVEL
+    table_rows::level(image, i) <= MAX_LEVEL
 }
 
-fn action_rule(image: &[u8], i: u16) -> bool
+pub fn action_rule(image: &[u8], i: u16) -> bool
     ensures { result ≡ action_rule image.now i }
 {
-    let logical = table_rows::logical(image, i);
-    logical <= 1
+    table_rows::logical(image, i) <= 1
 }
 
-fn timer_rule(image: &[u8], i: u16) -> bool
+pub fn timer_rule(image: &[u8], i: u16) -> bool
     ensures { result ≡ timer_rule image.now i }
 {
-    let offset = table_rows::timer_offset(image, i);
-    let microstep = table_rows::timer_microstep(image, i);
-    LocalTag(offset, microstep).within()
+    LocalTag(
+        table_rows::timer_offset(image, i),
+        table_rows::timer_microstep(image, i),
+    )
+    .within()
 }
 
 // What row i of the kind k must keep besides its keys.
 fn own_rule(image: &[u8], k: u8, i: u16) -> bool
     ensures { result ≡ own_rule image.now k i }
 {
-    if k == table_rows::SCOPE {
-        return scope_rule(image, i);
+    match k {
+        table_rows::SCOPE => scope_rule(image, i),
+        table_rows::REACTOR => reactor_rule(image, i),
+        table_rows::MODE => mode_rule(image, i),
+        table_rows::REACTION => reaction_rule(image, i),
+        table_rows::ACTION => action_rule(image, i),
+        table_rows::TIMER => timer_rule(image, i),
+        _ => true,
     }
-    if k == table_rows::REACTOR {
-        return reactor_rule(image, i);
-    }
-    if k == table_rows::MODE {
-        return mode_rule(image, i);
-    }
-    if k == table_rows::REACTION {
-        return reaction_rule(image, i);
-    }
-    if k == table_rows::ACTION {
-        return action_rule(image, i);
-    }
-    if k == table_rows::TIMER {
-        return timer_rule(image, i);
-    }
-    true
 }
 
 fn row_rule(image: &[u8], k: u8, i: u16) -> bool
     ensures { result ≡ row_rule image.now k i }
 {
-    if keys_exist(image, k, i) {
-        own_rule(image, k, i)
-    } else {
-        false
-    }
+    keys_exist(image, k, i) && own_rule(image, k, i)
 }
 
 // ---- the check
@@ -330,93 +262,71 @@ pub fn bad_row(image: &[u8], k: u8) -> u16
     ensures { result ≡ bad_row image.now k }
 {
     let total = table_rows::count(image, k);
-    let mut i: u16 = 0;
-    while i < total {
-        if row_rule(image, k, i) {
-            i += 1;
-        } else {
+    for i in 0..total {
+        if !row_rule(image, k, i) {
             return i;
         }
     }
-    i
+    total
 }
 
 // The rows, in order.
-pub fn check_rows(image: &[u8]) -> Checked
+pub fn check_rows(image: &[u8]) -> Result<(), ImageRefusal>
     ensures { result ≡ check_rows image.now }
 {
-    let mut k: u8 = 0;
-    while k < table_rows::KINDS {
+    for k in 0..table_rows::KINDS {
         let i = bad_row(image, k);
-        let total = table_rows::count(image, k);
-        if i < total {
-            let at = table_rows::row_place(image, k, i);
-            return Checked::Refused(ImageRefusal::Row(at));
+        if i < table_rows::count(image, k) {
+            return Err(ImageRefusal::Row(table_rows::row_place(image, k, i)));
         }
-        k += 1;
     }
-    Checked::Accepted
+    Ok(())
 }
 
 fn count_fits(image: &[u8], k: u8) -> bool
     ensures { result ≡ count_fits image.now k }
 {
-    let kind = table_rows::kind_at(k);
-    let most = table_rows::most_rows(image, k);
     let total = table_rows::count(image, k);
-    if total < kind.least {
-        return false;
-    }
-    total <= most
+    table_rows::kind_at(k).least <= total && total <= table_rows::most_rows(image, k)
 }
 
 // The first kind whose count does not fit, or how many kinds there are.
 pub fn bad_count(image: &[u8]) -> u8
     ensures { result ≡ bad_count image.now }
 {
-    let mut k: u8 = 0;
-    while k < table_rows::KINDS {
-        if count_fits(image, k) {
-            k += 1;
-        } else {
+    for k in 0..table_rows::KINDS {
+        if !count_fits(image, k) {
             return k;
         }
     }
-    k
+    table_rows::KINDS
 }
 
 fn wrong_length(image: &[u8]) -> bool
     ensures { result ≡ wrong_length image.now }
 {
-    if image.len() < 5 {
-        return true;
-    }
-    let rest = table_rows::four_bytes(image, 0);
-    rest as usize + 4 != image.len()
+    image.len() < 5 || table_rows::four_bytes(image, 0) as usize + 4 != image.len()
 }
 
 // Accepted, or the refusal, of any byte string.
-pub fn check(image: &[u8]) -> Checked
+pub fn check(image: &[u8]) -> Result<(), ImageRefusal>
     ensures { result ≡ check_of image.now }
 {
     if wrong_length(image) {
-        return Checked::Refused(ImageRefusal::Length);
+        return Err(ImageRefusal::Length);
     }
-    let version = table_rows::one_byte(image, 4);
-    if version != VERSION {
-        return Checked::Refused(ImageRefusal::Version);
+    if table_rows::one_byte(image, 4) != VERSION {
+        return Err(ImageRefusal::Version);
     }
     if image.len() < table_rows::HEAD {
-        return Checked::Refused(ImageRefusal::Short);
+        return Err(ImageRefusal::Short);
     }
     let k = bad_count(image);
     if k < table_rows::KINDS {
-        let at = table_rows::count_place(k);
-        return Checked::Refused(ImageRefusal::Count(at));
+        return Err(ImageRefusal::Count(table_rows::count_place(k)));
     }
-    let end = table_rows::place(image, table_rows::KINDS);
-    if end != image.len() {
-        return Checked::Refused(ImageRefusal::Unfilled);
+    if table_rows::place(image, table_rows::KINDS) != image.len() {
+        return Err(ImageRefusal::Unfilled);
     }
     check_rows(image)
 }
@@ -425,8 +335,5 @@ pub fn check(image: &[u8]) -> Checked
 pub fn accepted(image: &[u8]) -> bool
     ensures { result ≡ is_table image.now }
 {
-    match check(image) {
-        Checked::Accepted => true,
-        Checked::Refused(_) => false,
-    }
+    check(image).is_ok()
 }

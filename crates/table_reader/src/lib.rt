@@ -1,5 +1,5 @@
 // The image reader: document 01, "The image reader carries the lent image and its place". It moves on from field to field.
-// Few thin calls: each takes the reader apart for a covered function, and the one that moves makes it anew. `gather` of table_schedule goes by it.
+// Few thin calls; the one that moves makes the reader anew. `gather` of table_schedule goes by it.
 #![tactic(auto)]
 
 ghost use Rattle.std.specs.Prelude.{◌≡◌, ◌+◌, ◌%◌, ◌^◌};
@@ -11,26 +11,27 @@ pub struct Reader<'a> {
     pub place: usize,
 }
 
-pub fn new<'a>(image: &'a [u8], place: usize) -> Reader<'a>
-    ensures { (result.image ≡ image.entry) × (result.place ≡ place) }
-{
-    Reader { image, place }
-}
+impl<'a> Reader<'a> {
+    pub fn new(image: &'a [u8], place: usize) -> Self
+        ensures { (result.image ≡ image.entry) × (result.place ≡ place) }
+    {
+        Self { image, place }
+    }
 
-// The field of two bytes at the reader's place.
-pub fn word<'a>(reader: Reader<'a>) -> u16
-    ensures { result ≡ be 2 reader.entry.image.now reader.entry.place }
-{
-    table_rows::two_bytes(reader.image, reader.place)
-}
+    // The field of two bytes at the reader's place.
+    pub fn word(self) -> u16
+        ensures { result ≡ be 2 self.entry.image.now self.entry.place }
+    {
+        table_rows::two_bytes(self.image, self.place)
+    }
 
-// The reader so many bytes on.
-pub fn moved<'a>(reader: Reader<'a>, by: usize) -> Reader<'a>
-    ensures { (result.image ≡ reader.entry.image) × (result.place ≡ (reader.entry.place + by) % 2 ^ 64) }
-{
-    let place = std::num::wrapping_add_usize(reader.place, by);
-    Reader {
-        image: reader.image,
-        place,
+    // The reader so many bytes on.
+    pub fn moved(self, by: usize) -> Self
+        ensures { (result.image ≡ self.entry.image) × (result.place ≡ (self.entry.place + by) % 2 ^ 64) }
+    {
+        Self {
+            place: self.place.wrapping_add(by),
+            ..self
+        }
     }
 }

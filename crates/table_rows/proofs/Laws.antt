@@ -19,14 +19,6 @@ use Rattle.table_rows.specs.declared.Fields.{Fields}
 use Rattle.table_rows.specs.declared.Kind.{Kind}
 use Rattle.table_rows.specs.declared.Limits.{Limits}
 
--- past the end stand zeros
-module _ (s : Image) (at k : ℕ) where
-  pub past : length s ≤ at → 0 ≡ get_or s (at + k) 0
-  past h = sym (get_or-eq_default s 0 (omega arith))
-
-  pub past_end : length s - at ≤ k → 0 ≡ get_or s (at + k) 0
-  past_end h = sym (get_or-eq_default s 0 (omega arith))
-
 -- eight bytes fit
 pub be_fits : (k w n b : ℕ) → n < 256 ^ k → b < 256 → k < w → w ≤ 8 → n * 256 + b < 2 ^ 64
 be_fits k w n b h l m e = let top : k + 1 ≤ 8 = omega arith in omega (arith, be_room k n b h l, pow-le-pow_right {n = 256} (lit< tt) top)

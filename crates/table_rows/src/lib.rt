@@ -23,6 +23,7 @@ pub const LARGEST: usize = 3287;
 pub const NONE: u16 = 65535;
 
 // The kinds of rows, in their order.
+// Stays: `count`, `place`, `row_place`, `most_rows` and `field_of` promise an answer for every u8, which an enum of kinds would narrow.
 pub const SCOPE: u8 = 0;
 
 pub const REACTOR: u8 = 1;
@@ -140,22 +141,15 @@ const FIELDS: [Fields; KINDS as usize] = [
     },
 ];
 
-fn wide(x: u8) -> u64
-    ensures { result ≡ x }
-{
-    x as u64
-}
-
 // The byte k places behind `at`.
 fn byte(image: &[u8], at: usize, k: usize) -> u64
     ensures { (result ≡ get_or image.now (at + k) 0) × (result < 256) }
 {
-    if at < image.len() {
-        if k < image.len() - at {
-            return wide(image[at + k]);
-        }
+    if at < image.len() && k < image.len() - at {
+        image[at + k] as u64
+    } else {
+        0
     }
-    0
 }
 
 // The number of `width` bytes at `at`, the first the highest.
@@ -163,35 +157,30 @@ fn number(image: &[u8], at: usize, width: usize) -> u64
     requires { width ≤ 8 }
     ensures { (result ≡ be width image.now at) × (result < 256 ^ width) }
 {
-    let mut n: u64 = 0;
-    let mut k = 0;
-    while k < width {
-        let b = byte(image, at, k);
-        n = n * 256 + b;
-        k += 1;
+    let mut n = 0;
+    for k in 0..width {
+        n = n * 256 + byte(image, at, k);
     }
     n
 }
 
+// Stays: a generic reader is no plainer, since each of the four types would need an impl as long as its function here.
 pub fn one_byte(image: &[u8], at: usize) -> u8
     ensures { result ≡ be 1 image.now at }
 {
-    let n = number(image, at, 1);
-    n as u8
+    number(image, at, 1) as u8
 }
 
 pub fn two_bytes(image: &[u8], at: usize) -> u16
     ensures { result ≡ be 2 image.now at }
 {
-    let n = number(image, at, 2);
-    n as u16
+    number(image, at, 2) as u16
 }
 
 pub fn four_bytes(image: &[u8], at: usize) -> u32
     ensures { result ≡ be 4 image.now at }
 {
-    let n = number(image, at, 4);
-    n as u32
+    number(image, at, 4) as u32
 }
 
 pub fn eight_bytes(image: &[u8], at: usize) -> u64
@@ -204,11 +193,11 @@ pub fn eight_bytes(image: &[u8], at: usize) -> u64
 pub fn kind_at(k: u8) -> Kind
     ensures { (result ≡ kind_of k) × (result.width ≤ widest) }
 {
-    let j = k as usize;
     if k < KINDS {
-        return TABLE[j];
+        TABLE[k as usize]
+    } else {
+        Kind { least: 0, width: 0 }
     }
-    Kind { least: 0, width: 0 }
 }
 
 // The limits of the image's version; of one that there is not, which the check refuses, those of version 1.
@@ -216,56 +205,50 @@ fn limits_of(image: &[u8]) -> Limits
     ensures { result ≡ limits image.now }
 {
     let version = one_byte(image, 4) as usize;
-    if version < 1 {
-        return LIMITS[0];
+    if 1 <= version && version <= VERSIONS {
+        LIMITS[version - 1]
+    } else {
+        LIMITS[0]
     }
-    let row = version - 1;
-    if row < VERSIONS {
-        return LIMITS[row];
-    }
-    LIMITS[0]
 }
 
 // How many events may wait.
 pub fn most_waiting(image: &[u8]) -> usize
     ensures { result ≡ (limits image.now).waiting }
 {
-    let limits = limits_of(image);
-    limits.waiting
+    limits_of(image).waiting
 }
 
 // How many values, and how many buckets, may be held.
 pub fn most_held(image: &[u8]) -> usize
     ensures { result ≡ (limits image.now).held }
 {
-    let limits = limits_of(image);
-    limits.held
+    limits_of(image).held
 }
 
 // How many rows of the kind k there may be.
 pub fn most_rows(image: &[u8], k: u8) -> u16
     ensures { result ≡ most image.now k }
 {
-    let limits = limits_of(image);
-    let j = k as usize;
     if k < KINDS {
-        return limits.most[j];
+        limits_of(image).most[k as usize]
+    } else {
+        0
     }
-    0
 }
 
 // The bytes of each field of a row of the kind k; a kind past the nine has none.
 pub fn fields_at(k: u8) -> Fields
     ensures { (result ≡ fields_of k) × (result.first ≤ 8) × (result.second ≤ 8) × (result.third ≤ 8) }
 {
-    let j = k as usize;
     if k < KINDS {
-        return FIELDS[j];
-    }
-    Fields {
-        first: 0,
-        second: 0,
-        third: 0,
+        FIELDS[k as usize]
+    } else {
+        Fields {
+            first: 0,
+            second: 0,
+            third: 0,
+        }
     }
 }
 
@@ -273,15 +256,14 @@ pub fn fields_at(k: u8) -> Fields
 pub fn count_place(k: u8) -> usize
     ensures { result ≡ count_place k }
 {
-    5 + 2 * (k as usize)
+    5 + 2 * k as usize
 }
 
 // How many rows of the kind k the image says it has.
 pub fn count(image: &[u8], k: u8) -> u16
     ensures { result ≡ count_of image.now k }
 {
-    let at = count_place(k);
-    two_bytes(image, at)
+    two_bytes(image, count_place(k))
 }
 
 // Where the rows of the kind k begin.
@@ -289,12 +271,8 @@ pub fn place(image: &[u8], k: u8) -> usize
     ensures { (result ≡ place_of image.now k) × (result < 2 ^ 28) }
 {
     let mut at = HEAD;
-    let mut j: u8 = 0;
-    while j < k {
-        let kind = kind_at(j);
-        let rows = count(image, j) as usize;
-        at += rows * kind.width;
-        j += 1;
+    for j in 0..k {
+        at += count(image, j) as usize * kind_at(j).width;
     }
     at
 }
@@ -303,17 +281,14 @@ pub fn place(image: &[u8], k: u8) -> usize
 pub fn row_place(image: &[u8], k: u8, i: u16) -> usize
     ensures { (result ≡ row_place image.now k i) × (result < 2 ^ 29) }
 {
-    let kind = kind_at(k);
-    let start = place(image, k);
-    let row = i as usize;
-    start + row * kind.width
+    place(image, k) + i as usize * kind_at(k).width
 }
 
 // Where the byte `offset` of that row stands.
 fn field_place(image: &[u8], k: u8, i: u16, offset: u8) -> usize
     ensures { result ≡ row_place image.now k i + offset }
 {
-    row_place(image, k, i) + (offset as usize)
+    row_place(image, k, i) + offset as usize
 }
 
 // A field of one, two, four or eight bytes, at the byte `offset` of row i of the kind k.
@@ -346,16 +321,12 @@ pub fn field_of(image: &[u8], k: u8, i: u16, f: u8) -> u64
     ensures { result ≡ field_of image.now k i f }
 {
     let fields = fields_at(k);
-    if f == 0 {
-        let at = field_place(image, k, i, 0);
-        return number(image, at, fields.first as usize);
-    }
-    if f == 1 {
-        let at = field_place(image, k, i, fields.first);
-        return number(image, at, fields.second as usize);
-    }
-    let at = field_place(image, k, i, fields.first + fields.second);
-    number(image, at, fields.third as usize)
+    let (offset, width) = match f {
+        0 => (0, fields.first),
+        1 => (fields.first, fields.second),
+        _ => (fields.first + fields.second, fields.third),
+    };
+    number(image, field_place(image, k, i, offset), width as usize)
 }
 
 // ---- the fields by their names
@@ -451,8 +422,7 @@ pub fn logical(image: &[u8], action: u16) -> u8
 pub fn is_logical(image: &[u8], action: u16) -> bool
     ensures { result ≡ is_logical image.now action }
 {
-    let byte = logical(image, action);
-    byte == 1
+    logical(image, action) == 1
 }
 
 pub fn timer_offset(image: &[u8], j: u16) -> u64
@@ -477,11 +447,7 @@ pub fn in_subtree(image: &[u8], top: u16, i: u16) -> bool
         return true;
     }
     let above = parent(image, i);
-    if above < i {
-        in_subtree(image, top, above)
-    } else {
-        false
-    }
+    above < i && in_subtree(image, top, above)
 }
 
 // Scope i lies strictly under the scope `top`.
@@ -489,9 +455,5 @@ pub fn under(image: &[u8], top: u16, i: u16) -> bool
     ensures { result ≡ under_of image.now top i }
 {
     let above = parent(image, i);
-    if above < i {
-        in_subtree(image, top, above)
-    } else {
-        false
-    }
+    above < i && in_subtree(image, top, above)
 }

@@ -6,32 +6,17 @@ use mathlib.Core.List.{List, map}
 use native.Mathlib.Nat.{add-zero, zero-mul, suc-mul, add_assoc, sub-zero, mod-eq_of_lt}
 use native.Mathlib.Omega.{arith}
 use native.Mathlib.Numerals.{add-one}
-use lib.Dec.{eqb}
-use lib.ListN.{get_or}
-use borrow.Author.Tests.{ne_eqb}
-use Rattle.lists.specs.Tests.{flag_no, flag_yes}
 use Rattle.lists.specs.Lists.{keep, every, from, foldl}
 use Rattle.key_set.specs.Sets.{insert_key, no_keys, word_count}
-use Rattle.tags.specs.Tags.{at}
-use Rattle.table.specs.Rules.{timer_tag}
 use Rattle.lists.specs.Steps.{and_pass, and_stop}
 use Rattle.lists.proofs.Steps.{fold_next}
 use Rattle.table_rows.specs.Bytes.{Image, be}
 use Rattle.table_rows.specs.Kinds.{kind_of, count, place}
-use Rattle.table_rows.specs.Rows.{none, row_place, field, parent, scope_reactor, scope_mode, timer_offset, timer_microstep}
+use Rattle.table_rows.specs.Rows.{row_place, field, parent}
 use Rattle.table_rows.specs.Lineage.{ancestors, lineage_step, ancestors_on, ancestors_end}
 use Rattle.table_schedule.specs.Schedule.{is_current, is_active, reactions_of}
 
-pub timer_fields : (s : Image) (j : ℕ) {o m : ℕ} → o ≡ timer_offset s j → m ≡ timer_microstep s j → at o m ≡ timer_tag s j
-timer_fields s j e f = rw (e, f)
-
 -- ---- activity
-
-pub current_named :
-    (s : Image) (modes : List ℕ) (i : ℕ) {m r x : ℕ} → m ≡ scope_mode s i → (m ≡ none → ⊥) → r ≡ scope_reactor s i → x ≡ get_or modes r none →
-    eqb x m ≡ is_current s modes i
-unfolding is_current
-current_named s modes i e n f g = sym (simp (← e, ne_eqb _ _ n, ← f, ← g))
 
 module _ (s : Image) (modes : List ℕ) (i : ℕ) where
   pub active_not : is_current s modes i ≡ false → false ≡ is_active s modes i
@@ -45,8 +30,6 @@ module _ (s : Image) (modes : List ℕ) (i : ℕ) where
   pub active_end : {p : ℕ} → is_current s modes i ≡ true → p ≡ parent s i → i ≤ p → true ≡ is_active s modes i
   unfolding is_active every
   active_end c e h = rw (lineage_step s i) (and_pass c (ap (every (is_current s modes)) (sym (ancestors_end s e h))))
-
-pub ruleset actives = (active_not, active_on, active_end, flag_no, flag_yes)
 
 -- ---- sets of reactions, row by row
 

@@ -1,5 +1,5 @@
 -- What the manager asks of the table besides single fields: document 01, "The plain machine" and the state rules. Assumes nothing.
-use Rattle.std.specs.Prelude.{ℕ, Bool, true, false, not, ◌||◌, List, map, eqb, get_or, replicate}
+use Rattle.std.specs.Prelude.{ℕ, Bool, not, ◌||◌, List, map, eqb, get_or, replicate}
 use Rattle.lists.specs.Lists.{keep, any, every, from, foldl}
 use Rattle.key_set.specs.Sets.{word_count, insert_key}
 use Rattle.table_rows.specs.Bytes.{Image}
@@ -26,19 +26,10 @@ is_active s modes i = every (is_current s modes) (lineage s i)
 
 -- ---- sets of reactions
 
--- a row's first field is the key, or for a subtree a scope in it
-abbrev pub belongs : Image → ℕ → Bool → ℕ → Bool
-belongs s key false x = eqb x key
-belongs s key true x = in_subtree s key x
-
 -- the reactions at the byte `gap` of the rows of the kind k whose first field passes
 unfoldable pub reactions_of : Image → ℕ → (ℕ → Bool) → ℕ → List ℕ
 reactions_of s k test gap =
     foldl insert_key (replicate word_count 0) (map (λ j. field 2 s k j gap) (keep (λ j. test (field 2 s k j 0)) (from 0 (count s k))))
-
--- of the rows with the key, or of those in its subtree
-abbrev pub reactions_by : Image → ℕ → ℕ → Bool → ℕ → List ℕ
-reactions_by s k key subtree gap = reactions_of s k (belongs s key subtree) gap
 
 -- the reactions that the action a triggers
 unfoldable pub triggers_of : Image → ℕ → List ℕ

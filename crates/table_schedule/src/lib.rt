@@ -3,24 +3,25 @@
 // A new question over the table's rows comes in here.
 #![tactic(auto)]
 
-ghost use Rattle.std.specs.Prelude.{◌≡◌, cond, ℕ, ◌+◌, ◌^◌, ◌<◌, ◌≤◌, get_or};
-ghost use Rattle.key_set.specs.Sets.{insert_key};
-ghost use Rattle.table_rows.specs.Kinds.{kind_of, place as place_of, count as count_of};
+ghost use Rattle.std.specs.Prelude.{◌≡◌, ℕ, Bool, ◌+◌, ◌^◌, ◌<◌, ◌≤◌, get_or};
+ghost use Rattle.table_rows.specs.Kinds.{kind_of};
 ghost use Rattle.table_rows.specs.Rows.{none};
 ghost use Rattle.tags.specs.Views.{of_local};
 ghost use Rattle.table.specs.Rules.{timer_tag};
-ghost use Rattle.table_schedule.specs.Schedule.{names_mode, is_modal, is_current, is_active, belongs as belongs_to, reactions_by, triggers_of, startups_of, resets_of};
+ghost use Rattle.table_schedule.specs.Schedule.{names_mode, is_modal, is_current, is_active, reactions_of, triggers_of, startups_of, resets_of};
 
 use key_set::KeySet;
+use table_reader::Reader;
 use tags::LocalTag;
 
 // A timer row's tag, on its scope's scale.
 pub fn timer_tag(image: &[u8], j: u16) -> LocalTag
     ensures { of_local result ≡ timer_tag image.now j }
 {
-    let offset = table_rows::timer_offset(image, j);
-    let microstep = table_rows::timer_microstep(image, j);
-    LocalTag(offset, microstep)
+    LocalTag(
+        table_rows::timer_offset(image, j),
+        table_rows::timer_microstep(image, j),
+    )
 }
 
 // ---- modes
@@ -28,8 +29,7 @@ pub fn timer_tag(image: &[u8], j: u16) -> LocalTag
 fn names_mode(image: &[u8], i: u16) -> bool
     ensures { result ≡ names_mode image.now i }
 {
-    let mode = table_rows::scope_mode(image, i);
-    mode != table_rows::NONE
+    table_rows::scope_mode(image, i) != table_rows::NONE
 }
 
 // Some scope names a mode.
@@ -37,37 +37,24 @@ pub fn is_modal(image: &[u8]) -> bool
     ensures { result ≡ is_modal image.now }
 {
     let scopes = table_rows::count(image, table_rows::SCOPE);
-    let mut i: u16 = 0;
-    while i < scopes {
-        if names_mode(image, i) {
-            return true;
-        }
-        i += 1;
-    }
-    false
+    (0..scopes).any(|i| names_mode(image, i))
 }
 
 // The current mode of a reactor; past the end none.
 fn mode_of(modes: &[u16], reactor: u16) -> u16
     ensures { result ≡ get_or modes.now reactor none }
 {
-    let r = reactor as usize;
-    if r < modes.len() {
-        return modes[r];
-    }
-    table_rows::NONE
+    modes
+        .get(reactor as usize)
+        .copied()
+        .unwrap_or(table_rows::NONE)
 }
 
 fn is_current(image: &[u8], modes: &[u16], i: u16) -> bool
     ensures { result ≡ is_current image.now modes.now i }
 {
     let named = table_rows::scope_mode(image, i);
-    if named == table_rows::NONE {
-        return true;
-    }
-    let reactor = table_rows::scope_reactor(image, i);
-    let current = mode_of(modes, reactor);
-    current == named
+    named == table_rows::NONE || mode_of(modes, table_rows::scope_reactor(image, i)) == named
 }
 
 // Scope i and all its ancestors that name a mode find it current.
@@ -78,77 +65,51 @@ pub fn is_active(image: &[u8], modes: &[u16], i: u16) -> bool
         return false;
     }
     let above = table_rows::parent(image, i);
-    if above < i {
-        is_active(image, modes, above)
-    } else {
-        true
-    }
+    i <= above || is_active(image, modes, above)
 }
 
 // ---- sets of reactions
 
-fn belongs(image: &[u8], key: u16, subtree: bool, x: u16) -> bool
-    ensures { result ≡ belongs_to image.now key subtree x }
+// The reactions at the byte `gap`, where the row ends, of the rows of the kind k whose first field passes. One reader goes from row to row.
+fn gather<F: Fn(u16) -> bool>(image: &[u8], k: u8, gap: usize, passes: F) -> KeySet
+    requires fits { ((kind_of k).width ≡ gap + 2) × (gap ≤ 4) }
+    requires callable { F.IsAlwaysCallable passes }
+    ensures { (test : ℕ → Bool) → ((x : ℕ) (r : Bool) → x < 2 ^ 16 → F.post passes x r → r ≡ test x) → result.words ≡ reactions_of image.now k test gap }
 {
-    if subtree {
-        return table_rows::in_subtree(image, key, x);
-    }
-    x == key
-}
-
-// The set with the reaction of a row whose first field is x, if that is the key, or a scope in its subtree.
-fn with_row(image: &[u8], key: u16, subtree: bool, x: u16, reaction: u16, set: KeySet) -> KeySet
-    ensures { result.words ≡ cond (belongs_to image.now key subtree x) (insert_key set.words reaction) set.words }
-{
-    let test = belongs(image, key, subtree, x);
-    set.insert_if(test, reaction as usize)
-}
-
-// The reactions of so many rows that begin at the place and have their reaction at the byte `gap`, where they end. One reader goes from row to row.
-fn gather(image: &[u8], at: usize, mut left: u16, key: u16, subtree: bool, gap: usize) -> KeySet
-    requires { (at < 2 ^ 28) × (gap ≤ 4) }
-    ensures { (k : ℕ) → at ≡ place_of image.now k → left ≡ count_of image.now k → (kind_of k).width ≡ gap + 2 → result.words ≡ reactions_by image.now k key subtree gap }
-{
-    let mut reader = table_reader::new(image, at);
+    let mut reader = Reader::new(image, table_rows::place(image, k));
     let mut set = KeySet::empty();
-    while left > 0 {
-        let x = table_reader::word(reader);
-        reader = table_reader::moved(reader, gap);
-        let reaction = table_reader::word(reader);
-        reader = table_reader::moved(reader, 2);
-        set = with_row(image, key, subtree, x, reaction, set);
-        left -= 1;
+    for _ in 0..table_rows::count(image, k) {
+        let x = reader.word();
+        reader = reader.moved(gap);
+        let reaction = reader.word();
+        reader = reader.moved(2);
+        set = set.insert_if(passes(x), reaction as usize);
     }
     set
-}
-
-// The reactions at the byte `gap` of the rows of the kind k whose first field is the key, or a scope in its subtree.
-fn reactions_of(image: &[u8], k: u8, key: u16, subtree: bool, gap: usize) -> KeySet
-    requires { ((kind_of k).width ≡ gap + 2) × (gap ≤ 4) }
-    ensures { result.words ≡ reactions_by image.now k key subtree gap }
-{
-    let at = table_rows::place(image, k);
-    let total = table_rows::count(image, k);
-    gather(image, at, total, key, subtree, gap)
 }
 
 // The reactions that the action triggers.
 pub fn triggers(image: &[u8], action: u16) -> KeySet
     ensures { result.words ≡ triggers_of image.now action }
 {
-    reactions_of(image, table_rows::TRIGGER, action, false, 2)
+    gather(image, table_rows::TRIGGER, 2, |x| x == action)
 }
 
 // The reactions that the scope starts up.
 pub fn startups(image: &[u8], scope: u16) -> KeySet
     ensures { result.words ≡ startups_of image.now scope }
 {
-    reactions_of(image, table_rows::STARTUP, scope, false, 4)
+    gather(image, table_rows::STARTUP, 4, |x| x == scope)
 }
 
 // The reactions that the scope's subtree resets.
 pub fn resets(image: &[u8], scope: u16) -> KeySet
     ensures { result.words ≡ resets_of image.now scope }
 {
-    reactions_of(image, table_rows::RESET, scope, true, 2)
+    gather(
+        image,
+        table_rows::RESET,
+        2,
+        |x| table_rows::in_subtree(image, scope, x),
+    )
 }

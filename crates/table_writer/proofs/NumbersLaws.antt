@@ -41,9 +41,6 @@ module _ (k : ℕ) (ns : List ℕ) (j : ℕ) {old : List ℕ} {at : ℕ} where
   unfolding kind_rows
   one_row_more i v w = rw add-one (written_then v w)
 
-  pub rows_all : (i n : ℕ) {end : ℕ} {new : List ℕ} → n ≤ i → i ≤ n → Written old at (kind_rows k ns j i) new end → Written old at (kind_rows k ns j n) new end
-  rows_all i n g h w = let e : i ≡ n = omega arith in rw e at w
-
 -- ---- counts
 
 module _ (ns : List ℕ) {old : List ℕ} where
@@ -56,9 +53,6 @@ module _ (ns : List ℕ) {old : List ℕ} where
         Written old at (counts_in ns (k + 1)) new end
     unfolding counts_in number_at
     one_count_more v e w = rw (add-one, ← e) (written_then v w)
-
-    pub counts_all : (n : ℕ) → n ≤ k → k ≤ n → Written old at (counts_in ns k) mid m → Written old at (counts_in ns n) mid m
-    counts_all n g h w = let e : k ≡ n = omega arith in rw e at w
 
 -- ---- all rows
 
@@ -80,6 +74,3 @@ module _ (counts : List ℕ) where
         Written old at (rows_in counts ns k) mid m → Written mid m (kind_rows k ns j n) new end → Written old at (rows_in counts ns (k + 1)) new end
     unfolding rows_in count_in
     one_kind_more k e f v w = rw (add-one, ← e, ← f) (written_then v w)
-
-    pub kinds_all : (k n : ℕ) → n ≤ k → k ≤ n → {new : List ℕ} {end : ℕ} → Written old at (rows_in counts ns k) new end → Written old at (rows_in counts ns n) new end
-    kinds_all k n g h w = let e : k ≡ n = omega arith in rw e at w

@@ -17,13 +17,14 @@ use Rattle.table_rows.specs.Rows.{row_place, field}
 use Rattle.byte_writer.proofs.NumberLaws.{number_length, number_read, read_behind, read_among, read_number}
 use Rattle.table.specs.Check.{version, wrong_length, bad_count, check_body, check}
 use Rattle.table.specs.Table.{Table}
-use Rattle.table.specs.declared.Checked.{Checked}
-use Rattle.table.specs.declared.Checked.TheVariants.{Accepted, Refused}
+use Rattle.table.specs.Check.{Checked}
+use Rattle.std.specs.Prelude.{Ok, Err}
 use Rattle.table.specs.declared.ImageRefusal.TheVariants.{Length, Version, Short, Count, Unfilled}
 use Rattle.table.proofs.TableLaws.{table_of, passed}
 use Rattle.table_writer.specs.Writer.{image_of, count_bytes, wrote, placed, writing, place_of}
-use Rattle.table_writer.specs.declared.Wrote.{Wrote}
-use Rattle.table_writer.specs.declared.Wrote.TheVariants as answers
+use Rattle.table_writer.specs.Writer.{Wrote}
+use Rattle.table_writer.specs.declared.WriteRefusal.{WriteRefusal}
+use Rattle.table_writer.specs.declared.WriteRefusal.TheVariants as refusals
 use Rattle.table_writer.proofs.HeadLaws.{end_fits}
 use Rattle.table_writer.proofs.WriterLaws.{head_of, head_then, head_length, image_length}
 
@@ -104,30 +105,25 @@ module _ (counts rows : List ℕ) (nine : length counts ≡ count_bytes) where
 pub record WroteIt (counts rows buffer : List ℕ) (n : ℕ) (new : List ℕ) : Type 0 where
   pub nine : length counts ≡ count_bytes
   pub image : take n new ≡ image_of counts rows
-  pub accepted : check (take n new) ≡ Accepted
+  pub accepted : check (take n new) ≡ Ok tt
   pub behind : drop n new ≡ drop n buffer
 
-abbrev is_image : Wrote → ℕ
-is_image (answers.Image n) = 1
-is_image (answers.Refused why) = 0
-is_image answers.NoRoom = 0
-
-no_image : {P : Type 0} (a : Wrote) (b : List ℕ) {n : ℕ} {new : List ℕ} → is_image a ≡ 0 → wrote a b ≡ wrote (answers.Image n) new → P
-no_image a b h e = absurd (let z : is_image a ≡ 1 = ap (λ x. is_image x.answer) e in omega (arith, h, z))
+no_image : {P : Type 0} (r : WriteRefusal) (b : List ℕ) {n : ℕ} {new : List ℕ} → wrote (Err r) b ≡ wrote (Ok n) new → P
+no_image r b {n} e = let z : ◌≡◌ {A = Wrote} (Err r) (Ok n) = ap (λ x. x.answer) e in cc
 
 -- checked rows whose image was placed
 module _ {P : Type 0} (s : Image) (buffer : List ℕ) {n : ℕ} {new : List ℕ} where
-  at_front : (b : Bool) → cond b (wrote answers.NoRoom buffer) (wrote (answers.Image (length s)) (sets buffer 0 s)) ≡ wrote (answers.Image n) new →
+  at_front : (b : Bool) → cond b (wrote (Err refusals.NoRoom) buffer) (wrote (Ok (length s)) (sets buffer 0 s)) ≡ wrote (Ok n) new →
       (b ≡ false → n ≡ length s → new ≡ sets buffer 0 s → P) → P
-  at_front true e k = no_image answers.NoRoom buffer refl e
+  at_front true e k = no_image refusals.NoRoom buffer e
   at_front false e k = k refl (sym (ap (λ x. place_of x.answer) e)) (sym (ap (λ x. x.buffer) e))
 
-  was_placed : (c : Checked) → placed c s buffer ≡ wrote (answers.Image n) new → (c ≡ Accepted → length s ≤ length buffer → n ≡ length s → new ≡ sets buffer 0 s → P) → P
-  was_placed Accepted e k = at_front (ltb (length buffer) (length s)) e λ h. k refl (ltb-false _ _ h)
-  was_placed (Refused why) e k = no_image (answers.Refused why) buffer refl e
+  was_placed : (c : Checked) → placed c s buffer ≡ wrote (Ok n) new → (c ≡ Ok tt → length s ≤ length buffer → n ≡ length s → new ≡ sets buffer 0 s → P) → P
+  was_placed (Ok u) e k = at_front (ltb (length buffer) (length s)) e λ h. k refl (ltb-false _ _ h)
+  was_placed (Err why) e k = no_image (refusals.Image why) buffer e
 
 -- accepted rows end where the image does, and it is no larger than the largest
-body_fits : (s : Image) → check_body s ≡ Accepted → length s ≤ largest
+body_fits : (s : Image) → check_body s ≡ Ok tt → length s ≤ largest
 body_fits s e =
     passed (ltb (bad_count s) kind_count) (Count (count_place (bad_count s))) _ e λ a e.
     passed (not (eqb (place s kind_count) (length s))) Unfilled _ e λ b e.
@@ -138,9 +134,9 @@ body_fits s e =
 -- "Reading back what it wrote gives the same rows": the image is that of the counts and rows given, and is accepted
 module _ (counts rows buffer : List ℕ) {n : ℕ} {new : List ℕ} where
   by_counts : (b : Bool) → eqb (length counts) count_bytes ≡ b →
-      cond b (placed (check_body (image_of counts rows)) (image_of counts rows) buffer) (wrote (answers.Refused Short) buffer) ≡ wrote (answers.Image n) new →
+      cond b (placed (check_body (image_of counts rows)) (image_of counts rows) buffer) (wrote (Err (refusals.Image Short)) buffer) ≡ wrote (Ok n) new →
       WroteIt counts rows buffer n new
-  by_counts false t e = no_image (answers.Refused Short) buffer refl e
+  by_counts false t e = no_image (refusals.Image Short) buffer e
   by_counts true t e = was_placed (image_of counts rows) buffer (check_body (image_of counts rows)) e λ c l m o.
       let s = image_of counts rows in
       let h : length counts ≡ count_bytes = eqb-true _ _ t in
@@ -153,18 +149,18 @@ module _ (counts rows buffer : List ℕ) {n : ℕ} {new : List ℕ} where
         behind = ap (drop n) (o ∙ z) ∙ (drop_at s (drop (length s) buffer) n (sym m) ∙ ap (λ x. drop x buffer) (sym m));
       }
 
-  pub wrote_it : writing counts rows buffer ≡ wrote (answers.Image n) new → WroteIt counts rows buffer n new
+  pub wrote_it : writing counts rows buffer ≡ wrote (Ok n) new → WroteIt counts rows buffer n new
   unfolding writing
   wrote_it e = by_counts (eqb (length counts) count_bytes) refl e
 
-  pub reads_counts : writing counts rows buffer ≡ wrote (answers.Image n) new → counts_of (take n new) ≡ counts
+  pub reads_counts : writing counts rows buffer ≡ wrote (Ok n) new → counts_of (take n new) ≡ counts
   reads_counts e = let w = wrote_it e in ap counts_of w.image ∙ counts_back counts rows w.nine
 
-  pub reads_rows : writing counts rows buffer ≡ wrote (answers.Image n) new → rows_of (take n new) ≡ rows
+  pub reads_rows : writing counts rows buffer ≡ wrote (Ok n) new → rows_of (take n new) ≡ rows
   reads_rows e = let w = wrote_it e in ap rows_of w.image ∙ rows_back counts rows w.nine
 
   -- each field of each row of each kind, at its place among the rows given
-  pub reads_field : writing counts rows buffer ≡ wrote (answers.Image n) new → (w k i off p : ℕ) → row_place (take n new) k i + off ≡ head_bytes + p →
+  pub reads_field : writing counts rows buffer ≡ wrote (Ok n) new → (w k i off p : ℕ) → row_place (take n new) k i + off ≡ head_bytes + p →
       field w (take n new) k i off ≡ be w rows p
   reads_field e w k i off p h =
       let x = wrote_it e in
@@ -172,7 +168,7 @@ module _ (counts rows buffer : List ℕ) {n : ℕ} {new : List ℕ} where
 
 -- ---- "writing what was read from an accepted image gives the same bytes"
 
-module _ (s : Image) (bytes : (i : ℕ) → get_or s i 0 < 256) (e : check s ≡ Accepted) where
+module _ (s : Image) (bytes : (i : ℕ) → get_or s i 0 < 256) (e : check s ≡ Ok tt) where
   t : Table s
   t = table_of s e
 
@@ -180,7 +176,7 @@ module _ (s : Image) (bytes : (i : ℕ) → get_or s i 0 < 256) (e : check s ≡
   unfolding check wrong_length
   length_is = passed (wrong_length s) Length _ e λ a e. eqb-true _ _ (not-false _ (or_no_right (ltb (length s) 5) _ a))
 
-  body_is : check_body s ≡ Accepted
+  body_is : check_body s ≡ Ok tt
   unfolding check
   body_is =
       passed (wrong_length s) Length _ e λ a e.
@@ -207,10 +203,10 @@ module _ (s : Image) (bytes : (i : ℕ) → get_or s i 0 < 256) (e : check s ≡
       ap (λ x. x ++ (version ∷ (counts_of s ++ rows_of s))) a ∙
       (ap (λ x. take 4 s ++ (version ∷ x)) b ∙ (ap (λ x. take 4 s ++ x) (sym c) ∙ take-append-drop 4 s))
 
-  pub writes_same : (buffer : List ℕ) → length s ≤ length buffer → writing (counts_of s) (rows_of s) buffer ≡ wrote (answers.Image (length s)) (sets buffer 0 s)
+  pub writes_same : (buffer : List ℕ) → length s ≤ length buffer → writing (counts_of s) (rows_of s) buffer ≡ wrote (Ok (length s)) (sets buffer 0 s)
   unfolding writing
   writes_same buffer h =
-      let z : check_body (image_of (counts_of s) (rows_of s)) ≡ Accepted = ap check_body same_image ∙ body_is in
-      ap (λ b. cond b (placed (check_body (image_of (counts_of s) (rows_of s))) (image_of (counts_of s) (rows_of s)) buffer) (wrote (answers.Refused Short) buffer)) (eq-eqb _ _ counts_long) ∙
-      (ap (λ c. placed c (image_of (counts_of s) (rows_of s)) buffer) z ∙ (ap (λ x. placed Accepted x buffer) same_image ∙
-      ap (λ b. cond b (wrote answers.NoRoom buffer) (wrote (answers.Image (length s)) (sets buffer 0 s))) (le-ltb _ _ h)))
+      let z : check_body (image_of (counts_of s) (rows_of s)) ≡ Ok tt = ap check_body same_image ∙ body_is in
+      ap (λ b. cond b (placed (check_body (image_of (counts_of s) (rows_of s))) (image_of (counts_of s) (rows_of s)) buffer) (wrote (Err (refusals.Image Short)) buffer)) (eq-eqb _ _ counts_long) ∙
+      (ap (λ c. placed c (image_of (counts_of s) (rows_of s)) buffer) z ∙ (ap (λ x. placed (Ok tt) x buffer) same_image ∙
+      ap (λ b. cond b (wrote (Err refusals.NoRoom) buffer) (wrote (Ok (length s)) (sets buffer 0 s))) (le-ltb _ _ h)))

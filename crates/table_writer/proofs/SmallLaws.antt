@@ -17,11 +17,11 @@ use Rattle.table_rows.specs.Kinds.{kind_of, kind_count, count, count_place, plac
 use Rattle.table_rows.specs.Rows.{row_place}
 use Rattle.table.specs.Check as table
 use Rattle.table.specs.Check.{bad_count, bad_row, kind_fits, bad_kind, check_rows, check_body, check, wrong_length, version}
-use Rattle.table.specs.declared.Checked.{Checked}
-use Rattle.table.specs.declared.Checked.TheVariants.{Accepted, Refused}
+use Rattle.table.specs.Check.{Checked}
+use Rattle.std.specs.Prelude.{Ok, Err}
 use Rattle.table.specs.declared.ImageRefusal.TheVariants.{Length, Version, Short, Count, Unfilled, Row}
 use Rattle.table_writer.specs.Writer.{image_of, count_bytes, wrote, placed, writing, place_of}
-use Rattle.table_writer.specs.declared.Wrote.TheVariants as answers
+use Rattle.table_writer.specs.declared.WriteRefusal.TheVariants as refusals
 use Rattle.table_writer.proofs.HeadLaws.{end_fits}
 
 -- a row lies before the end of all rows
@@ -48,18 +48,18 @@ module _ (s : Image) where
 
   -- the place that is answered, and all of an image that is accepted
   abbrev pub place_in : Checked → ℕ
-  place_in Accepted = length s
-  place_in (Refused why) = table.place_of why
+  place_in (Ok u) = length s
+  place_in (Err why) = table.place_of why
 
   rows_small : place s kind_count ≤ largest → place s kind_count ≡ length s → place_in (check_rows s) ≤ largest
   unfolding check_rows
   rows_small h f = go (ltb (bad_kind s) kind_count) refl
     where
-      go : (b : Bool) → ltb (bad_kind s) kind_count ≡ b → place_in (cond b (Refused (Row (row_place s (bad_kind s) (bad_row s (bad_kind s))))) Accepted) ≤ largest
+      go : (b : Bool) → ltb (bad_kind s) kind_count ≡ b → place_in (cond b (Err (Row (row_place s (bad_kind s) (bad_row s (bad_kind s))))) (Ok tt)) ≤ largest
       go true e = let z = bad_inside (ltb-true _ _ e) in omega (arith, z, h)
       go false e = omega (arith, h, f)
 
-  filled_small : place s kind_count ≤ largest → (b : Bool) → eqb (place s kind_count) (length s) ≡ b → place_in (cond (not b) (Refused Unfilled) (check_rows s)) ≤ largest
+  filled_small : place s kind_count ≤ largest → (b : Bool) → eqb (place s kind_count) (length s) ≡ b → place_in (cond (not b) (Err Unfilled) (check_rows s)) ≤ largest
   filled_small h true e = rows_small h (eqb-true _ _ e)
   filled_small h false e = omega arith
 
@@ -68,7 +68,7 @@ module _ (s : Image) where
   body_small = go (ltb (bad_count s) kind_count) refl
     where
       go : (b : Bool) → ltb (bad_count s) kind_count ≡ b →
-          place_in (cond b (Refused (Count (count_place (bad_count s)))) (cond (not (eqb (place s kind_count) (length s))) (Refused Unfilled) (check_rows s))) ≤ largest
+          place_in (cond b (Err (Count (count_place (bad_count s)))) (cond (not (eqb (place s kind_count) (length s))) (Err Unfilled) (check_rows s))) ≤ largest
       go true e = let z : bad_count s < kind_count = ltb-true _ _ e in omega (arith, z)
       go false e = filled_small (end_fits s (ltb-false _ _ e)) (eqb (place s kind_count) (length s)) refl
 
@@ -77,7 +77,7 @@ module _ (s : Image) where
   unfolding check
   check_small = go (wrong_length s) (not (eqb (be 1 s 4) version)) (ltb (length s) 23)
     where
-      go : (a b c : Bool) → place_in (cond a (Refused Length) (cond b (Refused Version) (cond c (Refused Short) (check_body s)))) ≤ largest
+      go : (a b c : Bool) → place_in (cond a (Err Length) (cond b (Err Version) (cond c (Err Short) (check_body s)))) ≤ largest
       go true b c = omega arith
       go false true c = omega arith
       go false false true = omega arith
@@ -90,14 +90,14 @@ small counts rows buffer = go (eqb (length counts) count_bytes)
     s : Image
     s = image_of counts rows
 
-    room : (b : Bool) → length s ≤ largest → place_of (cond b (wrote answers.NoRoom buffer) (wrote (answers.Image (length s)) (sets buffer 0 s))).answer ≤ largest
+    room : (b : Bool) → length s ≤ largest → place_of (cond b (wrote (Err refusals.NoRoom) buffer) (wrote (Ok (length s)) (sets buffer 0 s))).answer ≤ largest
     room true h = omega arith
     room false h = h
 
     by : (c : Checked) → place_in s c ≤ largest → place_of (placed c s buffer).answer ≤ largest
-    by Accepted h = room (ltb (length buffer) (length s)) h
-    by (Refused why) h = h
+    by (Ok u) h = room (ltb (length buffer) (length s)) h
+    by (Err why) h = h
 
-    go : (b : Bool) → place_of (cond b (placed (check_body s) s buffer) (wrote (answers.Refused Short) buffer)).answer ≤ largest
+    go : (b : Bool) → place_of (cond b (placed (check_body s) s buffer) (wrote (Err (refusals.Image Short)) buffer)).answer ≤ largest
     go true = by (check_body s) (body_small s)
     go false = omega arith

@@ -15,12 +15,12 @@ use Rattle.byte_writer.specs.Written.{Written}
 use Rattle.byte_writer.proofs.NumberLaws.{number_length}
 use Rattle.byte_writer.proofs.WrittenLaws.{sets_append, written_then, written_long}
 use Rattle.table.specs.Check.{version, bad_count, check_rows}
-use Rattle.table.specs.declared.Checked.{Checked}
-use Rattle.table.specs.declared.Checked.TheVariants.{Accepted, Refused}
+use Rattle.table.specs.Check.{Checked}
+use Rattle.std.specs.Prelude.{Ok, Err}
 use Rattle.table.specs.declared.ImageRefusal.{ImageRefusal}
 use Rattle.table.specs.declared.ImageRefusal.TheVariants.{Short, Count, Unfilled}
 use Rattle.table_writer.specs.Writer.{image_of, count_bytes, wrote, placed, writing}
-use Rattle.table_writer.specs.declared.Wrote.TheVariants as answers
+use Rattle.table_writer.specs.declared.WriteRefusal.TheVariants as refusals
 use Rattle.table_writer.proofs.HeadLaws.{same_bad_count, same_end, end_fits}
 
 -- ---- an image's bytes
@@ -79,7 +79,7 @@ module _ (counts rows : List ℕ) (nine : length counts ≡ count_bytes) {zeros 
   end_is = same_end room S same
 
   module _ {k : ℕ} (e : k ≡ bad_count room) where
-    pub refused_count : k < kind_count → {p : ℕ} → p ≡ count_place k → (buffer : List ℕ) → wrote (answers.Refused (Count p)) buffer ≡ writing counts rows buffer
+    pub refused_count : k < kind_count → {p : ℕ} → p ≡ count_place k → (buffer : List ℕ) → wrote (Err (refusals.Image (Count p))) buffer ≡ writing counts rows buffer
     unfolding writing
     refused_count l q buffer = sym (simp (eq-eqb _ _ nine, ← counts_are, ← e, lt-ltb _ _ l, ← q))
 
@@ -94,7 +94,7 @@ module _ (counts rows : List ℕ) (nine : length counts ≡ count_bytes) {zeros 
       pub taken_long : p ≡ length (take p room)
       taken_long = sym (length-take-le p room in_room)
 
-      pub refused_unfilled : (p ≡ head_bytes + length rows → ⊥) → (buffer : List ℕ) → wrote (answers.Refused Unfilled) buffer ≡ writing counts rows buffer
+      pub refused_unfilled : (p ≡ head_bytes + length rows → ⊥) → (buffer : List ℕ) → wrote (Err (refusals.Image Unfilled)) buffer ≡ writing counts rows buffer
       unfolding writing
       refused_unfilled n buffer =
           let h : place S kind_count ≡ length S → ⊥ = λ x. n (q ∙ (end_is ∙ (x ∙ room_length))) in
@@ -118,24 +118,24 @@ module _ (counts rows : List ℕ) (nine : length counts ≡ count_bytes) {zeros 
           rows_are : c ≡ check_rows S
           rows_are = f ∙ ap check_rows room_is
 
-          pub refused_row : {why : ImageRefusal} → c ≡ Refused why → (buffer : List ℕ) → wrote (answers.Refused why) buffer ≡ writing counts rows buffer
+          pub refused_row : {why : ImageRefusal} → c ≡ Err why → (buffer : List ℕ) → wrote (Err (refusals.Image why)) buffer ≡ writing counts rows buffer
           refused_row g buffer = ap (λ x. placed x S buffer) (sym g ∙ rows_are) ∙ by_rows buffer
 
-          pub no_room_lem : c ≡ Accepted → (buffer : List ℕ) → length buffer < p → wrote answers.NoRoom buffer ≡ writing counts rows buffer
+          pub no_room_lem : c ≡ Ok tt → (buffer : List ℕ) → length buffer < p → wrote (Err refusals.NoRoom) buffer ≡ writing counts rows buffer
           no_room_lem g buffer m =
               let z : length buffer < length S = omega (arith, n, room_length) in
-              sym (ap (λ b. cond b (wrote answers.NoRoom buffer) (wrote (answers.Image (length S)) (sets buffer 0 S))) (lt-ltb _ _ z)) ∙
+              sym (ap (λ b. cond b (wrote (Err refusals.NoRoom) buffer) (wrote (Ok (length S)) (sets buffer 0 S))) (lt-ltb _ _ z)) ∙
               (ap (λ x. placed x S buffer) (sym g ∙ rows_are) ∙ by_rows buffer)
 
-          pub all_written : c ≡ Accepted → {buffer : List ℕ} → p ≤ length buffer → {new : List ℕ} {i : ℕ} → Written buffer 0 (take p room) new i →
-              wrote (answers.Image p) new ≡ writing counts rows buffer
+          pub all_written : c ≡ Ok tt → {buffer : List ℕ} → p ≤ length buffer → {new : List ℕ} {i : ℕ} → Written buffer 0 (take p room) new i →
+              wrote (Ok p) new ≡ writing counts rows buffer
           all_written g {buffer} m v =
               let z : length S ≤ length buffer = omega (arith, n, room_length) in
-              ap (λ r. wrote (answers.Image p) r) (v.all ∙ ap (sets buffer 0) room_is) ∙
-              (ap (λ x. wrote (answers.Image x) (sets buffer 0 S)) (n ∙ sym room_length) ∙
-              (sym (ap (λ b. cond b (wrote answers.NoRoom buffer) (wrote (answers.Image (length S)) (sets buffer 0 S))) (le-ltb _ _ z)) ∙
+              ap (λ r. wrote (Ok p) r) (v.all ∙ ap (sets buffer 0) room_is) ∙
+              (ap (λ x. wrote (Ok x) (sets buffer 0 S)) (n ∙ sym room_length) ∙
+              (sym (ap (λ b. cond b (wrote (Err refusals.NoRoom) buffer) (wrote (Ok (length S)) (sets buffer 0 S))) (le-ltb _ _ z)) ∙
               (ap (λ x. placed x S buffer) (sym g ∙ rows_are) ∙ by_rows buffer)))
 
-pub not_nine : (counts rows buffer : List ℕ) → (length counts ≡ count_bytes → ⊥) → wrote (answers.Refused Short) buffer ≡ writing counts rows buffer
+pub not_nine : (counts rows buffer : List ℕ) → (length counts ≡ count_bytes → ⊥) → wrote (Err (refusals.Image Short)) buffer ≡ writing counts rows buffer
 unfolding writing
 not_nine counts rows buffer h = sym (simp (ne_eqb _ _ h))

@@ -5,9 +5,10 @@
 ghost use Rattle.std.specs.Prelude.{◌≡◌, ◌≤◌, ◌^◌, length};
 ghost use Rattle.byte_writer.specs.Written.{Written};
 ghost use Rattle.table_writer.specs.Writer.{image_of, writing, wrote, number_of, place_of};
+ghost use Rattle.table_writer.specs.declared.WriteRefusal.TheVariants.{Image};
 ghost use Rattle.table_writer.specs.Numbers.{all_counts, row_bytes, kind_rows, all_rows};
 
-use table::{Checked, ImageRefusal};
+use table::ImageRefusal;
 
 // Bytes of the nine counts.
 pub const COUNT_BYTES: usize = 2 * table_rows::KINDS as usize;
@@ -15,36 +16,42 @@ pub const COUNT_BYTES: usize = 2 * table_rows::KINDS as usize;
 // No image has longer rows.
 pub const LARGEST_ROWS: usize = table_rows::LARGEST - table_rows::HEAD;
 
-// What the writer answers.
-#[derive(Clone, Copy)]
-pub enum Wrote {
-    // the image stands at the buffer's front: how many bytes it has
-    Image(usize),
+// Why nothing is written.
+#[derive(Clone, Copy, PartialEq, Eq)]
+pub enum WriteRefusal {
     // what the reader would answer
-    Refused(ImageRefusal),
+    Image(ImageRefusal),
     // the buffer is too short: 1 at 0
     NoRoom,
 }
 
+impl From<ImageRefusal> for WriteRefusal {
+    ghost from_gives = { λ why refusal. refusal ≡ Image why };
+
+    fn from(why: ImageRefusal) -> WriteRefusal {
+        WriteRefusal::Image(why)
+    }
+}
+
 // The refusal's number in document 01, or 0.
-pub fn number_of(answer: Wrote) -> u8
+pub fn number_of(answer: Result<usize, WriteRefusal>) -> u8
     ensures { result ≡ number_of answer }
 {
     match answer {
-        Wrote::Image(_) => 0,
-        Wrote::Refused(why) => table::number_of(why),
-        Wrote::NoRoom => 1,
+        Ok(_) => 0,
+        Err(WriteRefusal::Image(why)) => u8::from(why),
+        Err(WriteRefusal::NoRoom) => 1,
     }
 }
 
 // The place that is answered with it, or how many bytes the image has.
-pub fn place_of(answer: Wrote) -> usize
+pub fn place_of(answer: Result<usize, WriteRefusal>) -> usize
     ensures { result ≡ place_of answer }
 {
     match answer {
-        Wrote::Image(bytes) => bytes,
-        Wrote::Refused(why) => table::place_of(why),
-        Wrote::NoRoom => 0,
+        Ok(bytes) => bytes,
+        Err(WriteRefusal::Image(why)) => why.place(),
+        Err(WriteRefusal::NoRoom) => 0,
     }
 }
 
@@ -61,34 +68,29 @@ pub fn put_image(counts: &[u8], rows: &[u8], buffer: &mut [u8]) -> usize
     byte_writer::write_text(buffer, rows_at, rows)
 }
 
-// Counts of 18 bytes and the bytes of all rows in the image's order.
-pub fn write(counts: &[u8], rows: &[u8], buffer: &mut [u8]) -> Wrote
+// Counts of 18 bytes and the bytes of all rows in the image's order, as an image at the buffer's front; how many bytes it has.
+pub fn write(counts: &[u8], rows: &[u8], buffer: &mut [u8]) -> Result<usize, WriteRefusal>
     ensures { wrote result buffer.new ≡ writing counts.now rows.now buffer.old }
 {
     if counts.len() != COUNT_BYTES {
-        return Wrote::Refused(ImageRefusal::Short);
+        return Err(WriteRefusal::Image(ImageRefusal::Short));
     }
     let mut image = [0u8; table_rows::LARGEST];
     put_image(counts, rows, &mut image);
     let k = table::bad_count(&image);
     if k < table_rows::KINDS {
-        let at = table_rows::count_place(k);
-        return Wrote::Refused(ImageRefusal::Count(at));
+        return Err(WriteRefusal::Image(ImageRefusal::Count(table_rows::count_place(k))));
     }
     let end = table_rows::place(&image, table_rows::KINDS);
     if end != table_rows::HEAD + rows.len() {
-        return Wrote::Refused(ImageRefusal::Unfilled);
+        return Err(WriteRefusal::Image(ImageRefusal::Unfilled));
     }
-    match table::check_rows(&image[..end]) {
-        Checked::Refused(why) => Wrote::Refused(why),
-        Checked::Accepted => {
-            if buffer.len() < end {
-                return Wrote::NoRoom;
-            }
-            byte_writer::write_text(buffer, 0, &image[..end]);
-            Wrote::Image(end)
-        }
+    table::check_rows(&image[..end])?;
+    if buffer.len() < end {
+        return Err(WriteRefusal::NoRoom);
     }
+    byte_writer::write_text(buffer, 0, &image[..end]);
+    Ok(end)
 }
 
 // ---- from numbers of eight bytes: nine counts, then three for each row in the image's order, its fields, and 0 for one that it does not have
@@ -104,12 +106,10 @@ const ROW_NUMBERS: usize = NUMBER * 3;
 pub fn put_counts(numbers: &[u8], counts: &mut [u8]) -> usize
     ensures { Written counts.old 0 (all_counts numbers.now) counts.new result }
 {
-    let mut end: usize = 0;
-    let mut k: usize = 0;
-    while k < table_rows::KINDS as usize {
+    let mut end = 0;
+    for k in 0..table_rows::KINDS as usize {
         let n = table_rows::eight_bytes(numbers, NUMBER * k);
         end = byte_writer::put_number(counts, end, 2, n);
-        k += 1;
     }
     end
 }
@@ -120,7 +120,7 @@ fn put_row(numbers: &[u8], j: u32, k: u8, rows: &mut [u8], at: usize) -> usize
     ensures { Written rows.old at (row_bytes k numbers.now j) rows.new result }
 {
     let fields = table_rows::fields_at(k);
-    let from = COUNT_NUMBERS + ROW_NUMBERS * (j as usize);
+    let from = COUNT_NUMBERS + ROW_NUMBERS * j as usize;
     let first = table_rows::eight_bytes(numbers, from);
     let second = table_rows::eight_bytes(numbers, from + NUMBER);
     let third = table_rows::eight_bytes(numbers, from + 2 * NUMBER);
@@ -135,11 +135,8 @@ fn put_rows_of(numbers: &[u8], j: u32, k: u8, n: u16, rows: &mut [u8], at: usize
     ensures { Written rows.old at (kind_rows k numbers.now j n) rows.new result }
 {
     let mut end = at;
-    let mut i: u16 = 0;
-    while i < n {
-        let row = j + (i as u32);
-        end = put_row(numbers, row, k, rows, end);
-        i += 1;
+    for i in 0..n {
+        end = put_row(numbers, j + i as u32, k, rows, end);
     }
     end
 }
@@ -148,14 +145,12 @@ fn put_rows_of(numbers: &[u8], j: u32, k: u8, n: u16, rows: &mut [u8], at: usize
 pub fn put_rows(numbers: &[u8], counts: &[u8], rows: &mut [u8]) -> usize
     ensures { Written rows.old 0 (all_rows counts.now numbers.now) rows.new result }
 {
-    let mut end: usize = 0;
-    let mut j: u32 = 0;
-    let mut k: u8 = 0;
-    while k < table_rows::KINDS {
-        let n = table_rows::two_bytes(counts, 2 * (k as usize));
+    let mut end = 0;
+    let mut j = 0;
+    for k in 0..table_rows::KINDS {
+        let n = table_rows::two_bytes(counts, 2 * k as usize);
         end = put_rows_of(numbers, j, k, n, rows, end);
         j += n as u32;
-        k += 1;
     }
     end
 }

@@ -1,5 +1,5 @@
 -- `table::bad_row` meets its contract: what is left of the rows decides. Assumes nothing.
-use Prim.Native.Nat.{◌-◌, ◌≤◌}
+use Prim.Native.Nat.{◌-◌}
 use Rattle.lists.specs.Scan.{scan}
 use mathlib.Core.Path.{◌≡◌}
 use Rattle.table.specs.Rules.{row_rule}
@@ -7,7 +7,4 @@ use Rattle.table.specs.Check.{bad_row}
 use Rattle.table.proofs.bad_row.Given as goal
 
 abbrev pub invariant-loop-i : goal.invariant-loop-i
-invariant-loop-i l = (l.i ≤ l.total) × (bad_row l.image l.k ≡ scan (row_rule l.image l.k) l.i (l.total - l.i))
-
-abbrev pub decreases-loop-i : goal.decreases-loop-i
-decreases-loop-i l = l.total - l.i
+invariant-loop-i l = bad_row l.image l.k ≡ scan (row_rule l.image l.k) l.i (l.total - l.i)

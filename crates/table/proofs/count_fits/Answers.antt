@@ -1,9 +1,13 @@
 -- `table::count_fits` meets its contract. Assumes nothing.
-use Rattle.table.proofs.Laws.{counts}
+use Rattle.std.proofs.Common.{arith}
+use Rattle.std.proofs.lemmas.Grind.{common_steps}
+use Rattle.table.specs.Check.{count_fits}
 use Rattle.table.proofs.count_fits.Goals as goal
 
-pub returns-then-total-kind : goal.returns-then-total-kind
-returns-then-total-kind c = search counts
+pub returns-then-kind_at-total : goal.returns-then-kind_at-total
+unfolding count_fits
+returns-then-kind_at-total c = grind (arith, common_steps)
 
-pub returns : goal.returns
-returns c = search counts
+pub returns-else-kind_at-total : goal.returns-else-kind_at-total
+unfolding count_fits
+returns-else-kind_at-total c = grind (arith, common_steps)

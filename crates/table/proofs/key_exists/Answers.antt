@@ -1,12 +1,13 @@
 -- `table::key_exists` meets its contract. Assumes nothing.
-use Rattle.lists.specs.Steps.{chains}
+use Rattle.std.proofs.Common.{arith}
+use Rattle.std.proofs.lemmas.Grind.{common_steps}
 use Rattle.table.specs.Rules.{key_exists}
 use Rattle.table.proofs.key_exists.Goals as goal
 
 pub returns-then-k-f : goal.returns-then-k-f
 unfolding key_exists
-returns-then-k-f c = search chains
+returns-then-k-f c = grind (arith, common_steps)
 
-pub returns : goal.returns
+pub returns-else-k-f : goal.returns-else-k-f
 unfolding key_exists
-returns c = search chains
+returns-else-k-f c = grind (arith, common_steps)

@@ -8,6 +8,6 @@ pub returns-then-j-lt-KEYS : goal.returns-then-j-lt-KEYS
 unfolding key_fields
 returns-then-j-lt-KEYS c = refl
 
-pub returns : goal.returns
+pub returns-else-j-lt-KEYS : goal.returns-else-j-lt-KEYS
 unfolding key_fields
-returns c = sym (get_or-eq_default key_fields (key 0 0 0) c.if-j-lt-KEYS.false)
+returns-else-j-lt-KEYS c = sym (get_or-eq_default key_fields (key 0 0 0) c.if-j-lt-KEYS.false)

@@ -1,24 +1,33 @@
 -- `table::own_rule` meets its contract. Assumes nothing.
-use Rattle.table.proofs.Laws.{owns}
+use Rattle.std.proofs.Common.{arith}
+use Rattle.std.proofs.lemmas.Grind.{common_steps}
+use Rattle.table.specs.Rules.{own_rule}
 use Rattle.table.proofs.own_rule.Goals as goal
 
-pub returns-then-k-eq-SCOPE : goal.returns-then-k-eq-SCOPE
-returns-then-k-eq-SCOPE c = search owns
+pub returns-in-0 : goal.returns-in-0
+unfolding own_rule
+returns-in-0 c = grind (arith, common_steps)
 
-pub returns-then-k-eq-REACTOR : goal.returns-then-k-eq-REACTOR
-returns-then-k-eq-REACTOR c = search owns
+pub returns-in-1 : goal.returns-in-1
+unfolding own_rule
+returns-in-1 c = grind (arith, common_steps)
 
-pub returns-then-k-eq-MODE : goal.returns-then-k-eq-MODE
-returns-then-k-eq-MODE c = search owns
+pub returns-in-2 : goal.returns-in-2
+unfolding own_rule
+returns-in-2 c = grind (arith, common_steps)
 
-pub returns-then-k-eq-REACTION : goal.returns-then-k-eq-REACTION
-returns-then-k-eq-REACTION c = search owns
+pub returns-in-3 : goal.returns-in-3
+unfolding own_rule
+returns-in-3 c = grind (arith, common_steps)
 
-pub returns-then-k-eq-ACTION : goal.returns-then-k-eq-ACTION
-returns-then-k-eq-ACTION c = search owns
+pub returns-in-4 : goal.returns-in-4
+unfolding own_rule
+returns-in-4 c = grind (arith, common_steps)
 
-pub returns-then-k-eq-TIMER : goal.returns-then-k-eq-TIMER
-returns-then-k-eq-TIMER c = search owns
+pub returns-in-8 : goal.returns-in-8
+unfolding own_rule
+returns-in-8 c = grind (arith, common_steps)
 
-pub returns : goal.returns
-returns c = search owns
+pub returns-in_default : goal.returns-in_default
+unfolding own_rule
+returns-in_default c = grind (arith, common_steps)

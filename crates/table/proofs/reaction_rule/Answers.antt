@@ -1,8 +1,9 @@
 -- `table::reaction_rule` meets its contract. Assumes nothing.
-use Rattle.lists.specs.Steps.{chains}
+use Rattle.std.proofs.Common.{arith}
+use Rattle.std.proofs.lemmas.Grind.{common_steps}
 use Rattle.table.specs.Rules.{reaction_rule}
 use Rattle.table.proofs.reaction_rule.Goals as goal
 
 pub returns : goal.returns
 unfolding reaction_rule
-returns c = search chains
+returns c = grind (arith, common_steps)

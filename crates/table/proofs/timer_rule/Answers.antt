@@ -1,6 +1,9 @@
 -- `table::timer_rule` meets its contract. Assumes nothing.
-use Rattle.table.proofs.Laws.{rules}
+use Rattle.std.proofs.Common.{arith}
+use Rattle.std.proofs.lemmas.Grind.{common_steps}
+use Rattle.table.specs.Rules.{timer_rule}
 use Rattle.table.proofs.timer_rule.Goals as goal
 
 pub returns : goal.returns
-returns c = search rules
+unfolding timer_rule
+returns c = grind (arith, common_steps)

@@ -1,30 +1,34 @@
 -- `table_broken_rules::own_fault` meets its contract. Assumes nothing.
-use Rattle.table_broken_rules.proofs.Laws.{faults, own_action, own_timer}
-use Rattle.table_broken_rules.specs.BrokenRules.{own_fault}
+use Rattle.std.proofs.Common.{arith}
+use Rattle.std.proofs.lemmas.Grind.{common_steps}
+use Rattle.table.specs.Rules.{mode_rule}
+use Rattle.table_broken_rules.specs.BrokenRules.{own_fault, mode_row_fault, level_fault, logical_fault, timer_fault}
 use Rattle.table_broken_rules.proofs.own_fault.Goals as goal
 
-pub returns-then-k-eq-SCOPE : goal.returns-then-k-eq-SCOPE
+pub returns-in-0 : goal.returns-in-0
 unfolding own_fault
-returns-then-k-eq-SCOPE c = search faults
+returns-in-0 c = grind (arith, common_steps)
 
-pub returns-then-k-eq-REACTOR : goal.returns-then-k-eq-REACTOR
+pub returns-in-1 : goal.returns-in-1
 unfolding own_fault
-returns-then-k-eq-REACTOR c = search faults
+returns-in-1 c = grind (arith, common_steps)
 
-pub returns-then-k-eq-MODE : goal.returns-then-k-eq-MODE
+pub returns-in-2 : goal.returns-in-2
+unfolding own_fault mode_row_fault mode_rule
+returns-in-2 c = grind (arith, common_steps)
+
+pub returns-in-3 : goal.returns-in-3
+unfolding own_fault level_fault
+returns-in-3 c = grind (arith, common_steps)
+
+pub returns-in-4 : goal.returns-in-4
+unfolding own_fault logical_fault
+returns-in-4 c = grind (arith, common_steps)
+
+pub returns-in-8 : goal.returns-in-8
+unfolding own_fault timer_fault
+returns-in-8 c = grind (arith, common_steps)
+
+pub returns-in_default : goal.returns-in_default
 unfolding own_fault
-returns-then-k-eq-MODE c = search faults
-
-pub returns-then-k-eq-REACTION : goal.returns-then-k-eq-REACTION
-unfolding own_fault
-returns-then-k-eq-REACTION c = search faults
-
-pub returns-then-k-eq-ACTION : goal.returns-then-k-eq-ACTION
-returns-then-k-eq-ACTION c = own_action _ _ _ c.if-k-eq-ACTION.true c.logical_fault.ensures
-
-pub returns-then-k-eq-TIMER : goal.returns-then-k-eq-TIMER
-returns-then-k-eq-TIMER c = own_timer _ _ _ c.if-k-eq-TIMER.true c.timer_fault.ensures
-
-pub returns : goal.returns
-unfolding own_fault
-returns c = search faults
+returns-in_default c = grind (arith, common_steps)

@@ -4,4 +4,4 @@ use Rattle.table_rows.proofs.count.Goals as goal
 
 pub returns : goal.returns
 unfolding count
-returns c = rw (← c.count_place-at.ensures) c.two_bytes.ensures
+returns c = rw (← c.count_place.ensures) c.two_bytes.ensures

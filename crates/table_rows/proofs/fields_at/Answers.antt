@@ -9,6 +9,6 @@ pub returns-then-k-lt-KINDS : goal.returns-then-k-lt-KINDS
 unfolding field_table fields_of
 returns-then-k-lt-KINDS c = (refl, first_le c.args.k, second_le c.args.k, third_le c.args.k)
 
-pub returns : goal.returns
+pub returns-else-k-lt-KINDS : goal.returns-else-k-lt-KINDS
 unfolding field_table
-returns c = (fields_past c.args.k c.if-k-lt-KINDS.false, search rules, search rules, search rules)
+returns-else-k-lt-KINDS c = (fields_past c.args.k c.if-k-lt-KINDS.false, search rules, search rules, search rules)

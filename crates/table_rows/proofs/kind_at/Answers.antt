@@ -9,6 +9,6 @@ pub returns-then-k-lt-KINDS : goal.returns-then-k-lt-KINDS
 unfolding kinds kind_of
 returns-then-k-lt-KINDS c = (refl, width_le c.args.k)
 
-pub returns : goal.returns
+pub returns-else-k-lt-KINDS : goal.returns-else-k-lt-KINDS
 unfolding kinds
-returns c = (kind_past c.args.k c.if-k-lt-KINDS.false, search rules)
+returns-else-k-lt-KINDS c = (kind_past c.args.k c.if-k-lt-KINDS.false, search rules)

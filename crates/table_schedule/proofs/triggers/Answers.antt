@@ -1,13 +1,14 @@
 -- `table_schedule::triggers` meets its contract. Assumes nothing.
-use Rattle.table_schedule.specs.Schedule.{triggers_of}
 use borrow.Author.Rules.{rules}
+use lib.Dec.{eqb}
 use Rattle.table_rows.specs.Kinds as K
+use Rattle.table_schedule.specs.Schedule.{triggers_of}
 use Rattle.table_schedule.proofs.triggers.Goals as goal
 
-pub reactions_of-requires : goal.reactions_of-requires
+pub gather-requires-clause-fits : goal.gather-requires-clause-fits
 unfolding K.kind_of K.kinds
-reactions_of-requires c = search rules
+gather-requires-clause-fits c = search rules
 
 pub returns : goal.returns
 unfolding triggers_of
-returns c = c.reactions_of.ensures
+returns c = c.gather.ensures (λ x. eqb x c.args.action) (λ x r h q. search rules)

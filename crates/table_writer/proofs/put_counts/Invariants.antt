@@ -1,12 +1,7 @@
 -- `table_writer::put_counts` meets its contract: one count more a turn. Assumes nothing.
-use Prim.Native.Nat.{◌-◌, ◌≤◌}
-use Rattle.table_rows.specs.Kinds.{kind_count}
 use Rattle.byte_writer.specs.Written.{Written}
 use Rattle.table_writer.specs.Numbers.{counts_in}
 use Rattle.table_writer.proofs.put_counts.Given as goal
 
 abbrev pub invariant-loop-k : goal.invariant-loop-k
-invariant-loop-k l = (l.k ≤ kind_count) × Written l.initial.counts l.initial.end (counts_in l.numbers l.k) l.counts l.end
-
-abbrev pub decreases-loop-k : goal.decreases-loop-k
-decreases-loop-k l = kind_count - l.k
+invariant-loop-k l = Written l.initial.counts l.initial.end (counts_in l.numbers l.k) l.counts l.end
