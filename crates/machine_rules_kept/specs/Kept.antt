@@ -1,6 +1,6 @@
 -- Document 01, "State rules", and refusal 11: a fresh manager over an accepted table keeps them, and so does every call; so 11 is never answered there.
 -- Assumes nothing.
-use Rattle.std.specs.Prelude.{ℕ, ◌<◌, ◌≤◌, Bool, false, ◌&&◌, ◌≡◌, refl, List, [], ◌∷◌, map, leb, eqb}
+use Rattle.std.specs.Prelude.{ℕ, ◌<◌, ◌≤◌, Bool, false, ◌&&◌, ◌≡◌, refl, List, [], ◌∷◌, map, leb, eqb, Ok, Err}
 use Rattle.std.proofs.Math.Bool.{true, not}
 use Rattle.std.specs.Bool.{beq}
 use Rattle.std.proofs.Common.{ap, ◌∙◌, sym}
@@ -14,10 +14,8 @@ use Rattle.lists.specs.Lists.{count, every, from}
 use Rattle.table_rows.specs.Bytes.{Image}
 use Rattle.table_rows.specs.Limits.{limits}
 use Rattle.table_rows.specs.Rows.{initial_mode}
-use Rattle.table.specs.Check.{check}
+use Rattle.table.specs.Check.{Checked, check}
 use Rattle.table.specs.Table.{Table}
-use Rattle.table.specs.declared.Checked.{Checked}
-use Rattle.table.specs.declared.Checked.TheVariants.{Accepted, Refused}
 use Rattle.table.proofs.TableLaws.{table_of}
 use Rattle.tags.specs.Tags.{fresh_clock, within_clock}
 use Rattle.table_schedule.specs.Schedule.{is_active}
@@ -48,9 +46,9 @@ pub table_is : (img : Image) → is_table img ≡ true → Table img
 unfolding is_table
 table_is img h = table_of img (go (check img) h)
   where
-    go : (a : Checked) → accepts a ≡ true → a ≡ Accepted
-    go Accepted e = refl
-    go (Refused n) e = no_way e
+    go : (a : Checked) → accepts a ≡ true → a ≡ Ok tt
+    go (Ok _) e = refl
+    go (Err n) e = no_way e
 
 -- ---- the test and the facts
 

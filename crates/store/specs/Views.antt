@@ -23,6 +23,19 @@ bucket_test (BT.Of a) = bucket_of a
 bucket_test (BT.Covers a t) = covered_by a (of_global t)
 bucket_test (BT.Stray n) = λ b. not (bucket_rules n b)
 
+-- a value, a bucket, is under the first's key, and what the first makes of it
+abbrev pub own_value : Value → Value → Bool
+own_value v = is_value v.action v.tag
+
+abbrev pub renewed_value : Value → Value → Value
+renewed_value v = overwritten v.value
+
+abbrev pub own_bucket : Bucket → Bucket → Bool
+own_bucket b = is_bucket b.action b.offset
+
+abbrev pub renewed_bucket : Bucket → Bucket → Bucket
+renewed_bucket b = raised b.next
+
 -- v in place of the value under its action and tag, or last
 abbrev pub value_put : Value → List Value → List Value
 value_put v l = upsert (is_value v.action v.tag) (overwritten v.value) v l

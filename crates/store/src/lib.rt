@@ -1,19 +1,69 @@
 // Values and buckets found, set and lost in lent rows: what the calls of the value store are made of. Document 01, "Values and level walks", first part.
-// How a row is found is in `ValueTest` and `BucketTest`, once for finding, losing and the rules; the manager's crates use store_calls.
+// What values and buckets share is `Entry`, and all that goes over rows is written once over it; which of them are meant is in `ValueTest` and `BucketTest`.
+// The manager's crates use store_calls.
 #![tactic(auto)]
 
-ghost use Rattle.std.specs.Prelude.{◌≡◌, ◌+◌, ◌≤◌, ◌<◌, length, take, drop};
-ghost use Rattle.lists.specs.Lists.{lose, over};
+ghost use Rattle.std.specs.Prelude.{ℕ, Bool, List, get_or, set, ◌≡◌, ◌+◌, ◌≤◌, ◌<◌, length, take, drop};
+ghost use Rattle.lists.specs.Lists.{lose, over, upsert};
 ghost use Rattle.lists.specs.Lay.{lay};
 ghost use Rattle.tags.specs.Views.{of_global};
-ghost use Rattle.store_words.specs.Entries.{room_for_entries, of_value, of_bucket, blank_value, blank_bucket};
+ghost use Rattle.store_words.specs.Entries.{room_for_entries, of_value, of_bucket};
+ghost use Rattle.store_words.specs.Entries as entries;
 ghost use Rattle.store_words.specs.Words.{values_of, buckets_of, WholeValues, WholeBuckets, HeldValues, HeldBuckets};
+ghost use Rattle.store.specs.Layout.{Layout, things_in, WholeIn, HeldIn, value_layout, bucket_layout};
 ghost use Rattle.lists.specs.Loops.{place};
-ghost use Rattle.store.specs.Store.{is_value, is_bucket, is_before, is_there, is_spent, following, larger, raised, value_rules, bucket_rules, covered_by};
-ghost use Rattle.store.specs.Views.{value_test, bucket_test, value_put, bucket_put};
+ghost use Rattle.store.specs.Store.{following, covered_by};
+ghost use Rattle.store.specs.Views.{value_test, bucket_test, own_value, own_bucket, renewed_value, renewed_bucket};
 
 use store_words::{Bucket, BucketRows, Value, ValueRows};
-use tags::GlobalTag;
+use tags::{GlobalTag, Scale};
+
+// A thing of the definitions that is held as a row of words: what values and buckets share.
+pub trait Entry: Copy {
+    // The array of words, with room for ROOM_FOR_ENTRIES of them.
+    type Rows;
+
+    // Which of them are meant.
+    type Test: Copy;
+
+    ghost Thing: { Type 0 };
+
+    ghost of: { Self → Thing };
+
+    ghost words: { Self.Rows → List ℕ };
+
+    ghost layout: { Layout Thing };
+
+    ghost passes: { Self.Test → Thing → Bool };
+
+    // It has the key of the first.
+    ghost own: { Thing → Thing → Bool };
+
+    // What the first makes of one under its key.
+    ghost renewed: { Thing → Thing → Thing };
+
+    fn blank() -> Self
+        ensures { of result ≡ layout.blank };
+
+    // The entry in row k; past the end a blank.
+    fn at(rows: &Self::Rows, k: usize) -> Self
+        ensures { of result ≡ get_or (things_in layout (words rows.now)) k layout.blank };
+
+    // The entry into row k; past the end nothing changes.
+    fn put(self, rows: &mut Self::Rows, k: usize)
+        requires { WholeIn layout (words rows.old) }
+        ensures { HeldIn layout (words rows.new) (set (things_in layout (words rows.old)) k (of self)) };
+
+    fn passes(self, which: Self::Test) -> bool
+        ensures { result ≡ passes which (of self) };
+
+    // The test for the one under its key.
+    fn key(self) -> Self::Test
+        ensures { passes result ≡ own (of self) };
+
+    fn renew(self, by: Self) -> Self
+        ensures { of result ≡ renewed (of by) (of self) };
+}
 
 // Which values are meant.
 #[derive(Clone, Copy)]
@@ -45,220 +95,167 @@ pub enum BucketTest {
     Stray(u16),
 }
 
+impl Entry for Value {
+    type Rows = ValueRows;
+
+    type Test = ValueTest;
+
+    ghost Thing = { entries.Value };
+
+    ghost of = { of_value };
+
+    ghost words = { λ rows. rows };
+
+    ghost layout = { value_layout };
+
+    ghost passes = { value_test };
+
+    ghost own = { own_value };
+
+    ghost renewed = { renewed_value };
+
+    fn blank() -> Self {
+        Value::blank()
+    }
+
+    fn at(rows: &ValueRows, k: usize) -> Self {
+        store_words::value_at(rows, k)
+    }
+
+    fn put(self, rows: &mut ValueRows, k: usize) {
+        store_words::put_value(rows, k, self);
+    }
+
+    fn passes(self, which: ValueTest) -> bool {
+        match which {
+            ValueTest::At(action, tag) => self.action == action && self.tag == tag,
+            ValueTest::Before(action, tag) => self.action == action && self.tag < tag,
+            ValueTest::There(action, offset) => self.action == action && self.tag.0 == offset,
+            ValueTest::Of(action) => self.action == action,
+            ValueTest::Stray(actions) => !(self.action < actions && self.tag.within()),
+        }
+    }
+
+    fn key(self) -> ValueTest {
+        ValueTest::At(self.action, self.tag)
+    }
+
+    fn renew(self, by: Self) -> Self {
+        Value {
+            value: by.value,
+            ..self
+        }
+    }
+}
+
+impl Entry for Bucket {
+    type Rows = BucketRows;
+
+    type Test = BucketTest;
+
+    ghost Thing = { entries.Bucket };
+
+    ghost of = { of_bucket };
+
+    ghost words = { λ rows. rows };
+
+    ghost layout = { bucket_layout };
+
+    ghost passes = { bucket_test };
+
+    ghost own = { own_bucket };
+
+    ghost renewed = { renewed_bucket };
+
+    fn blank() -> Self {
+        Bucket::blank()
+    }
+
+    fn at(rows: &BucketRows, k: usize) -> Self {
+        store_words::bucket_at(rows, k)
+    }
+
+    fn put(self, rows: &mut BucketRows, k: usize) {
+        store_words::put_bucket(rows, k, self);
+    }
+
+    fn passes(self, which: BucketTest) -> bool {
+        match which {
+            BucketTest::At(action, offset) => self.action == action && self.offset == offset,
+            BucketTest::Spent(action, tag, left) => {
+                self.action == action && (self.offset < tag.0 || self.offset == tag.0 && !left)
+            }
+            BucketTest::Of(action) => self.action == action,
+            BucketTest::Covers(action, tag) => is_cover(self, action, tag),
+            BucketTest::Stray(actions) => {
+                !(self.action < actions && GlobalTag(self.offset, self.next).within())
+            }
+        }
+    }
+
+    fn key(self) -> BucketTest {
+        BucketTest::At(self.action, self.offset)
+    }
+
+    fn renew(self, by: Self) -> Self {
+        Bucket {
+            next: self.next.max(by.next),
+            ..self
+        }
+    }
+}
+
 pub fn next_after(microstep: u32) -> u32
     ensures { result ≡ following microstep }
 {
-    if microstep < GlobalTag::MAX_MICROSTEP {
-        return microstep + 1;
-    }
-    GlobalTag::MAX_MICROSTEP
-}
-
-pub fn larger_of(m: u32, n: u32) -> u32
-    ensures { result ≡ larger m n }
-{
-    if m < n {
-        return n;
-    }
-    m
-}
-
-fn is_at(v: Value, action: u16, tag: GlobalTag) -> bool
-    ensures { result ≡ is_value action (of_global tag) (of_value v) }
-{
-    if v.action == action {
-        v.tag.same(tag)
+    if microstep < tags::MAX_MICROSTEP {
+        microstep + 1
     } else {
-        false
+        tags::MAX_MICROSTEP
     }
-}
-
-fn is_before(v: Value, action: u16, tag: GlobalTag) -> bool
-    ensures { result ≡ is_before action (of_global tag) (of_value v) }
-{
-    if v.action == action {
-        v.tag.earlier(tag)
-    } else {
-        false
-    }
-}
-
-fn is_there(v: Value, action: u16, offset: u64) -> bool
-    ensures { result ≡ is_there action offset (of_value v) }
-{
-    if v.action == action {
-        v.tag.0 == offset
-    } else {
-        false
-    }
-}
-
-fn is_proper(v: Value, actions: u16) -> bool
-    ensures { result ≡ value_rules actions (of_value v) }
-{
-    if v.action < actions {
-        v.tag.within()
-    } else {
-        false
-    }
-}
-
-fn is_bucket(b: Bucket, action: u16, offset: u64) -> bool
-    ensures { result ≡ is_bucket action offset (of_bucket b) }
-{
-    if b.action == action {
-        b.offset == offset
-    } else {
-        false
-    }
-}
-
-fn is_spent(b: Bucket, action: u16, tag: GlobalTag, left: bool) -> bool
-    ensures { result ≡ is_spent action (of_global tag) left (of_bucket b) }
-{
-    if b.action == action {
-        if b.offset < tag.0 {
-            return true;
-        }
-        if b.offset == tag.0 {
-            return !left;
-        }
-    }
-    false
 }
 
 pub fn is_cover(b: Bucket, action: u16, tag: GlobalTag) -> bool
     ensures { result ≡ covered_by action (of_global tag) (of_bucket b) }
 {
-    if is_bucket(b, action, tag.0) {
-        next_after(tag.1) <= b.next
-    } else {
-        false
-    }
-}
-
-fn is_proper_bucket(b: Bucket, actions: u16) -> bool
-    ensures { result ≡ bucket_rules actions (of_bucket b) }
-{
-    let t = GlobalTag(b.offset, b.next);
-    if b.action < actions {
-        t.within()
-    } else {
-        false
-    }
-}
-
-impl ValueTest {
-    fn passes(self, v: Value) -> bool
-        ensures { result ≡ value_test self (of_value v) }
-    {
-        match self {
-            ValueTest::At(action, tag) => is_at(v, action, tag),
-            ValueTest::Before(action, tag) => is_before(v, action, tag),
-            ValueTest::There(action, offset) => is_there(v, action, offset),
-            ValueTest::Of(action) => v.action == action,
-            ValueTest::Stray(actions) => !is_proper(v, actions),
-        }
-    }
-}
-
-impl BucketTest {
-    fn passes(self, b: Bucket) -> bool
-        ensures { result ≡ bucket_test self (of_bucket b) }
-    {
-        match self {
-            BucketTest::At(action, offset) => is_bucket(b, action, offset),
-            BucketTest::Spent(action, tag, left) => is_spent(b, action, tag, left),
-            BucketTest::Of(action) => b.action == action,
-            BucketTest::Covers(action, tag) => is_cover(b, action, tag),
-            BucketTest::Stray(actions) => !is_proper_bucket(b, actions),
-        }
-    }
+    b.action == action && b.offset == tag.0 && next_after(tag.1) <= b.next
 }
 
 // ---- the rows
 
-// The first row from `from` on whose value passes, or n.
-pub fn value_from(rows: &ValueRows, from: usize, n: usize, which: ValueTest) -> usize
+// The first row from `from` on whose entry passes, or n.
+pub fn find_from<E: Entry>(rows: &E::Rows, from: usize, n: usize, which: E::Test) -> usize
     requires { (from ≤ n) × (n ≤ room_for_entries) }
-    ensures { result ≡ from + place (value_test which) (drop from (take n (values_of rows.now))) }
+    ensures { result ≡ from + place (E.passes which) (drop from (take n (things_in E.layout (E.words rows.now)))) }
 {
-    let mut i = from;
-    while i < n {
-        let v = store_words::value_at(rows, i);
-        if which.passes(v) {
+    for i in from..n {
+        if E::at(rows, i).passes(which) {
             return i;
         }
-        i += 1;
     }
-    i
+    n
 }
 
-// The first row from `from` on whose bucket passes, or n.
-pub fn bucket_from(rows: &BucketRows, from: usize, n: usize, which: BucketTest) -> usize
-    requires { (from ≤ n) × (n ≤ room_for_entries) }
-    ensures { result ≡ from + place (bucket_test which) (drop from (take n (buckets_of rows.now))) }
-{
-    let mut i = from;
-    while i < n {
-        let b = store_words::bucket_at(rows, i);
-        if which.passes(b) {
-            return i;
-        }
-        i += 1;
-    }
-    i
-}
-
-// The first row whose value passes, or n.
-pub fn find_value(rows: &ValueRows, n: usize, which: ValueTest) -> usize
+// The first row whose entry passes, or n.
+pub fn find<E: Entry>(rows: &E::Rows, n: usize, which: E::Test) -> usize
     requires { n ≤ room_for_entries }
-    ensures { result ≡ place (value_test which) (take n (values_of rows.now)) }
+    ensures { result ≡ place (E.passes which) (take n (things_in E.layout (E.words rows.now))) }
 {
-    value_from(rows, 0, n, which)
+    find_from::<E>(rows, 0, n, which)
 }
 
-pub fn find_bucket(rows: &BucketRows, n: usize, which: BucketTest) -> usize
-    requires { n ≤ room_for_entries }
-    ensures { result ≡ place (bucket_test which) (take n (buckets_of rows.now)) }
-{
-    bucket_from(rows, 0, n, which)
-}
-
-// The values that don't pass, over the front; how many.
-fn compact_values(rows: &mut ValueRows, n: usize, which: ValueTest) -> usize
-    requires whole_values { WholeValues rows.old }
+// The entries that don't pass, over the front; how many.
+pub fn compact<E: Entry>(rows: &mut E::Rows, n: usize, which: E::Test) -> usize
+    requires whole { WholeIn E.layout (E.words rows.old) }
     requires n_le_room_for_entries { n ≤ room_for_entries }
-    ensures value { result ≡ length (lose (value_test which) (take n (values_of rows.old))) }
-    ensures held_values { HeldValues rows.new (over (lose (value_test which) (take n (values_of rows.old))) (values_of rows.old)) }
+    ensures value { result ≡ length (lose (E.passes which) (take n (things_in E.layout (E.words rows.old)))) }
+    ensures held { HeldIn E.layout (E.words rows.new) (over (lose (E.passes which) (take n (things_in E.layout (E.words rows.old)))) (things_in E.layout (E.words rows.old))) }
 {
-    let mut w: usize = 0;
-    let mut i: usize = 0;
-    while i < n {
-        let v = store_words::value_at(rows, i);
-        i += 1;
-        if which.passes(v) {} else {
-            store_words::put_value(rows, w, v);
-            w += 1;
-        }
-    }
-    w
-}
-
-// The buckets that don't pass, over the front; how many.
-fn compact_buckets(rows: &mut BucketRows, n: usize, which: BucketTest) -> usize
-    requires whole_buckets { WholeBuckets rows.old }
-    requires n_le_room_for_entries { n ≤ room_for_entries }
-    ensures value { result ≡ length (lose (bucket_test which) (take n (buckets_of rows.old))) }
-    ensures held_buckets { HeldBuckets rows.new (over (lose (bucket_test which) (take n (buckets_of rows.old))) (buckets_of rows.old)) }
-{
-    let mut w: usize = 0;
-    let mut i: usize = 0;
-    while i < n {
-        let b = store_words::bucket_at(rows, i);
-        i += 1;
-        if which.passes(b) {} else {
-            store_words::put_bucket(rows, w, b);
+    let mut w = 0;
+    for i in 0..n {
+        let e = E::at(rows, i);
+        if !e.passes(which) {
+            e.put(rows, w);
             w += 1;
         }
     }
@@ -266,97 +263,65 @@ fn compact_buckets(rows: &mut BucketRows, n: usize, which: BucketTest) -> usize
 }
 
 // The rows from w to n blank.
+pub fn blank<E: Entry>(rows: &mut E::Rows, w: usize, n: usize)
+    requires whole { WholeIn E.layout (E.words rows.old) }
+    requires w_le_n { (w ≤ n) × (n ≤ room_for_entries) }
+    ensures { HeldIn E.layout (E.words rows.new) (lay E.layout.blank (things_in E.layout (E.words rows.old)) (take w (things_in E.layout (E.words rows.old))) n) }
+{
+    for i in w..n {
+        E::blank().put(rows, i);
+    }
+}
+
+// The entries that pass go, and the rows they free are blank; how many stay.
+pub fn lose<E: Entry>(rows: &mut E::Rows, n: usize, which: E::Test) -> usize
+    requires whole { WholeIn E.layout (E.words rows.old) }
+    requires n_le_room_for_entries { n ≤ room_for_entries }
+    ensures value { result ≡ length (lose (E.passes which) (take n (things_in E.layout (E.words rows.old)))) }
+    ensures held { HeldIn E.layout (E.words rows.new) (lay E.layout.blank (things_in E.layout (E.words rows.old)) (lose (E.passes which) (take n (things_in E.layout (E.words rows.old)))) n) }
+{
+    let w = compact::<E>(rows, n, which);
+    blank::<E>(rows, w, n);
+    w
+}
+
+// e in row i, which is its own or the first that is free: a value overwrites, a bucket rises to e's next microstep; how many are held then.
+pub fn upsert<E: Entry>(rows: &mut E::Rows, n: usize, i: usize, e: E) -> usize
+    requires whole { WholeIn E.layout (E.words rows.old) }
+    requires i_value { i ≡ place (E.own (E.of e)) (take n (things_in E.layout (E.words rows.old))) }
+    requires n_le_room_for_entries { (n ≤ room_for_entries) × (i < room_for_entries) }
+    ensures value { result ≡ length (upsert (E.own (E.of e)) (E.renewed (E.of e)) (E.of e) (take n (things_in E.layout (E.words rows.old)))) }
+    ensures held { HeldIn E.layout (E.words rows.new) (lay E.layout.blank (things_in E.layout (E.words rows.old)) (upsert (E.own (E.of e)) (E.renewed (E.of e)) (E.of e) (take n (things_in E.layout (E.words rows.old)))) n) }
+{
+    if i < n {
+        E::at(rows, i).renew(e).put(rows, i);
+        return n;
+    }
+    e.put(rows, n);
+    n + 1
+}
+
+// ---- at values and at buckets, as the crates above call them
+
+pub fn find_value(rows: &ValueRows, n: usize, which: ValueTest) -> usize
+    requires { n ≤ room_for_entries }
+    ensures { result ≡ place (value_test which) (take n (values_of rows.now)) }
+{
+    find::<Value>(rows, n, which)
+}
+
 pub fn blank_values(rows: &mut ValueRows, w: usize, n: usize)
     requires whole_values { WholeValues rows.old }
     requires w_le_n { (w ≤ n) × (n ≤ room_for_entries) }
-    ensures { HeldValues rows.new (lay blank_value (values_of rows.old) (take w (values_of rows.old)) n) }
+    ensures { HeldValues rows.new (lay entries.blank_value (values_of rows.old) (take w (values_of rows.old)) n) }
 {
-    let v = Value::blank();
-    let mut i = w;
-    while i < n {
-        store_words::put_value(rows, i, v);
-        i += 1;
-    }
+    blank::<Value>(rows, w, n);
 }
 
 pub fn blank_buckets(rows: &mut BucketRows, w: usize, n: usize)
     requires whole_buckets { WholeBuckets rows.old }
     requires w_le_n { (w ≤ n) × (n ≤ room_for_entries) }
-    ensures { HeldBuckets rows.new (lay blank_bucket (buckets_of rows.old) (take w (buckets_of rows.old)) n) }
+    ensures { HeldBuckets rows.new (lay entries.blank_bucket (buckets_of rows.old) (take w (buckets_of rows.old)) n) }
 {
-    let b = Bucket::blank();
-    let mut i = w;
-    while i < n {
-        store_words::put_bucket(rows, i, b);
-        i += 1;
-    }
-}
-
-// The values that pass go, and the rows they free are blank; how many stay.
-pub fn lose_values(rows: &mut ValueRows, n: usize, which: ValueTest) -> usize
-    requires whole_values { WholeValues rows.old }
-    requires n_le_room_for_entries { n ≤ room_for_entries }
-    ensures value { result ≡ length (lose (value_test which) (take n (values_of rows.old))) }
-    ensures held_values { HeldValues rows.new (lay blank_value (values_of rows.old) (lose (value_test which) (take n (values_of rows.old))) n) }
-{
-    let w = compact_values(rows, n, which);
-    blank_values(rows, w, n);
-    w
-}
-
-pub fn lose_buckets(rows: &mut BucketRows, n: usize, which: BucketTest) -> usize
-    requires whole_buckets { WholeBuckets rows.old }
-    requires n_le_room_for_entries { n ≤ room_for_entries }
-    ensures value { result ≡ length (lose (bucket_test which) (take n (buckets_of rows.old))) }
-    ensures held_buckets { HeldBuckets rows.new (lay blank_bucket (buckets_of rows.old) (lose (bucket_test which) (take n (buckets_of rows.old))) n) }
-{
-    let w = compact_buckets(rows, n, which);
-    blank_buckets(rows, w, n);
-    w
-}
-
-// ---- one value, one bucket
-
-// v in row i, which is its own or the first that is free; how many are held then.
-pub fn set_value(rows: &mut ValueRows, n: usize, i: usize, v: Value) -> usize
-    requires whole_values { WholeValues rows.old }
-    requires i_value { i ≡ place (is_value v.action (of_global v.tag)) (take n (values_of rows.old)) }
-    requires n_le_room_for_entries { (n ≤ room_for_entries) × (i < room_for_entries) }
-    ensures value { result ≡ length (value_put (of_value v) (take n (values_of rows.old))) }
-    ensures held_values { HeldValues rows.new (lay blank_value (values_of rows.old) (value_put (of_value v) (take n (values_of rows.old))) n) }
-{
-    if i < n {
-        let mut old = store_words::value_at(rows, i);
-        old.value = v.value;
-        store_words::put_value(rows, i, old);
-        return n;
-    }
-    store_words::put_value(rows, n, v);
-    n + 1
-}
-
-// The bucket with the larger next microstep.
-fn raised_to(b: Bucket, next: u32) -> Bucket
-    ensures { of_bucket result ≡ raised next (of_bucket b) }
-{
-    let mut up = b;
-    up.next = larger_of(b.next, next);
-    up
-}
-
-// The bucket in row i, which is its own or the first that is free, rises to b's next microstep; how many are held then.
-pub fn raise_bucket(rows: &mut BucketRows, n: usize, i: usize, b: Bucket) -> usize
-    requires whole_buckets { WholeBuckets rows.old }
-    requires i_value { i ≡ place (is_bucket b.action b.offset) (take n (buckets_of rows.old)) }
-    requires n_le_room_for_entries { (n ≤ room_for_entries) × (i < room_for_entries) }
-    ensures value { result ≡ length (bucket_put (of_bucket b) (take n (buckets_of rows.old))) }
-    ensures held_buckets { HeldBuckets rows.new (lay blank_bucket (buckets_of rows.old) (bucket_put (of_bucket b) (take n (buckets_of rows.old))) n) }
-{
-    if i < n {
-        let old = store_words::bucket_at(rows, i);
-        store_words::put_bucket(rows, i, raised_to(old, b.next));
-        return n;
-    }
-    store_words::put_bucket(rows, n, b);
-    n + 1
+    blank::<Bucket>(rows, w, n);
 }

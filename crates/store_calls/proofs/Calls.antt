@@ -1,5 +1,5 @@
 -- What each call leaves in the rows that it is lent, from what its parts promise. Assumes nothing.
-use mathlib.Core.Bool.{Bool, true, false, cond, ◌||◌}
+use mathlib.Core.Bool.{Bool, true, false, cond}
 use mathlib.Core.Path.{◌≡◌, refl, ap, ◌∙◌, sym}
 use mathlib.Core.List.{List, [], ◌∷◌}
 use Prim.Native.Nat.{ℕ, suc, ◌<◌, ◌≤◌, max}
@@ -8,6 +8,7 @@ use lib.Dec.{ltb, leb}
 use borrow.Author.Tests.{le-leb, lt-leb}
 use lib.ListN.{length, take, get_or}
 use lib.Seq.{get_or-take}
+use Rattle.std.proofs.Math.Bool.{or-true}
 use Rattle.lists.specs.Lists.{lose, any, lose_shorter}
 use Rattle.lists.specs.Lay.{lay, lay_same, lay_take, lay_lay}
 use Rattle.lists.specs.Held.{things_length}
@@ -17,13 +18,14 @@ use Rattle.tags.specs.Tags.{Tag, same_tag}
 use Rattle.store_words.specs.Entries.{Value, Bucket, room_for_entries, blank_value, blank_bucket}
 use Rattle.store_words.specs.Words.{values_of, buckets_of, HeldValues, HeldBuckets, decode_value, encode_value, value_words, long_value, decode_bucket, encode_bucket, bucket_words, long_bucket}
 use Rattle.lists.specs.Loops.{place, place_any, place_full, place_short, lose_none, lose_fewer, front_long}
-use Rattle.store.specs.Store.{Store, is_value, is_bucket, is_there, is_spent, is_before, following, larger, lacks, pushed, Found}
+use Rattle.store.specs.Store.{Store, is_value, is_bucket, is_there, is_spent, is_before, following, lacks, pushed, Found}
 use Rattle.store.specs.Store.{nothing, found, next_in, value_in, at_least, unless_last, taken, cleared_before, moved}
 use Rattle.store.specs.Views.{value_put, bucket_put}
+use Rattle.store.proofs.Laws.{larger_is}
 use Rattle.store_calls.specs.Lent.{store_of, Lent, Laid, Did, overfull}
 use Rattle.store_calls.specs.declared.Counts.{Counts}
 use Rattle.store_calls.specs.declared.Changed.{Changed}
-use Rattle.refusals.specs.declared.Outcome.TheVariants as O
+use Rattle.std.specs.Prelude.{Ok}
 
 values_long : (vs : List ℕ) (n : ℕ) → n ≤ room_for_entries → length (take n (values_of vs)) ≡ n
 values_long vs n h = front_long decode_value encode_value value_words room_for_entries long_value vs n h
@@ -70,7 +72,7 @@ module _ (bs : List ℕ) (n : ℕ) (few : n ≤ room_for_entries) (a o least : �
   no_bucket h q =
       rw (pick_none (is_bucket a o) (λ b. b.next) (next_in a o) refl (λ b l. refl) (take n (buckets_of bs)) (rw (buckets_long bs n few, ← e) h)) q
 
-  pub this_bucket : (b : Bucket) {k : ℕ} → j < n → b ≡ get_or (buckets_of bs) j blank_bucket → k ≡ larger b.next least → r ≡ unless_last k → r ≡ at_least (next_in a o (take n (buckets_of bs))) least
+  pub this_bucket : (b : Bucket) {k : ℕ} → j < n → b ≡ get_or (buckets_of bs) j blank_bucket → k ≡ max b.next least → r ≡ unless_last k → r ≡ at_least (next_in a o (take n (buckets_of bs))) least
   unfolding next_in
   this_bucket b h y z q =
       rw (
@@ -78,17 +80,14 @@ module _ (bs : List ℕ) (n : ℕ) (few : n ≤ room_for_entries) (a o least : �
         ← e,
         get_or-take n (buckets_of bs) j blank_bucket h,
         ← y,
+        ← (larger_is b.next least),
         ← z,
       ) q
-
-or_true : (b : Bool) → (b || true) ≡ true
-or_true true = refl
-or_true false = refl
 
 -- a new bucket is needed, and as many are held as may be
 push_over : (limit : ℕ) (s : Store) (a : ℕ) (t : Tag) (v : ℕ) → lacks limit (is_bucket a t.offset) s.buckets ≡ true → pushed limit s a t v ≡ refused R.Held
 unfolding pushed
-push_over limit s a t v e = simp (e, or_true)
+push_over limit s a t v e = simp (e, or-true)
 
 -- ---- the rows
 
@@ -143,7 +142,7 @@ module _ {limit : ℕ} (vs bs : List ℕ) (n : Counts) (lent : Lent limit vs bs 
     push_is h k = simp (value_full, bucket_full, lt-leb limit i h, lt-leb limit j k)
 
     pub push_done : {k : ℕ} {m : Counts} {vs-end bs-end : List ℕ} → i < limit → j < limit → k ≡ following t.microstep → Laid vs bs n (put k) vs-end bs-end m
-        → Did vs bs n (pushed limit (store_of vs bs n) a t v) vs-end bs-end (record { outcome = O.Done; held = m })
+        → Did vs bs n (pushed limit (store_of vs bs n) a t v) vs-end bs-end (record { outcome = Ok tt; held = m })
     push_done h l e q = rw (push_is h l, ← e) (record { outcome = refl; laid = q })
 
   -- ---- take, clear
@@ -193,13 +192,13 @@ module _ {limit : ℕ} (vs bs : List ℕ) (n : Counts) (lent : Lent limit vs bs 
     abbrev here : Store
     here = store_of vs bs n
 
-    pub move_same : {b : Bool} → b ≡ same_tag old new → b ≡ true → Did vs bs n (moved limit here a old new) vs bs (record { outcome = O.Done; held = n })
+    pub move_same : {b : Bool} → b ≡ same_tag old new → b ≡ true → Did vs bs n (moved limit here a old new) vs bs (record { outcome = Ok tt; held = n })
     unfolding moved
     move_same e h = simp (sym e ∙ h) (record { outcome = refl; laid = laid_same vs bs n lent })
 
     module _ {b : Bool} (eb : b ≡ same_tag old new) (hb : b ≡ false) (i j : ℕ) (ei : i ≡ place (is_value a old) (take n.values (values_of vs)))
         (ej : j ≡ place (is_bucket a new.offset) (take n.buckets (buckets_of bs))) where
-      pub move_none : n.values ≤ i → Did vs bs n (moved limit here a old new) vs bs (record { outcome = O.Done; held = n })
+      pub move_none : n.values ≤ i → Did vs bs n (moved limit here a old new) vs bs (record { outcome = Ok tt; held = n })
       unfolding moved
       move_none h = simp (sym eb ∙ hb, ← (no_value vs n.values (values_fit lent) a old i ei h)) (record { outcome = refl; laid = laid_same vs bs n lent })
 

@@ -1,5 +1,6 @@
 -- The store that lent rows hold, what a working function asks of them and leaves in them, and its answers. Assumes nothing.
-use Rattle.std.specs.Prelude.{◌≡◌, List, ℕ, ◌≤◌, length, take}
+use Rattle.std.specs.Prelude.{◌≡◌, List, ℕ, ◌≤◌, length, take, Some, None, Ok, Err}
+use Rattle.std.specs.Prelude as code
 use Rattle.lists.specs.Lay.{lay}
 use Rattle.lists.specs.Walk.{Result, done, refused}
 use Rattle.refusals.specs.declared.Refusal.{Refusal}
@@ -9,13 +10,7 @@ use Rattle.store_words.specs.Words.{values_of, buckets_of, WholeValues, WholeBuc
 use Rattle.store.specs.Store as S
 use Rattle.store.specs.Store.{Store}
 use Rattle.store_calls.specs.declared.Counts.{Counts}
-use Rattle.refusals.specs.declared.Outcome.{Outcome}
-use Rattle.refusals.specs.declared.Outcome.TheVariants as O
 use Rattle.store_calls.specs.declared.Changed.{Changed}
-use Rattle.store_calls.specs.declared.Found.{Found}
-use Rattle.store_calls.specs.declared.Found.TheVariants as F
-use Rattle.store_calls.specs.declared.Next.{Next}
-use Rattle.store_calls.specs.declared.Next.TheVariants as N
 
 abbrev pub store_of : List ℕ → List ℕ → Counts → Store
 store_of vs bs n = record { values = take n.values (values_of vs); buckets = take n.buckets (buckets_of bs) }
@@ -37,17 +32,19 @@ pub record Laid (vs bs : List ℕ) (n : Counts) (t : Store) (vs-end bs-end : Lis
 
 -- ---- answers
 
-abbrev pub found_of : Found → S.Found
-found_of F.Nothing = S.nothing
-found_of (F.Value v) = S.found v
+-- a value that was asked for, or "nothing"
+abbrev pub found_of : code.Option ℕ → S.Found
+found_of None = S.nothing
+found_of (Some v) = S.found v
 
-abbrev pub next_of : Next → S.Found
-next_of N.Nothing = S.nothing
-next_of (N.Microstep m) = S.found m
+-- the next microstep, or none
+abbrev pub next_of : code.Option ℕ → S.Found
+next_of None = S.nothing
+next_of (Some m) = S.found m
 
-abbrev pub told : {A : Type 0} → Result Refusal A → Outcome
-told (done a) = O.Done
-told (refused r) = O.Refused r
+abbrev pub told : {A : Type 0} → Result Refusal A → code.Result Unit Refusal
+told (done a) = Ok tt
+told (refused r) = Err r
 
 -- the store as given where a call is refused
 abbrev pub after : Store → Result Refusal Store → Store
@@ -56,7 +53,7 @@ after s (refused r) = s
 
 -- refused, since as many are held as may be
 abbrev pub overfull : Counts → Changed
-overfull n = record { outcome = O.Refused R.Held; held = n }
+overfull n = record { outcome = Err R.Held; held = n }
 
 pub record Did (vs bs : List ℕ) (n : Counts) (r : Result Refusal Store) (vs-end bs-end : List ℕ) (c : Changed) : Type 0 where
   pub outcome : c.outcome ≡ told r

@@ -10,8 +10,8 @@ ghost use Rattle.store_words.specs.Words.{values_of, buckets_of};
 ghost use Rattle.store.specs.Store.{pushed, next_in, at_least, unless_last, value_in, taken, cleared_before, cleared, moved};
 ghost use Rattle.store_calls.specs.Lent.{store_of, Lent, Laid, Did, found_of, next_of, overfull};
 
-use refusals::{Outcome, Refusal};
-use store::{BucketTest, ValueTest};
+use refusals::Refusal;
+use store::{BucketTest, Entry, ValueTest};
 use store_words::{Bucket, BucketRows, Value, ValueRows};
 use tags::GlobalTag;
 
@@ -25,29 +25,15 @@ pub struct Counts {
 // What a call that may refuse comes to.
 #[derive(Clone, Copy)]
 pub struct Changed {
-    pub outcome: Outcome,
+    pub outcome: Result<(), Refusal>,
     pub held: Counts,
 }
 
-// A value that was asked for, or "nothing".
-#[derive(Clone, Copy)]
-pub enum Found {
-    Nothing,
-    Value(u64),
-}
-
-// What a take comes to.
+// What a take comes to: the value that was held, if any.
 #[derive(Clone, Copy)]
 pub struct Taken {
-    pub found: Found,
+    pub found: Option<u64>,
     pub held: Counts,
-}
-
-// The next microstep, or none.
-#[derive(Clone, Copy)]
-pub enum Next {
-    Nothing,
-    Microstep(u32),
 }
 
 // As many are held as may be.
@@ -55,8 +41,8 @@ fn full(held: Counts) -> Changed
     ensures { result ≡ overfull held }
 {
     Changed {
-        outcome: Outcome::Refused(Refusal::Held),
-        held: held,
+        outcome: Err(Refusal::Held),
+        held,
     }
 }
 
@@ -73,67 +59,52 @@ pub fn push(
     requires { Lent limit values.old buckets.old held }
     ensures { Did values.old buckets.old held (pushed limit (store_of values.old buckets.old held) action (of_global tag) value) values.new buckets.new result }
 {
-    let n = held.values;
-    let m = held.buckets;
-    let i = store::find_value(values, n, ValueTest::At(action, tag));
-    let j = store::find_bucket(buckets, m, BucketTest::At(action, tag.0));
-    if limit <= i {
+    let i = store::find::<Value>(values, held.values, ValueTest::At(action, tag));
+    let j = store::find::<Bucket>(buckets, held.buckets, BucketTest::At(action, tag.0));
+    if limit <= i || limit <= j {
         return full(held);
     }
-    if limit <= j {
-        return full(held);
-    }
-    let next = store::next_after(tag.1);
-    let a = store::set_value(
-        values,
-        n,
-        i,
-        Value {
-            action: action,
-            tag: tag,
-            value: value,
-        },
-    );
-    let b = store::raise_bucket(
-        buckets,
-        m,
-        j,
-        Bucket {
-            action: action,
-            offset: tag.0,
-            next: next,
-        },
-    );
+    let value = Value { action, tag, value };
+    let bucket = Bucket {
+        action,
+        offset: tag.0,
+        next: store::next_after(tag.1),
+    };
     Changed {
-        outcome: Outcome::Done,
+        outcome: Ok(()),
         held: Counts {
-            values: a,
-            buckets: b,
+            values: store::upsert(values, held.values, i, value),
+            buckets: store::upsert(buckets, held.buckets, j, bucket),
         },
     }
 }
 
 // None at the limit.
-fn unless_last(microstep: u32) -> Next
+fn unless_last(microstep: u32) -> Option<u32>
     ensures { next_of result ≡ unless_last microstep }
 {
-    if microstep == GlobalTag::MAX_MICROSTEP {
-        return Next::Nothing;
+    if microstep == tags::MAX_MICROSTEP {
+        return None;
     }
-    Next::Microstep(microstep)
+    Some(microstep)
 }
 
 // The larger of the bucket's and the least, or the least if no bucket.
-pub fn next_microstep(buckets: &BucketRows, n: usize, action: u16, offset: u64, least: u32) -> Next
+pub fn next_microstep(
+    buckets: &BucketRows,
+    n: usize,
+    action: u16,
+    offset: u64,
+    least: u32,
+) -> Option<u32>
     requires { n ≤ room_for_entries }
     ensures { next_of result ≡ at_least (next_in action offset (take n (buckets_of buckets.now))) least }
 {
-    let j = store::find_bucket(buckets, n, BucketTest::At(action, offset));
+    let j = store::find::<Bucket>(buckets, n, BucketTest::At(action, offset));
     if n <= j {
         return unless_last(least);
     }
-    let b = store_words::bucket_at(buckets, j);
-    unless_last(store::larger_of(b.next, least))
+    unless_last(Bucket::at(buckets, j).next.max(least))
 }
 
 // The value under action and tag goes, and its bucket stays.
@@ -148,21 +119,18 @@ pub fn take(
     ensures found_value { found_of result.found ≡ value_in action (of_global tag) (take held.values (values_of values.old)) }
     ensures laid { Laid values.old buckets.old held (taken (store_of values.old buckets.old held) action (of_global tag)) values.new buckets.new result.held }
 {
-    let n = held.values;
-    let i = store::find_value(values, n, ValueTest::At(action, tag));
-    if n <= i {
-        return Taken {
-            found: Found::Nothing,
-            held: held,
-        };
+    let own = ValueTest::At(action, tag);
+    let i = store::find::<Value>(values, held.values, own);
+    if held.values <= i {
+        return Taken { found: None, held };
     }
-    let v = store_words::value_at(values, i);
-    let left = store::lose_values(values, n, ValueTest::At(action, tag));
+    let found = Value::at(values, i).value;
+    let left = store::lose::<Value>(values, held.values, own);
     Taken {
-        found: Found::Value(v.value),
+        found: Some(found),
         held: Counts {
             values: left,
-            buckets: held.buckets,
+            ..held
         },
     }
 }
@@ -178,14 +146,12 @@ pub fn clear_older_than(
     requires { Lent room_for_entries values.old buckets.old held }
     ensures { Laid values.old buckets.old held (cleared_before (store_of values.old buckets.old held) action (of_global tag)) values.new buckets.new result }
 {
-    let n = held.values;
-    let m = held.buckets;
-    let left = store::lose_values(values, n, ValueTest::Before(action, tag));
-    let there = store::find_value(values, left, ValueTest::There(action, tag.0));
-    let open = store::lose_buckets(buckets, m, BucketTest::Spent(action, tag, there < left));
+    let left = store::lose::<Value>(values, held.values, ValueTest::Before(action, tag));
+    let there = store::find::<Value>(values, left, ValueTest::There(action, tag.0));
+    let spent = BucketTest::Spent(action, tag, there < left);
     Counts {
         values: left,
-        buckets: open,
+        buckets: store::lose::<Bucket>(buckets, held.buckets, spent),
     }
 }
 
@@ -194,13 +160,9 @@ pub fn clear(values: &mut ValueRows, buckets: &mut BucketRows, held: Counts, act
     requires { Lent room_for_entries values.old buckets.old held }
     ensures { Laid values.old buckets.old held (cleared (store_of values.old buckets.old held) action) values.new buckets.new result }
 {
-    let n = held.values;
-    let m = held.buckets;
-    let left = store::lose_values(values, n, ValueTest::Of(action));
-    let open = store::lose_buckets(buckets, m, BucketTest::Of(action));
     Counts {
-        values: left,
-        buckets: open,
+        values: store::lose::<Value>(values, held.values, ValueTest::Of(action)),
+        buckets: store::lose::<Bucket>(buckets, held.buckets, BucketTest::Of(action)),
     }
 }
 
@@ -217,30 +179,28 @@ pub fn move_value(
     requires { Lent limit values.old buckets.old held }
     ensures { Did values.old buckets.old held (moved limit (store_of values.old buckets.old held) action (of_global old) (of_global new)) values.new buckets.new result }
 {
-    let n = held.values;
-    let m = held.buckets;
-    if old.same(new) {
+    if old == new {
         return Changed {
-            outcome: Outcome::Done,
-            held: held,
+            outcome: Ok(()),
+            held,
         };
     }
-    let i = store::find_value(values, n, ValueTest::At(action, old));
-    let j = store::find_bucket(buckets, m, BucketTest::At(action, new.0));
-    if n <= i {
+    let own = ValueTest::At(action, old);
+    let i = store::find::<Value>(values, held.values, own);
+    let j = store::find::<Bucket>(buckets, held.buckets, BucketTest::At(action, new.0));
+    if held.values <= i {
         return Changed {
-            outcome: Outcome::Done,
-            held: held,
+            outcome: Ok(()),
+            held,
         };
     }
     if limit <= j {
         return full(held);
     }
-    let v = store_words::value_at(values, i);
-    let left = store::lose_values(values, n, ValueTest::At(action, old));
+    let v = Value::at(values, i);
     let less = Counts {
-        values: left,
-        buckets: m,
+        values: store::lose::<Value>(values, held.values, own),
+        ..held
     };
     push(values, buckets, less, limit, action, new, v.value)
 }

@@ -1,56 +1,28 @@
 -- The store's rules from what the loops over rows promise. Assumes nothing.
-use mathlib.Core.Bool.{Bool, true, false, not, ◌&&◌}
+use mathlib.Core.Bool.{Bool, true, false, not, ◌&&◌, and_assoc}
 use mathlib.Core.Path.{◌≡◌, refl, ap, ◌∙◌, sym}
 use mathlib.Core.List.{List, [], ◌∷◌}
 use Prim.Native.Nat.{ℕ, ◌+◌, ◌-◌, ◌<◌, ◌≤◌}
 use native.Mathlib.Omega.{arith}
-use lib.Dec.{ltb, leb, eqb}
-use borrow.Author.Tests.{le-leb, lt-leb, leb-true, leb-false, eqb-true, eqb-false, eq-eqb, ne_eqb}
-use lib.ListN.{length, take, drop, get_or, length-drop}
+use lib.Dec.{ltb, leb}
+use borrow.Author.Tests.{le-leb, lt-leb, leb-true, leb-false}
+use lib.ListN.{length, take, drop, get_or, set, length-drop}
 use lib.Seq.{get_or-take}
-use Rattle.lists.specs.Tests.{and_left, and_right, flag_yes, flag_no}
 use Rattle.lists.specs.Lists.{any, every, distinct, any_at}
 use Rattle.lists.specs.Held.{things_of}
-use Rattle.tags.specs.Tags.{same_tag}
 use Rattle.store_words.specs.Entries.{Value, Bucket, room_for_entries, blank_value, blank_bucket}
 use Rattle.store_words.specs.Words.{values_of, buckets_of, decode_value, encode_value, value_words, long_value, decode_bucket, encode_bucket, bucket_words, long_bucket}
 use Rattle.lists.specs.Loops.{place, place_any, front_long, test_on, test_fails, test_all}
-use Rattle.store.specs.Store.{is_value, is_bucket, same_value, same_bucket, has_bucket, covered_by, value_rules, bucket_rules, store_rules}
+use Rattle.store.specs.Store.{same_value, same_bucket, has_bucket, covered_by, value_rules, bucket_rules, store_rules}
 use Rattle.store_calls.specs.Lent.{store_of}
 use Rattle.store_calls.specs.declared.Counts.{Counts}
-use Rattle.lists.specs.Marks.{any_same, every_not, place_not, marked, marked_new}
-use Rattle.store_rules.specs.Rules.{value_slot, bucket_slot, counted_rules}
-
--- ---- one key is as like another as the other is like it, and then their slots are one
-
-eqb_sym : (a b : ℕ) → eqb a b ≡ eqb b a
-eqb_sym a b = go (eqb a b) refl
-  where
-    go : (t : Bool) → eqb a b ≡ t → t ≡ eqb b a
-    go true e = sym (eq-eqb b a (sym (eqb-true a b e)))
-    go false e = sym (ne_eqb b a (λ q. eqb-false a b e (sym q)))
-
-value_sym : (v w : Value) → same_value v w ≡ is_value v.action v.tag w
-unfolding same_value is_value same_tag
-value_sym v w = rw (eqb_sym v.action w.action, eqb_sym v.tag.offset w.tag.offset, eqb_sym v.tag.microstep w.tag.microstep)
-
-bucket_sym : (b c : Bucket) → same_bucket b c ≡ is_bucket b.action b.offset c
-unfolding same_bucket is_bucket
-bucket_sym b c = rw (eqb_sym b.action c.action, eqb_sym b.offset c.offset)
-
-value_fits : (v w : Value) → same_value v w ≡ true → value_slot v ≡ value_slot w
-unfolding same_value is_value same_tag
-value_fits v w e =
-    let t = and_right (eqb v.action w.action) _ e in
-    rw (
-      eqb-true v.action w.action (and_left _ _ e),
-      eqb-true v.tag.offset w.tag.offset (and_left _ _ t),
-      eqb-true v.tag.microstep w.tag.microstep (and_right (eqb v.tag.offset w.tag.offset) _ t),
-    )
-
-bucket_fits : (b c : Bucket) → same_bucket b c ≡ true → bucket_slot b ≡ bucket_slot c
-unfolding same_bucket is_bucket
-bucket_fits b c e = rw (eqb-true b.action c.action (and_left _ _ e), eqb-true b.offset c.offset (and_right (eqb b.action c.action) _ e))
+use Rattle.lists.specs.Marks.{any_same, every_not, place_not, marked, marked_new, marked_one, differ_one, differ_not}
+use Rattle.store.specs.Layout.{Layout, things_in}
+use Rattle.store.specs.Views.{value_test, bucket_test, own_value, own_bucket}
+use Rattle.store.specs.declared.ValueTest.TheVariants as VT
+use Rattle.store.specs.declared.BucketTest.TheVariants as BT
+use Rattle.store_rules.specs.Slots.{Slots}
+use Rattle.store_rules.specs.Rules.{slots, counted_rules}
 
 -- ---- none of the rows that are left has the key
 
@@ -70,23 +42,32 @@ module _ {A : Type 0} (decode : List ℕ → A) (encode : A → List ℕ) (w k :
       let l : length rest ≡ n - i = length-drop i (take n (things_of decode encode w k long ws)) ∙ ap (λ x. x - i) (front_long decode encode w k long ws n m) in
       rw (any_same p q like rest, place_not q rest, l, e) (shifted (place q rest) h)
 
-module _ (vs : List ℕ) (i n : ℕ) (v : Value) where
-  pub value_alone : {s : Bool} {r : ℕ} → i ≤ n → n ≤ room_for_entries → r ≡ i + place (is_value v.action v.tag) (drop i (take n (values_of vs))) → s ≡ leb n r
-      → s ≡ not (any (same_value v) (drop i (take n (values_of vs))))
-  value_alone h m e q = q ∙ none_left decode_value encode_value value_words room_for_entries long_value (same_value v) (is_value v.action v.tag) (value_sym v) vs i n h m e
+module _ {E A : Type 0} (of : E → A) (own : A → A → Bool) (slot : E → ℕ) (s : Slots of own slot) (y : Layout A) (ws : List ℕ) (n i : ℕ) (e : E) where
+  abbrev all : List A
+  all = take n (things_in y ws)
 
-  pub value_unmarked : (seen : List Bool) {h : ℕ} → h ≡ value_slot v → marked value_slot seen (drop i (take n (values_of vs))) ≡ true → get_or seen h false ≡ false
-      → true ≡ not (any (same_value v) (drop i (take n (values_of vs))))
-  value_unmarked seen e m f = ap not (sym (marked_new value_slot same_value value_fits seen v (drop i (take n (values_of vs))) m (rw e at f)))
+  abbrev like : A → A → Bool
+  like a b = own b a
 
-module _ (bs : List ℕ) (i n : ℕ) (b : Bucket) where
-  pub bucket_alone : {s : Bool} {r : ℕ} → i ≤ n → n ≤ room_for_entries → r ≡ i + place (is_bucket b.action b.offset) (drop i (take n (buckets_of bs))) → s ≡ leb n r
-      → s ≡ not (any (same_bucket b) (drop i (take n (buckets_of bs))))
-  bucket_alone h m e q = q ∙ none_left decode_bucket encode_bucket bucket_words room_for_entries long_bucket (same_bucket b) (is_bucket b.action b.offset) (bucket_sym b) bs i n h m e
+  module _ (u : i ≤ n) (f : n ≤ room_for_entries) where
+    pub counted_from : {r : ℕ} → r ≡ i + place (own (of e)) (drop i all) → leb n r ≡ not (any (like (of e)) (drop i all))
+    counted_from q = none_left y.decode y.encode y.words room_for_entries y.long (like (of e)) (own (of e)) (s.turns (of e)) ws i n u f q
 
-  pub bucket_unmarked : (seen : List Bool) {h : ℕ} → h ≡ bucket_slot b → marked bucket_slot seen (drop i (take n (buckets_of bs))) ≡ true → get_or seen h false ≡ false
-      → true ≡ not (any (same_bucket b) (drop i (take n (buckets_of bs))))
-  bucket_unmarked seen e m f = ap not (sym (marked_new bucket_slot same_bucket bucket_fits seen b (drop i (take n (buckets_of bs))) m (rw e at f)))
+    pub alone : {r : ℕ} → r ≡ i + place (own (of e)) (drop i all) → n ≤ r → true ≡ not (any (like (of e)) (drop i all))
+    alone {r} q k = sym (le-leb n r k) ∙ counted_from q
+
+    pub unmarked : (seen : List Bool) {h : ℕ} → h ≡ slot e → marked s.by seen (drop i all) ≡ true → get_or seen h false ≡ false → true ≡ not (any (like (of e)) (drop i all))
+    unmarked seen q m x = ap not (sym (marked_new s.by like s.fits seen (of e) (drop i all) m (rw (q ∙ s.tells e) at x)))
+
+    module _ (h : 0 < i) (r : of e ≡ get_or (things_in y ws) (i - 1) y.blank) where
+      pub mark_more : (seen : List Bool) {k : ℕ} → k ≡ slot e → k < slots → length seen ≡ slots → marked s.by seen (drop i all) ≡ true → marked s.by (set seen k true) (drop (i - 1) all) ≡ true
+      mark_more seen {k} q b l m = marked_one y.decode y.encode y.words room_for_entries y.long ws n i y.blank (of e) h u f r s.by seen k slots (q ∙ s.tells e) b l m
+
+      pub differ_more : true ≡ not (any (like (of e)) (drop i all)) → distinct like (drop i all) ≡ true → distinct like (drop (i - 1) all) ≡ true
+      differ_more x m = differ_one y.decode y.encode y.words room_for_entries y.long ws n i y.blank (of e) h u f r like true x m refl
+
+      pub differ_less : {q : ℕ} → q ≡ i + place (own (of e)) (drop i all) → q < n → false ≡ distinct like all
+      differ_less {q} z k = differ_not y.decode y.encode y.words room_for_entries y.long ws n i y.blank (of e) h u f r like false (sym (lt-leb n q k) ∙ counted_from z) refl
 
 -- ---- each value has its bucket
 
@@ -103,11 +84,8 @@ module _ (bs : List ℕ) (n : ℕ) (m : n ≤ room_for_entries) (v : Value) wher
 
 -- ---- every one passes
 
-module _ {A : Type 0} (decode : List ℕ → A) (encode : A → List ℕ) (w k : ℕ) (long : (a : A) → length (encode a) ≡ w) (p : A → Bool) (ws : List ℕ) (n : ℕ) where
-  pub all_proper : {r : ℕ} {s : Bool} → n ≤ k → r ≡ place (λ a. not (p a)) (take n (things_of decode encode w k long ws)) → s ≡ leb n r → s ≡ every p (take n (things_of decode encode w k long ws))
-  all_proper m e q =
-      let l = take n (things_of decode encode w k long ws) in
-      q ∙ rw (every_not p l, place_not (λ a. not (p a)) l, front_long decode encode w k long ws n m, e)
+pub none_passes : {A : Type 0} (y : Layout A) (p : A → Bool) (ws : List ℕ) (n : ℕ) {r : ℕ} → n ≤ room_for_entries → r ≡ place p (take n (things_in y ws)) → leb n r ≡ not (any p (take n (things_in y ws)))
+none_passes y p ws n f e = rw (place_not p (take n (things_in y ws)), front_long y.decode y.encode y.words room_for_entries y.long ws n f, e)
 
 -- one more of those that must pass
 
@@ -130,10 +108,14 @@ module _ (p : Value → Bool) (vs : List ℕ) (n i : ℕ) where
   pub every_all : {s : Bool} → i ≤ n → n ≤ i → s ≡ every p (drop i (take n (values_of vs))) → true ≡ s
   every_all h k q = test_all decode_value encode_value value_words room_for_entries long_value (every p) (λ a l. p a) (every_cons p) (every_none p) vs n i h k q
 
-pub if_noted : {r b : Bool} → (r ≡ true → b ≡ true) → r ≡ true → true ≡ b
-if_noted f y = sym (f y)
-
 -- ---- all the rules
+
+-- where the second is asked only if the first holds
+pub and_then : {p v r a b : Bool} → p ≡ a → p ≡ true → v ≡ r → r ≡ b → v ≡ (a && b)
+and_then e h q f = q ∙ (f ∙ simp (sym e ∙ h))
+
+pub and_else : {p v a : Bool} (b : Bool) → p ≡ a → p ≡ false → v ≡ p → v ≡ (a && b)
+and_else b e h q = q ∙ (h ∙ simp (sym e ∙ h))
 
 module _ (limit actions : ℕ) (vs bs : List ℕ) (n : Counts) (few : limit ≤ room_for_entries) where
   abbrev here : Bool
@@ -162,23 +144,12 @@ module _ (limit actions : ℕ) (vs bs : List ℕ) (n : Counts) (few : limit ≤ 
             front_long decode_bucket encode_bucket bucket_words room_for_entries long_bucket bs n.buckets (omega arith),
           )
 
-      module _ (a : Bool) (ea : a ≡ every (value_rules actions) (take n.values (values_of vs))) where
-        pub rules_proper : not a ≡ true → false ≡ here
-        rules_proper y = rw counted (simp (flag_no ea y))
-
-        module _ (ya : not a ≡ false) (b : Bool) (eb : b ≡ every (bucket_rules actions) (take n.buckets (buckets_of bs))) where
-          pub rules_proper_buckets : not b ≡ true → false ≡ here
-          rules_proper_buckets y = rw counted (simp (flag_yes ea ya, flag_no eb y))
-
-          module _ (yb : not b ≡ false) (c : Bool) (ec : c ≡ distinct same_value (take n.values (values_of vs))) where
-            pub rules_differ : not c ≡ true → false ≡ here
-            rules_differ y = rw counted (simp (flag_yes ea ya, flag_yes eb yb, flag_no ec y))
-
-            module _ (yc : not c ≡ false) (d : Bool) (ed : d ≡ distinct same_bucket (take n.buckets (buckets_of bs))) where
-              pub rules_differ_buckets : not d ≡ true → false ≡ here
-              rules_differ_buckets y = rw counted (simp (flag_yes ea ya, flag_yes eb yb, flag_yes ec yc, flag_no ed y))
-
-              pub rules_last : not d ≡ false → {e : Bool} → e ≡ every (has_bucket (take n.buckets (buckets_of bs))) (take n.values (values_of vs)) → e ≡ here
-              rules_last yd q = rw counted (simp (flag_yes ea ya, flag_yes eb yb, flag_yes ec yc, flag_yes ed yd) q)
-
-pub ruleset rules = (rules_values, rules_buckets, rules_proper, rules_proper_buckets, rules_differ, rules_differ_buckets, rules_last)
+      -- as the code asks them, one after the other
+      pub asked :
+          (((not (any (value_test (VT.Stray actions)) (take n.values (values_of vs))) && not (any (bucket_test (BT.Stray actions)) (take n.buckets (buckets_of bs)))) &&
+          distinct (λ v w. own_value w v) (take n.values (values_of vs))) && distinct (λ b c. own_bucket c b) (take n.buckets (buckets_of bs))) &&
+          every (has_bucket (take n.buckets (buckets_of bs))) (take n.values (values_of vs)) ≡ here
+      unfolding same_value same_bucket
+      asked =
+          rw counted
+          (simp (← (every_not (value_rules actions) (take n.values (values_of vs))), ← (every_not (bucket_rules actions) (take n.buckets (buckets_of bs))), and_assoc))

@@ -3,16 +3,17 @@
 // A new rule on values comes in here and in `store_rules` of store; callers ask `keeps_rules` alone.
 #![tactic(auto)]
 
-ghost use Rattle.std.specs.Prelude.{◌≡◌, true, not, ◌+◌, ◌≤◌, ◌<◌, take, drop};
+ghost use Rattle.std.specs.Prelude.{◌≡◌, ℕ, true, not, ◌≤◌, ◌<◌, take};
 ghost use Rattle.lists.specs.Lists.{any, every, distinct};
 ghost use Rattle.store_words.specs.Entries.{room_for_entries, of_value, of_bucket};
 ghost use Rattle.store_words.specs.Words.{values_of, buckets_of};
-ghost use Rattle.store.specs.Store.{value_rules, bucket_rules, same_value, same_bucket, has_bucket};
+ghost use Rattle.store.specs.Store.{has_bucket};
+ghost use Rattle.store.specs.Layout.{things_in};
 ghost use Rattle.store_calls.specs.Lent.{store_of};
-ghost use Rattle.lists.specs.Marks.{marked};
-ghost use Rattle.store_rules.specs.Rules.{slots, slot_of, value_slot, bucket_slot, counted_rules};
+ghost use Rattle.store_rules.specs.Rules.{slots, slot_of, counted_rules};
+ghost use Rattle.store_rules.specs.Slots.{Slots, slot_of_value, slot_of_bucket, value_slots, bucket_slots};
 
-use store::{BucketTest, ValueTest};
+use store::{BucketTest, Entry, ValueTest};
 use store_calls::Counts;
 use store_words::{Bucket, BucketRows, Value, ValueRows};
 
@@ -21,108 +22,65 @@ const SLOTS: usize = 4096;
 fn slot_of(action: u16, offset: u64, microstep: u32) -> usize
     ensures { (result ≡ slot_of action offset microstep) × (result < slots) }
 {
-    let sum = offset % 4093 + (microstep as u64) * 31 + (action as u64) * 997;
+    let sum = offset % 4093 + microstep as u64 * 31 + action as u64 * 997;
     (sum % SLOTS as u64) as usize
 }
 
-// ---- no two under one key
+// An entry whose key has a slot: equal keys have equal slots.
+trait Slotted: Entry {
+    ghost slot: { Self → ℕ };
 
-// No value from row `from` on has v's key; those whose slot is not h are known not to.
-fn is_new_value(
-    seen: &[bool; SLOTS],
-    h: usize,
-    rows: &ValueRows,
-    from: usize,
-    n: usize,
-    v: Value,
-) -> bool
-    requires from_le_n { (from ≤ n) × (n ≤ room_for_entries) × (h < slots) × (h ≡ value_slot (of_value v)) }
-    requires rows_value { marked value_slot seen.now (drop from (take n (values_of rows.now))) ≡ true }
-    ensures { result ≡ not (any (same_value (of_value v)) (drop from (take n (values_of rows.now)))) }
-{
-    let tag = v.tag;
-    if seen[h] {
-        n <= store::value_from(rows, from, n, ValueTest::At(v.action, tag))
-    } else {
-        true
+    fn slot(self) -> usize
+        ensures { (result ≡ slot self) × (result < slots) };
+
+    ghost by_key: { Slots Self.Entry.of Self.Entry.own slot };
+}
+
+impl Slotted for Value {
+    ghost slot = { slot_of_value };
+
+    ghost by_key = { value_slots };
+
+    fn slot(self) -> usize {
+        slot_of(self.action, self.tag.0, self.tag.1)
     }
 }
 
-fn is_new_bucket(
-    seen: &[bool; SLOTS],
-    h: usize,
-    rows: &BucketRows,
-    from: usize,
-    n: usize,
-    b: Bucket,
-) -> bool
-    requires from_le_n { (from ≤ n) × (n ≤ room_for_entries) × (h < slots) × (h ≡ bucket_slot (of_bucket b)) }
-    requires rows_value { marked bucket_slot seen.now (drop from (take n (buckets_of rows.now))) ≡ true }
-    ensures { result ≡ not (any (same_bucket (of_bucket b)) (drop from (take n (buckets_of rows.now)))) }
-{
-    if seen[h] {
-        n <= store::bucket_from(rows, from, n, BucketTest::At(b.action, b.offset))
-    } else {
-        true
+impl Slotted for Bucket {
+    ghost slot = { slot_of_bucket };
+
+    ghost by_key = { bucket_slots };
+
+    fn slot(self) -> usize {
+        slot_of(self.action, self.offset, 0)
     }
 }
 
-// Values are unique by action and tag.
-fn values_differ(rows: &ValueRows, n: usize) -> bool
+// No two have one key: those whose slot no later one has marked are known not to be under a later one's key.
+fn differ<E: Slotted>(rows: &E::Rows, n: usize) -> bool
     requires { n ≤ room_for_entries }
-    ensures { result ≡ distinct same_value (take n (values_of rows.now)) }
+    ensures { result ≡ distinct (λ x y. E.own y x) (take n (things_in E.layout (E.words rows.now))) }
 {
     let mut seen = [false; SLOTS];
-    let mut i = n;
-    while 0 < i {
-        let v = store_words::value_at(rows, i - 1);
-        let h = slot_of(v.action, v.tag.0, v.tag.1);
-        if is_new_value(&seen, h, rows, i, n, v) {
-            seen[h] = true;
-            i -= 1;
-        } else {
+    for i in (0..n).rev() {
+        let e = E::at(rows, i);
+        let h = e.slot();
+        if seen[h] && store::find_from::<E>(rows, i + 1, n, e.key()) < n {
             return false;
         }
-    }
-    true
-}
-
-// Buckets are unique by action and offset.
-fn buckets_differ(rows: &BucketRows, n: usize) -> bool
-    requires { n ≤ room_for_entries }
-    ensures { result ≡ distinct same_bucket (take n (buckets_of rows.now)) }
-{
-    let mut seen = [false; SLOTS];
-    let mut i = n;
-    while 0 < i {
-        let b = store_words::bucket_at(rows, i - 1);
-        let h = slot_of(b.action, b.offset, 0);
-        if is_new_bucket(&seen, h, rows, i, n, b) {
-            seen[h] = true;
-            i -= 1;
-        } else {
-            return false;
-        }
+        seen[h] = true;
     }
     true
 }
 
 // ---- each value has its bucket
 
-fn wide(x: u16) -> usize {
-    x as usize
-}
-
 // Notes at each bucket's slot its row: a guess, which is looked at before it is believed.
 fn note_buckets(places: &mut [u16; SLOTS], rows: &BucketRows, n: usize)
     requires { n ≤ room_for_entries }
 {
-    let mut i: usize = 0;
-    while i < n {
-        let b = store_words::bucket_at(rows, i);
-        let h = slot_of(b.action, b.offset, 0);
-        places[h] = i as u16;
-        i += 1;
+    for i in 0..n {
+        places[Bucket::at(rows, i).slot()] = i as u16;
     }
 }
 
@@ -131,24 +89,16 @@ fn is_noted(places: &[u16; SLOTS], rows: &BucketRows, n: usize, v: Value) -> boo
     requires { n ≤ room_for_entries }
     ensures { result ≡ true → has_bucket (take n (buckets_of rows.now)) (of_value v) ≡ true }
 {
-    let h = slot_of(v.action, v.tag.0, 0);
-    let j = wide(places[h]);
-    if j < n {
-        let b = store_words::bucket_at(rows, j);
-        return store::is_cover(b, v.action, v.tag);
-    }
-    false
+    let j = places[slot_of(v.action, v.tag.0, 0)] as usize;
+    j < n && store::is_cover(Bucket::at(rows, j), v.action, v.tag)
 }
 
 fn has_bucket(places: &[u16; SLOTS], rows: &BucketRows, n: usize, v: Value) -> bool
     requires { n ≤ room_for_entries }
     ensures { result ≡ has_bucket (take n (buckets_of rows.now)) (of_value v) }
 {
-    let tag = v.tag;
-    if is_noted(places, rows, n, v) {
-        return true;
-    }
-    store::find_bucket(rows, n, BucketTest::Covers(v.action, tag)) < n
+    is_noted(places, rows, n, v)
+        || store::find::<Bucket>(rows, n, BucketTest::Covers(v.action, v.tag)) < n
 }
 
 fn all_covered(values: &ValueRows, n: usize, buckets: &BucketRows, m: usize) -> bool
@@ -157,11 +107,8 @@ fn all_covered(values: &ValueRows, n: usize, buckets: &BucketRows, m: usize) -> 
 {
     let mut places = [0u16; SLOTS];
     note_buckets(&mut places, buckets, m);
-    let mut i: usize = 0;
-    while i < n {
-        let v = store_words::value_at(values, i);
-        i += 1;
-        if has_bucket(&places, buckets, m, v) {} else {
+    for i in 0..n {
+        if !has_bucket(&places, buckets, m, Value::at(values, i)) {
             return false;
         }
     }
@@ -170,18 +117,11 @@ fn all_covered(values: &ValueRows, n: usize, buckets: &BucketRows, m: usize) -> 
 
 // ---- keys exist and tags are within limits
 
-fn values_proper(rows: &ValueRows, n: usize, actions: u16) -> bool
+fn none<E: Entry>(rows: &E::Rows, n: usize, which: E::Test) -> bool
     requires { n ≤ room_for_entries }
-    ensures { result ≡ every (value_rules actions) (take n (values_of rows.now)) }
+    ensures { result ≡ not (any (E.passes which) (take n (things_in E.layout (E.words rows.now)))) }
 {
-    n <= store::find_value(rows, n, ValueTest::Stray(actions))
-}
-
-fn buckets_proper(rows: &BucketRows, n: usize, actions: u16) -> bool
-    requires { n ≤ room_for_entries }
-    ensures { result ≡ every (bucket_rules actions) (take n (buckets_of rows.now)) }
-{
-    n <= store::find_bucket(rows, n, BucketTest::Stray(actions))
+    n <= store::find::<E>(rows, n, which)
 }
 
 // The state rules that speak of values and buckets, where there are so many actions and no more than the limit may be held.
@@ -195,25 +135,12 @@ pub fn keeps_rules(
     requires { limit ≤ room_for_entries }
     ensures { result ≡ counted_rules limit actions held.values held.buckets (store_of values.now buckets.now held) }
 {
-    let n = held.values;
-    let m = held.buckets;
-    if limit < n {
+    if limit < held.values || limit < held.buckets {
         return false;
     }
-    if limit < m {
-        return false;
-    }
-    if !values_proper(values, n, actions) {
-        return false;
-    }
-    if !buckets_proper(buckets, m, actions) {
-        return false;
-    }
-    if !values_differ(values, n) {
-        return false;
-    }
-    if !buckets_differ(buckets, m) {
-        return false;
-    }
-    all_covered(values, n, buckets, m)
+    none::<Value>(values, held.values, ValueTest::Stray(actions))
+        && none::<Bucket>(buckets, held.buckets, BucketTest::Stray(actions))
+        && differ::<Value>(values, held.values)
+        && differ::<Bucket>(buckets, held.buckets)
+        && all_covered(values, held.values, buckets, held.buckets)
 }

@@ -41,7 +41,7 @@ impl Value {
     pub fn blank() -> Self
         ensures { of_value result ≡ blank_value }
     {
-        Value {
+        Self {
             action: 0,
             tag: GlobalTag(0, 0),
             value: 0,
@@ -53,7 +53,7 @@ impl Bucket {
     pub fn blank() -> Self
         ensures { of_bucket result ≡ blank_bucket }
     {
-        Bucket {
+        Self {
             action: 0,
             offset: 0,
             next: 0,
@@ -69,14 +69,10 @@ pub fn value_at(rows: &ValueRows, k: usize) -> Value
         return Value::blank();
     }
     let b = k * VALUE_WORDS;
-    let action = (rows[b + 0] % 65536) as u16;
-    let offset = rows[b + 1];
-    let microstep = (rows[b + 2] % 4294967296) as u32;
-    let value = rows[b + 3];
     Value {
-        action: action,
-        tag: GlobalTag(offset, microstep),
-        value: value,
+        action: (rows[b] % 65536) as u16,
+        tag: GlobalTag(rows[b + 1], (rows[b + 2] % 4294967296) as u32),
+        value: rows[b + 3],
     }
 }
 
@@ -89,7 +85,7 @@ pub fn put_value(rows: &mut ValueRows, k: usize, v: Value)
         return;
     }
     let b = k * VALUE_WORDS;
-    rows[b + 0] = v.action as u64;
+    rows[b] = v.action as u64;
     rows[b + 1] = v.tag.0;
     rows[b + 2] = v.tag.1 as u64;
     rows[b + 3] = v.value;
@@ -103,13 +99,10 @@ pub fn bucket_at(rows: &BucketRows, k: usize) -> Bucket
         return Bucket::blank();
     }
     let b = k * BUCKET_WORDS;
-    let action = (rows[b + 0] % 65536) as u16;
-    let offset = rows[b + 1];
-    let next = (rows[b + 2] % 4294967296) as u32;
     Bucket {
-        action: action,
-        offset: offset,
-        next: next,
+        action: (rows[b] % 65536) as u16,
+        offset: rows[b + 1],
+        next: (rows[b + 2] % 4294967296) as u32,
     }
 }
 
@@ -122,7 +115,7 @@ pub fn put_bucket(rows: &mut BucketRows, k: usize, e: Bucket)
         return;
     }
     let b = k * BUCKET_WORDS;
-    rows[b + 0] = e.action as u64;
+    rows[b] = e.action as u64;
     rows[b + 1] = e.offset;
     rows[b + 2] = e.next as u64;
 }

@@ -1,5 +1,5 @@
 -- What a call on lent rows answers and leaves, and a call by value from it. Assumes nothing.
-use mathlib.Core.Bool.{Bool, true, false, not, ◌&&◌}
+use mathlib.Core.Bool.{Bool, true, false, not}
 use mathlib.Core.Path.{◌≡◌, refl, ap, ◌∙◌, sym}
 use mathlib.Core.List.{List, ◌∷◌, map}
 use Prim.Native.Nat.{ℕ, zero, suc, ◌<◌, ◌≤◌}
@@ -15,7 +15,6 @@ use Rattle.refusals.specs.declared.Refusal.TheVariants as R
 use Rattle.table.specs.Check.{is_table}
 use Rattle.table_rows.specs.Kinds as K
 use Rattle.table_rows.specs.Limits.{limits}
-use Rattle.tags.specs.Tags.{Tag, at, within}
 use Rattle.tags.specs.Views.{of_global}
 use Rattle.tags.specs.declared.GlobalTag.{GlobalTag}
 use Rattle.store_words.specs.declared.Value as code_value
@@ -28,21 +27,18 @@ use Rattle.store.specs.Store.{pushed, value_in, next_in, at_least, next_microste
 use Rattle.store_calls.specs.declared.Counts.{Counts}
 use Rattle.store_calls.specs.declared.Changed.{Changed}
 use Rattle.store_calls.specs.declared.Taken.{Taken}
-use Rattle.refusals.specs.declared.Outcome.{Outcome}
-use Rattle.refusals.specs.declared.Outcome.TheVariants as O
-use Rattle.store_calls.specs.declared.Found.{Found}
-use Rattle.store_calls.specs.declared.Found.TheVariants as F
-use Rattle.store_calls.specs.declared.Next.{Next}
-use Rattle.store_calls.specs.declared.Next.TheVariants as N
 use Rattle.store_calls.specs.Lent.{store_of, Lent, Laid, Did, found_of, next_of}
 use Rattle.store_calls.proofs.Calls.{laid_same}
 use Rattle.store_rules.specs.Rules.{counted_rules}
 use Rattle.value_store.specs.Calls as C
 use Rattle.value_store.specs.Calls.{Arrays, Answer, ok, number, nothing_there, no, said, outcome, fresh_arrays}
 use Rattle.value_store.specs.Calls.{held_in, laid, action_of, arguments_in, is_sound, perform, called, step, answered}
-use Rattle.value_store.specs.Views.{arrays_of, arrays_in, answer_of, call_of, answer_for, DidCall}
+use Rattle.std.specs.Prelude.{Some, None, Ok, Err, MatchOption, IsSomeAnd}
+use Rattle.std.specs.Result.{result_and}
+use Rattle.std.specs.Prelude as code
+use Rattle.value_store.specs.Views.{arrays_of, arrays_in, said_of, answer_of, call_of, answer_for, DidCall}
 use Rattle.value_store.specs.declared.Store.{Store}
-use Rattle.value_store.specs.declared.Answer as code
+use Rattle.value_store.specs.declared.Answer as answer
 use Rattle.value_store.specs.declared.Answer.TheVariants as A
 use Rattle.value_store.specs.declared.Call.{Call}
 use Rattle.value_store.specs.declared.Call.TheVariants as E
@@ -51,8 +47,18 @@ use Rattle.value_store.specs.declared.Called.{Called}
 pub length_mapped : (X Y : Type 0) (f : X → Y) (l : List X) (n : ℕ) → length (map f l) ≡ n → length l ≡ n
 length_mapped X Y f l n h = sym (length-map l f) ∙ h
 
-pub answer_refused : (o : Outcome) {r : Refusal} → o ≡ O.Refused r → no r ≡ answer_for o
-answer_refused o e = rw e
+-- ---- answers
+
+pub done_of : (o : code.Result Unit Refusal) → answer_of (result_and o (Ok A.Done)) ≡ answer_for o
+done_of (Ok x) = refl
+done_of (Err r) = refl
+
+pub widened : (o r : code.Option ℕ) → MatchOption o (r ≡ None) (λ x. IsSomeAnd r (λ y. y ≡ x)) → found_of r ≡ next_of o
+widened None r h = rw h
+widened (Some x) (Some y) h = rw h
+widened (Some x) None h = absurd h
+
+-- ---- an array
 
 map_all : {A B : Type 0} (f : A → B) (n : ℕ) (a : A) → map f (replicate n a) ≡ replicate n (f a)
 map_all f zero a = refl
@@ -63,52 +69,6 @@ pub new_is : (v : code_value.Value) (b : code_bucket.Bucket) → of_value v ≡ 
 new_is v b e f =
     ap (λ x. record { values = x; held = 0; buckets = map of_bucket (replicate room_for_entries b); «open» = 0 }) (map_all of_value room_for_entries v ∙ ap (replicate room_for_entries) e) ∙
     ap (λ x. record { values = replicate room_for_entries blank_value; held = 0; buckets = x; «open» = 0 }) (map_all of_bucket room_for_entries b ∙ ap (replicate room_for_entries) f)
-
--- ---- answers
-
-pub found_nothing : (f : Found) → f ≡ F.Nothing → nothing_there ≡ said (found_of f)
-found_nothing f e = rw e
-
-pub found_value : (f : Found) {v : ℕ} → f ≡ F.Value v → number v ≡ said (found_of f)
-found_value f e = rw e
-
-pub next_nothing : (f : Next) → f ≡ N.Nothing → nothing_there ≡ said (next_of f)
-next_nothing f e = rw e
-
-pub next_number : (f : Next) {v : ℕ} → f ≡ N.Microstep v → number v ≡ said (next_of f)
-next_number f e = rw e
-
-pub ruleset answers = (answer_refused, found_nothing, found_value, next_nothing, next_number, refl)
-
-module _ (t u : Tag) {r : Bool} where
-  pub within_both : {b : Bool} → b ≡ within t → b ≡ true → r ≡ within u → r ≡ (within t && within u)
-  within_both e y h = simp (sym e ∙ y) h
-
-pub within_first : (t u : Tag) {b : Bool} → b ≡ within t → b ≡ false → false ≡ (within t && within u)
-within_first t u e y = simp (sym e ∙ y)
-
--- ---- the argument tags, by cases
-
-module _ (c : Call) (a : ℕ) {r : Bool} where
-  pub push_within : (t : GlobalTag) (v : ℕ) → c ≡ E.Push a t v → r ≡ within (of_global t) → r ≡ arguments_in (call_of c)
-  push_within t v e h = rw e h
-
-  pub next_within : (o m : ℕ) → c ≡ E.NextMicrostep a o m → r ≡ within (at o m) → r ≡ arguments_in (call_of c)
-  next_within o m e h = rw e h
-
-  pub take_within : (t : GlobalTag) → c ≡ E.Take a t → r ≡ within (of_global t) → r ≡ arguments_in (call_of c)
-  take_within t e h = rw e h
-
-  pub before_within : (t : GlobalTag) → c ≡ E.ClearOlderThan a t → r ≡ within (of_global t) → r ≡ arguments_in (call_of c)
-  before_within t e h = rw e h
-
-  pub move_within : (t u : GlobalTag) → c ≡ E.MoveValue a t u → r ≡ (within (of_global t) && within (of_global u)) → r ≡ arguments_in (call_of c)
-  move_within t u e h = rw e h
-
-pub clear_within : (c : Call) (a : ℕ) → c ≡ E.Clear a → true ≡ arguments_in (call_of c)
-clear_within c a e = rw e
-
-pub ruleset arguments = (push_within, next_within, take_within, before_within, move_within, clear_within)
 
 -- ---- the calls on lent rows
 
@@ -133,36 +93,36 @@ module _ {limit : ℕ} (vs bs : List ℕ) (n : Counts) (lent : Lent limit vs bs 
     unfolding perform
     call_move t u ch k e d f h = rw e (did (moved limit here a (of_global t) (of_global u)) ch k d f h)
 
-    pub call_take : (t : GlobalTag) (k : Taken) (x : code.Answer) → c ≡ E.Take a t → found_of k.found ≡ value_in a (of_global t) (take n.values (values_of vs)) →
-        Laid vs bs n (taken here a (of_global t)) ve be k.held → answer_of x ≡ said (found_of k.found) →
-        DidCall vs bs n (perform limit here (call_of c)) ve be (record { answer = x; held = k.held })
+    pub call_take : (t : GlobalTag) (k : Taken) (x : answer.Answer) → c ≡ E.Take a t → found_of k.found ≡ value_in a (of_global t) (take n.values (values_of vs)) →
+        Laid vs bs n (taken here a (of_global t)) ve be k.held → said_of x ≡ said (found_of k.found) →
+        DidCall vs bs n (perform limit here (call_of c)) ve be (record { answer = Ok x; held = k.held })
     unfolding perform
     call_take t k x e f l h = rw e (record { answer = h ∙ ap said f; laid = l })
 
     module _ (m : Counts) where
       pub call_clear_before : (t : GlobalTag) → c ≡ E.ClearOlderThan a t → Laid vs bs n (cleared_before here a (of_global t)) ve be m →
-          DidCall vs bs n (perform limit here (call_of c)) ve be (record { answer = A.Done; held = m })
+          DidCall vs bs n (perform limit here (call_of c)) ve be (record { answer = Ok A.Done; held = m })
       unfolding perform
       call_clear_before t e l = rw e (record { answer = refl; laid = l })
 
-      pub call_clear : c ≡ E.Clear a → Laid vs bs n (cleared here a) ve be m → DidCall vs bs n (perform limit here (call_of c)) ve be (record { answer = A.Done; held = m })
+      pub call_clear : c ≡ E.Clear a → Laid vs bs n (cleared here a) ve be m → DidCall vs bs n (perform limit here (call_of c)) ve be (record { answer = Ok A.Done; held = m })
       unfolding perform
       call_clear e l = rw e (record { answer = refl; laid = l })
 
   module _ (c : Call) where
-    pub call_next : (a o m : ℕ) (k : Next) (x : code.Answer) → c ≡ E.NextMicrostep a o m → next_of k ≡ at_least (next_in a o (take n.buckets (buckets_of bs))) m → answer_of x ≡ said (next_of k) →
-        DidCall vs bs n (perform limit here (call_of c)) vs bs (record { answer = x; held = n })
+    pub call_next : (a o m : ℕ) (k : code.Option ℕ) (x : answer.Answer) → c ≡ E.NextMicrostep a o m → next_of k ≡ at_least (next_in a o (take n.buckets (buckets_of bs))) m → said_of x ≡ said (next_of k) →
+        DidCall vs bs n (perform limit here (call_of c)) vs bs (record { answer = Ok x; held = n })
     unfolding perform next_microstep
     call_next a o m k x e f h = rw e (record { answer = h ∙ ap said f; laid = laid_same vs bs n lent })
 
     -- 5, 6
     module _ (image : List ℕ) {k a : ℕ} (ek : k ≡ K.count image K.action) (ea : a ≡ action_of (call_of c)) where
-      pub call_key : k ≤ a → DidCall vs bs n (called image here (call_of c)) vs bs (record { answer = A.Refused R.Key; held = n })
+      pub call_key : k ≤ a → DidCall vs bs n (called image here (call_of c)) vs bs (record { answer = Err R.Key; held = n })
       unfolding called
       call_key h = rw (← ek, ← ea, le-ltb a k h) (record { answer = refl; laid = laid_same vs bs n lent })
 
       module _ (h : a < k) {w : Bool} (ew : w ≡ arguments_in (call_of c)) where
-        pub call_tag : w ≡ false → DidCall vs bs n (called image here (call_of c)) vs bs (record { answer = A.Refused R.ArgumentTag; held = n })
+        pub call_tag : w ≡ false → DidCall vs bs n (called image here (call_of c)) vs bs (record { answer = Err R.ArgumentTag; held = n })
         unfolding called
         call_tag y = rw (← ek, ← ea, lt-ltb a k h, ← ew, y) (record { answer = refl; laid = laid_same vs bs n lent })
 

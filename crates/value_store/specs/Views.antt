@@ -1,13 +1,12 @@
 -- The code's store and answers as the definitions'. Assumes nothing.
-use Rattle.std.specs.Prelude.{ℕ, ◌≡◌, List, map}
+use Rattle.std.specs.Prelude.{ℕ, ◌≡◌, List, map, Ok, Err}
+use Rattle.std.specs.Prelude as code
 use Rattle.lists.specs.Walk.{Result}
 use Rattle.refusals.specs.declared.Refusal.{Refusal}
 use Rattle.tags.specs.Views.{of_global}
 use Rattle.store_words.specs.Entries.{of_value, of_bucket}
 use Rattle.store_words.specs.Words.{values_of, buckets_of}
 use Rattle.store_calls.specs.declared.Counts.{Counts}
-use Rattle.refusals.specs.declared.Outcome.{Outcome}
-use Rattle.refusals.specs.declared.Outcome.TheVariants as O
 use Rattle.store_calls.specs.Lent.{store_of, Laid}
 use Rattle.value_store.specs.Calls as C
 use Rattle.value_store.specs.Calls.{Arrays, said_by, left_by}
@@ -22,11 +21,14 @@ use Rattle.value_store.specs.declared.Called.{Called}
 abbrev pub arrays_of : Store → Arrays
 arrays_of s = record { values = map of_value s.values; held = s.held; buckets = map of_bucket s.buckets; «open» = s.«open» }
 
-abbrev pub answer_of : Answer → C.Answer
-answer_of A.Done = C.ok
-answer_of (A.Number n) = C.number n
-answer_of A.Nothing = C.nothing_there
-answer_of (A.Refused r) = C.no r
+abbrev pub said_of : Answer → C.Answer
+said_of A.Done = C.ok
+said_of (A.Number n) = C.number n
+said_of A.Nothing = C.nothing_there
+
+abbrev pub answer_of : code.Result Answer Refusal → C.Answer
+answer_of (Ok a) = said_of a
+answer_of (Err r) = C.no r
 
 abbrev pub answered_of : Answered → C.Answered
 answered_of a = record { answer = answer_of a.answer; store = arrays_of a.store }
@@ -41,9 +43,9 @@ call_of (K.MoveValue a t u) = C.move a (of_global t) (of_global u)
 
 -- what the code's steps between mean
 
-abbrev pub answer_for : Outcome → C.Answer
-answer_for O.Done = C.ok
-answer_for (O.Refused r) = C.no r
+abbrev pub answer_for : code.Result Unit Refusal → C.Answer
+answer_for (Ok x) = C.ok
+answer_for (Err r) = C.no r
 
 -- the arrays that rows hold
 abbrev pub arrays_in : List ℕ → List ℕ → Counts → Arrays

@@ -3,23 +3,22 @@
 // A new call is a case of `Call`; `Store` and the manager both go through `call_rows`.
 #![tactic(auto)]
 
-ghost use Rattle.std.specs.Prelude.{◌≡◌, ◌&&◌, map};
-ghost use Rattle.tags.specs.Tags.{at, within};
+ghost use Rattle.std.specs.Prelude.{◌≡◌, map};
 ghost use Rattle.tags.specs.Views.{of_global};
 ghost use Rattle.table_rows.specs.Limits.{limits};
-ghost use Rattle.store_words.specs.Entries.{of_value, of_bucket};
-ghost use Rattle.store_words.specs.Words.{values_of, buckets_of, HeldValues, HeldBuckets};
+ghost use Rattle.store.specs.Layout.{things_in, WholeIn, HeldIn};
 ghost use Rattle.value_store.specs.Calls.{push, next, take_out, clear_before_lem, clear, move, said};
 ghost use Rattle.value_store.specs.Calls.{perform as performed, action_of, arguments_in, called, fresh_arrays, is_sound, step, answered};
-ghost use Rattle.store_calls.specs.Lent.{store_of, Lent, found_of, next_of};
-ghost use Rattle.value_store.specs.Views.{arrays_of, answer_of, call_of, DidCall, answered_of, answer_for, arrays_in};
+ghost use Rattle.store_calls.specs.Lent.{store_of, Lent, found_of};
+ghost use Rattle.value_store.specs.Views.{arrays_of, said_of, answer_of, call_of, DidCall, answered_of, answer_for, arrays_in};
 
-use refusals::{Outcome, Refusal};
-use store_calls::{Changed, Counts, Found, Next};
+use refusals::Refusal;
+use store::Entry;
+use store_calls::{Changed, Counts};
 use store_words::{
     BUCKET_WORDS, Bucket, BucketRows, ROOM_FOR_ENTRIES, VALUE_WORDS, Value, ValueRows,
 };
-use tags::GlobalTag;
+use tags::{GlobalTag, Scale};
 
 // Values and buckets, and how many of each are held; what stands in the rest is no part of the store.
 #[derive(Clone, Copy)]
@@ -30,87 +29,50 @@ pub struct Store {
     pub open: usize,
 }
 
-// What a call answers.
+// What a call answers that is not refused.
+// Stays: the new form is no plainer: done, a number and "nothing" are three answers of the definitions, and `Found(Option<u64>)` would nest two of them.
 #[derive(Clone, Copy)]
 pub enum Answer {
     Done,
     Number(u64),
     Nothing,
-    Refused(Refusal),
 }
 
 // The answer, and the store after the call.
 #[derive(Clone, Copy)]
 pub struct Answered {
-    pub answer: Answer,
+    pub answer: Result<Answer, Refusal>,
     pub store: Store,
 }
 
 // ---- to rows and back
 
-fn value_rows(values: [Value; ROOM_FOR_ENTRIES]) -> ValueRows
-    ensures { HeldValues result (map of_value values) }
+fn lay<E: Entry>(rows: &mut E::Rows, entries: &[E; ROOM_FOR_ENTRIES])
+    requires { WholeIn E.layout (E.words rows.old) }
+    ensures { HeldIn E.layout (E.words rows.new) (map E.of entries.now) }
 {
-    let mut rows = [0u64; ROOM_FOR_ENTRIES * VALUE_WORDS];
-    let mut i: usize = 0;
-    while i < ROOM_FOR_ENTRIES {
-        let v = values[i];
-        store_words::put_value(&mut rows, i, v);
-        i += 1;
+    for (i, e) in entries.iter().enumerate() {
+        e.put(rows, i);
     }
-    rows
 }
 
-fn bucket_rows(buckets: [Bucket; ROOM_FOR_ENTRIES]) -> BucketRows
-    ensures { HeldBuckets result (map of_bucket buckets) }
+fn entries<E: Entry>(rows: &E::Rows) -> [E; ROOM_FOR_ENTRIES]
+    ensures { map E.of result ≡ things_in E.layout (E.words rows.now) }
 {
-    let mut rows = [0u64; ROOM_FOR_ENTRIES * BUCKET_WORDS];
-    let mut i: usize = 0;
-    while i < ROOM_FOR_ENTRIES {
-        let b = buckets[i];
-        store_words::put_bucket(&mut rows, i, b);
-        i += 1;
+    let mut entries = [E::blank(); ROOM_FOR_ENTRIES];
+    for (i, e) in entries.iter_mut().enumerate() {
+        *e = E::at(rows, i);
     }
-    rows
-}
-
-fn values_of(rows: &ValueRows) -> [Value; ROOM_FOR_ENTRIES]
-    ensures { map of_value result ≡ values_of rows.now }
-{
-    let blank = Value::blank();
-    let mut values = [blank; ROOM_FOR_ENTRIES];
-    let mut i: usize = 0;
-    while i < ROOM_FOR_ENTRIES {
-        let v = store_words::value_at(rows, i);
-        values[i] = v;
-        i += 1;
-    }
-    values
-}
-
-fn buckets_of(rows: &BucketRows) -> [Bucket; ROOM_FOR_ENTRIES]
-    ensures { map of_bucket result ≡ buckets_of rows.now }
-{
-    let blank = Bucket::blank();
-    let mut buckets = [blank; ROOM_FOR_ENTRIES];
-    let mut i: usize = 0;
-    while i < ROOM_FOR_ENTRIES {
-        let b = store_words::bucket_at(rows, i);
-        buckets[i] = b;
-        i += 1;
-    }
-    buckets
+    entries
 }
 
 pub fn store_of(values: &ValueRows, buckets: &BucketRows, held: Counts) -> Store
     ensures { arrays_of result ≡ arrays_in values.now buckets.now held }
 {
-    let v = values_of(values);
-    let b = buckets_of(buckets);
     Store {
-        values: v,
+        values: entries(values),
         held: held.values,
-        buckets: b,
+        buckets: entries(buckets),
         open: held.buckets,
     }
 }
@@ -131,57 +93,26 @@ pub enum Call {
 // What a call on lent rows answers, and how many of each are held after it.
 #[derive(Clone, Copy)]
 pub struct Called {
-    pub answer: Answer,
+    pub answer: Result<Answer, Refusal>,
     pub held: Counts,
-}
-
-fn answer_of(outcome: Outcome) -> Answer
-    ensures { answer_of result ≡ answer_for outcome }
-{
-    match outcome {
-        Outcome::Done => Answer::Done,
-        Outcome::Refused(r) => Answer::Refused(r),
-    }
 }
 
 fn changed(c: Changed) -> Called
     ensures { (answer_of result.answer ≡ answer_for c.outcome) × (result.held ≡ c.held) }
 {
-    let outcome = c.outcome;
-    let held = c.held;
-    let answer = answer_of(outcome);
-    Called { answer, held }
+    Called {
+        answer: c.outcome.and(Ok(Answer::Done)),
+        held: c.held,
+    }
 }
 
-fn found_answer(found: Found) -> Answer
-    ensures { answer_of result ≡ said (found_of found) }
+fn said(found: Option<u64>) -> Answer
+    ensures { said_of result ≡ said (found_of found) }
 {
     match found {
-        Found::Nothing => Answer::Nothing,
-        Found::Value(v) => Answer::Number(v),
+        Some(n) => Answer::Number(n),
+        None => Answer::Nothing,
     }
-}
-
-fn next_answer(next: Next) -> Answer
-    ensures { answer_of result ≡ said (next_of next) }
-{
-    match next {
-        Next::Nothing => Answer::Nothing,
-        Next::Microstep(m) => Answer::Number(m as u64),
-    }
-}
-
-fn offset_within(offset: u64, microstep: u32) -> bool
-    ensures { result ≡ within (at offset microstep) }
-{
-    let t = GlobalTag(offset, microstep);
-    t.within()
-}
-
-fn both_within(t: GlobalTag, u: GlobalTag) -> bool
-    ensures { result ≡ (within (of_global t) && within (of_global u)) }
-{
-    if t.within() { u.within() } else { false }
 }
 
 impl Call {
@@ -189,12 +120,12 @@ impl Call {
         ensures { result ≡ action_of (call_of self) }
     {
         match self {
-            Call::Push(action, _, _) => action,
-            Call::NextMicrostep(action, _, _) => action,
-            Call::Take(action, _) => action,
-            Call::ClearOlderThan(action, _) => action,
-            Call::Clear(action) => action,
-            Call::MoveValue(action, _, _) => action,
+            Call::Push(action, _, _)
+            | Call::NextMicrostep(action, _, _)
+            | Call::Take(action, _)
+            | Call::ClearOlderThan(action, _)
+            | Call::Clear(action)
+            | Call::MoveValue(action, _, _) => action,
         }
     }
 
@@ -203,12 +134,12 @@ impl Call {
         ensures { result ≡ arguments_in (call_of self) }
     {
         match self {
-            Call::Push(_, tag, _) => tag.within(),
-            Call::NextMicrostep(_, offset, least) => offset_within(offset, least),
-            Call::Take(_, tag) => tag.within(),
-            Call::ClearOlderThan(_, tag) => tag.within(),
+            Call::Push(_, tag, _) | Call::Take(_, tag) | Call::ClearOlderThan(_, tag) => {
+                tag.within()
+            }
+            Call::NextMicrostep(_, offset, least) => GlobalTag(offset, least).within(),
             Call::Clear(_) => true,
-            Call::MoveValue(_, old, new) => both_within(old, new),
+            Call::MoveValue(_, old, new) => old.within() && new.within(),
         }
     }
 }
@@ -224,41 +155,34 @@ fn perform(
     ensures { DidCall values.old buckets.old held (performed limit (store_of values.old buckets.old held) (call_of call)) values.new buckets.new result }
 {
     match call {
-        Call::Push(action, tag, value) => {
-            let c = store_calls::push(values, buckets, held, limit, action, tag, value);
-            changed(c)
-        }
+        Call::Push(action, tag, value) => changed(store_calls::push(
+            values, buckets, held, limit, action, tag, value,
+        )),
         Call::NextMicrostep(action, offset, least) => {
-            let n = held.buckets;
-            let next = store_calls::next_microstep(buckets, n, action, offset, least);
-            let answer = next_answer(next);
-            Called { answer, held }
+            let next = store_calls::next_microstep(buckets, held.buckets, action, offset, least);
+            Called {
+                answer: Ok(said(next.map(u64::from))),
+                held,
+            }
         }
         Call::Take(action, tag) => {
-            let t = store_calls::take(values, buckets, held, action, tag);
-            let found = t.found;
-            let left = t.held;
-            let answer = found_answer(found);
-            Called { answer, held: left }
-        }
-        Call::ClearOlderThan(action, tag) => {
-            let left = store_calls::clear_older_than(values, buckets, held, action, tag);
+            let taken = store_calls::take(values, buckets, held, action, tag);
             Called {
-                answer: Answer::Done,
-                held: left,
+                answer: Ok(said(taken.found)),
+                held: taken.held,
             }
         }
-        Call::Clear(action) => {
-            let left = store_calls::clear(values, buckets, held, action);
-            Called {
-                answer: Answer::Done,
-                held: left,
-            }
-        }
-        Call::MoveValue(action, old, new) => {
-            let c = store_calls::move_value(values, buckets, held, limit, action, old, new);
-            changed(c)
-        }
+        Call::ClearOlderThan(action, tag) => Called {
+            answer: Ok(Answer::Done),
+            held: store_calls::clear_older_than(values, buckets, held, action, tag),
+        },
+        Call::Clear(action) => Called {
+            answer: Ok(Answer::Done),
+            held: store_calls::clear(values, buckets, held, action),
+        },
+        Call::MoveValue(action, old, new) => changed(store_calls::move_value(
+            values, buckets, held, limit, action, old, new,
+        )),
     }
 }
 
@@ -273,22 +197,19 @@ pub fn call_rows(
     requires { Lent (limits image.now).held values.old buckets.old held }
     ensures { DidCall values.old buckets.old held (called image.now (store_of values.old buckets.old held) (call_of call)) values.new buckets.new result }
 {
-    let actions = table_rows::count(image, table_rows::ACTION);
-    let action = call.action();
-    if actions <= action {
+    if table_rows::count(image, table_rows::ACTION) <= call.action() {
         return Called {
-            answer: Answer::Refused(Refusal::Key),
+            answer: Err(Refusal::Key),
             held,
         };
     }
-    if call.within() {
-        let limit = table_rows::most_held(image);
-        return perform(values, buckets, held, limit, call);
+    if !call.within() {
+        return Called {
+            answer: Err(Refusal::ArgumentTag),
+            held,
+        };
     }
-    Called {
-        answer: Answer::Refused(Refusal::ArgumentTag),
-        held,
-    }
+    perform(values, buckets, held, table_rows::most_held(image), call)
 }
 
 // ---- the store by value
@@ -297,12 +218,14 @@ pub fn call_rows(
 fn is_sound(image: &[u8], values: &ValueRows, buckets: &BucketRows, held: Counts) -> bool
     ensures { result ≡ is_sound image.now (arrays_in values.now buckets.now held) }
 {
-    if table::accepted(image) {
-        let limit = table_rows::most_held(image);
-        let actions = table_rows::count(image, table_rows::ACTION);
-        return store_rules::keeps_rules(values, buckets, held, limit, actions);
-    }
-    false
+    table::accepted(image)
+        && store_rules::keeps_rules(
+            values,
+            buckets,
+            held,
+            table_rows::most_held(image),
+            table_rows::count(image, table_rows::ACTION),
+        )
 }
 
 impl Store {
@@ -310,12 +233,10 @@ impl Store {
     pub fn new() -> Self
         ensures { arrays_of result ≡ fresh_arrays }
     {
-        let v = Value::blank();
-        let b = Bucket::blank();
-        Store {
-            values: [v; ROOM_FOR_ENTRIES],
+        Self {
+            values: [Value::blank(); ROOM_FOR_ENTRIES],
             held: 0,
-            buckets: [b; ROOM_FOR_ENTRIES],
+            buckets: [Bucket::blank(); ROOM_FOR_ENTRIES],
             open: 0,
         }
     }
@@ -324,27 +245,28 @@ impl Store {
     fn run(self, image: &[u8], call: Call) -> Answered
         ensures { answered_of result ≡ answered (arrays_of self) (step image.now (arrays_of self) (call_of call)) }
     {
-        let values = self.values;
-        let buckets = self.buckets;
         let held = Counts {
             values: self.held,
             buckets: self.open,
         };
-        let mut v = value_rows(values);
-        let mut b = bucket_rows(buckets);
-        if !is_sound(image, &v, &b, held) {
+        let mut values: ValueRows = [0; ROOM_FOR_ENTRIES * VALUE_WORDS];
+        lay(&mut values, &self.values);
+        let mut buckets: BucketRows = [0; ROOM_FOR_ENTRIES * BUCKET_WORDS];
+        lay(&mut buckets, &self.buckets);
+        if !is_sound(image, &values, &buckets, held) {
             return Answered {
-                answer: Answer::Refused(Refusal::StateRule),
+                answer: Err(Refusal::StateRule),
                 store: self,
             };
         }
-        let c = call_rows(image, &mut v, &mut b, held, call);
-        let answer = c.answer;
-        let left = c.held;
-        let store = store_of(&v, &b, left);
-        Answered { answer, store }
+        let called = call_rows(image, &mut values, &mut buckets, held, call);
+        Answered {
+            answer: called.answer,
+            store: store_of(&values, &buckets, called.held),
+        }
     }
 
+    // Stays, here and below: one `run(image, Call::Push(..))` for all is no plainer, since each call has its own contract by the definitions' name for it.
     // Pushing again overwrites; the bucket rises to the largest pushed plus one, held at the limit.
     pub fn push(self, image: &[u8], action: u16, tag: GlobalTag, value: u64) -> Answered
         ensures { answered_of result ≡ answered (arrays_of self) (step image.now (arrays_of self) (push action (of_global tag) value)) }

@@ -7,6 +7,6 @@ pub returns-then-microstep-lt-MAX_MICROSTEP : goal.returns-then-microstep-lt-MAX
 unfolding following
 returns-then-microstep-lt-MAX_MICROSTEP c = search tests
 
-pub returns : goal.returns
+pub returns-else-microstep-lt-MAX_MICROSTEP : goal.returns-else-microstep-lt-MAX_MICROSTEP
 unfolding following
-returns c = search tests
+returns-else-microstep-lt-MAX_MICROSTEP c = search tests

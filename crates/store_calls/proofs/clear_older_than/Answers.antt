@@ -2,8 +2,8 @@
 use Rattle.store_calls.proofs.Calls.{clear_before_done, left_room}
 use Rattle.store_calls.proofs.clear_older_than.Goals as goal
 
-pub find_value-there-requires : goal.find_value-there-requires
-find_value-there-requires c = search left_room
+pub find-there-requires : goal.find-there-requires
+find-there-requires c = search left_room
 
 pub returns : goal.returns
 returns c = search clear_before_done
