@@ -1,17 +1,22 @@
 -- What the two word functions go by, and what others may ask of slots in rows. Assumes nothing.
+use Rattle.std.specs.Int.{from_bool}
+use Rattle.std.proofs.Common.{append_assoc}
+use mathlib.Core.Bool.{Bool, true, false}
 use mathlib.Core.Path.{◌≡◌, refl, sym, ap, ◌∙◌}
 use mathlib.Core.List.{List, ◌++◌, append-nil}
 use Prim.Native.Nat.{ℕ, zero, suc, ◌+◌, ◌*◌, ◌/◌, ◌%◌, ◌<◌, ◌≤◌}
 use native.Mathlib.Omega.{arith}
 use native.Mathlib.Nat.{mod-eq_of_lt}
-use lib.ListN.{length, get_or, set, replicate, take, drop_of_length-le}
+use borrow.Rule.Slice.PartMut.{put_mid}
+use lib.ListN.{length, get_or, set, replicate, take, drop, drop_of_length-le}
+use Rattle.std.proofs.lemmas.List.{length-take-le, length-drop, get_or-take, get_or-drop, drop-drop}
 use lib.Seq.{sets, sets-eq, ext_get_or, get_or-append-add}
 use Rattle.lists.specs.Tests.{bit_of, bit_small, bit_back}
 use Rattle.lists.specs.Rows.{tab, tab_length, tab_at, row_at, put_row, stored}
 use Rattle.lists.specs.Held as H
-use Rattle.key_set.specs.Sets.{no_keys, word_count}
+use Rattle.key_set.specs.Sets.{word_count}
 use Rattle.machine.specs.State.{Event}
-use Rattle.state_events.specs.Slots.{room_for_events, number_words, slot_words, blank, numbers_of, head_word, steps_word, encode, decode, encode_long, events_of, Whole, Held, IsDue}
+use Rattle.state_events.specs.Slots.{room_for_events, slot_words, blank, numbers_of, head_word, steps_word, encode, decode, encode_long, events_of, Whole, Held, IsDue}
 use Rattle.state_events.specs.declared.Due.{Due}
 
 -- what is known of an event in the code
@@ -124,18 +129,35 @@ module _ (l : List ℕ) (n : ℕ) (f : ℕ → ℕ) where
   pub fill_all : {j : ℕ} {out : List ℕ} → Put l 0 n f j out → n ≤ j → length l ≡ n → out ≡ tab f 0 n
   fill_all h b e = put_all l 0 n f h b ∙ sets_last l 0 (tab f 0 n) (omega (arith, tab_length f 0 n, e))
 
--- an event's words: its numbers, then its set's words over zeros
-pub encoded :
-    (e : Event) {row out : List ℕ} → Proper e → row ≡ numbers_of e ++ no_keys word_count → out ≡ sets row number_words e.reactions →
-    (out ≡ encode e) × (decode out ≡ e)
+-- ---- words that are copied
+
+module _ (ws : List ℕ) (b : ℕ) {n m : ℕ} (e : m ≡ n) (h : b + n ≤ length ws) where
+  -- n of them, from b on
+  pub words_at : take m (drop b ws) ≡ tab (λ j. get_or ws (b + j) 0) 0 n
+  words_at = rw e (ext_get_or 0 (take n (drop b ws)) _ (long ∙ sym (tab_length _ 0 n)) λ j i. one j (omega (arith, long)))
+    where
+      long : length (take n (drop b ws)) ≡ n
+      long = length-take-le n (drop b ws) (rw length-drop (omega arith))
+
+      one : (j : ℕ) → j < n → get_or (take n (drop b ws)) j 0 ≡ get_or (tab (λ j. get_or ws (b + j) 0) 0 n) j 0
+      one j i = get_or-take n (drop b ws) j 0 i ∙ (get_or-drop b ws j 0 ∙ sym (tab_at _ n j 0 i))
+
+  -- n others in their place
+  pub words_put : {vs new : List ℕ} → new ≡ vs → length vs ≡ n → put_mid b m ws new ≡ sets ws b vs
+  words_put {vs} p l = rw (e, p, ← l, drop-drop, ← append_assoc) (sym (sets-eq vs ws b (omega arith)))
+
+-- an event's words: its numbers, then its set's words
+pub encoded : (e : Event) {out : List ℕ} → Proper e → out ≡ numbers_of e ++ e.reactions → (out ≡ encode e) × (decode out ≡ e)
 unfolding encode
-encoded e {row} {out} p z q = (is, ap decode is ∙ decode_encode e p)
+encoded e {out} p q = (is, ap decode is ∙ decode_encode e p)
   where
     is : out ≡ encode e
-    is =
-        q ∙ (ap (λ x. sets x number_words e.reactions) z ∙
-        (sets_last (numbers_of e ++ no_keys word_count) number_words e.reactions (omega (arith, p.reactions)) ∙
-        ap (λ x. numbers_of e ++ x) (sym (words_back e.reactions p.reactions))))
+    is = q ∙ ap (λ x. numbers_of e ++ x) (sym (words_back e.reactions p.reactions))
+
+-- a flag's number
+pub bit_is : (b : Bool) → from_bool b ≡ bit_of b
+bit_is true = refl
+bit_is false = refl
 
 -- ---- the returns of the functions on slots
 
@@ -147,12 +169,13 @@ module _ (ws : List ℕ) (k : ℕ) where
   read_there h e q = e ∙ (ap decode q ∙ sym (H.thing_get decode encode slot_words room_for_events encode_long ws k blank h))
 
   pub due_there :
-      {d : Due} → k < room_for_events → d.queue ≡ get_or ws (k * slot_words + 0) 0 % 65536 → d.tag.0 ≡ get_or ws (k * slot_words + 1) 0 →
+      {d : Due} → k < room_for_events → d.queue ≡ get_or ws (k * slot_words) 0 % 65536 → d.tag.0 ≡ get_or ws (k * slot_words + 1) 0 →
       d.tag.1 ≡ get_or ws (k * slot_words + 2) 0 % 4294967296 → IsDue d (get_or (events_of ws) k blank)
   unfolding decode tab
   due_there h q o m =
       let t = read_there h refl refl in
-      record { queue = q ∙ ap (λ e. e.queue) t; tag = rw (o, m) (ap (λ e. e.tag) t) }
+      let z : k * slot_words + 0 ≡ k * slot_words = omega arith in
+      record { queue = q ∙ rw z at (ap (λ e. e.queue) t); tag = rw (o, m) (ap (λ e. e.tag) t) }
 
   module _ (s : Event) (h : Whole ws) where
     pub put_past : room_for_events ≤ k → Held ws (set (events_of ws) k s)

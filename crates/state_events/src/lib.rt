@@ -25,6 +25,7 @@ pub const SLOT_WORDS: usize = NUMBER_WORDS + key_set::WORDS;
 pub const ROOM: usize = ROOM_FOR_EVENTS * SLOT_WORDS;
 
 // The number that means "no scope" (the root's queue) and "no action".
+// Stays: the definitions' `root` is this number, and rows of words hold it.
 pub const NONE: u16 = 65535;
 
 // An event: its queue (a scope, or NONE for the root), its tag on that queue's scale, reactions, flags, and perhaps an action
@@ -52,18 +53,15 @@ impl Slot {
     pub fn blank() -> Self
         ensures { event_of result ≡ blank }
     {
-        let none = KeySet {
-            words: [0; key_set::WORDS],
-        };
         Self {
             queue: 0,
             tag: QueueTag::ZERO,
-            reactions: none,
+            reactions: KeySet::empty(),
             terminal: false,
             control: false,
             network: false,
             action: 0,
-            stored: GlobalTag(0, 0),
+            stored: GlobalTag::ZERO,
         }
     }
 
@@ -71,10 +69,7 @@ impl Slot {
     pub fn is_ordinary(self) -> bool
         ensures { result ≡ ordinary (event_of self) }
     {
-        if self.terminal {
-            return false;
-        }
-        !self.control
+        !self.terminal && !self.control
     }
 }
 
@@ -82,34 +77,30 @@ impl Slot {
 fn head_word(s: Slot) -> u64
     ensures { result ≡ head_word (event_of s) }
 {
-    let terminal = lists::bit(s.terminal);
-    let control = lists::bit(s.control);
-    let network = lists::bit(s.network);
-    (s.queue as u64)
-        + (s.action as u64) * 65536
-        + terminal * 4294967296
-        + control * 8589934592
-        + network * 17179869184
+    u64::from(s.queue)
+        + u64::from(s.action) * 65536
+        + u64::from(s.terminal) * 4294967296
+        + u64::from(s.control) * 8589934592
+        + u64::from(s.network) * 17179869184
 }
 
 // The microsteps of the tag and of the stored tag in one word.
 fn steps_word(s: Slot) -> u64
     ensures { result ≡ steps_word (event_of s) }
 {
-    (s.tag.1 as u64) + (s.stored.1 as u64) * 4294967296
+    u64::from(s.tag.1) + u64::from(s.stored.1) * 4294967296
 }
 
 // The words of row k.
+// Stays: word by word, here and below; a copied slice takes three times the instructions of `copy_slot`.
 fn row_at(rows: &[u64; ROOM], k: usize) -> [u64; SLOT_WORDS]
     requires { k < room_for_events }
     ensures { result ≡ row_at slot_words rows.now k }
 {
     let b = k * SLOT_WORDS;
     let mut row = [0; SLOT_WORDS];
-    let mut j = 0;
-    while j < SLOT_WORDS {
+    for j in 0..SLOT_WORDS {
         row[j] = rows[b + j];
-        j += 1;
     }
     row
 }
@@ -120,38 +111,9 @@ fn put_row(rows: &mut [u64; ROOM], k: usize, row: [u64; SLOT_WORDS])
     ensures { rows.new ≡ put_row slot_words rows.old k row }
 {
     let b = k * SLOT_WORDS;
-    let mut j = 0;
-    while j < SLOT_WORDS {
+    for j in 0..SLOT_WORDS {
         rows[b + j] = row[j];
-        j += 1;
     }
-}
-
-// The words of a set of reactions, behind the others of a row.
-fn set_of(row: [u64; SLOT_WORDS]) -> KeySet
-    ensures { result.words ≡ (decode row).reactions }
-{
-    let mut words = [0; key_set::WORDS];
-    let mut j = 0;
-    while j < key_set::WORDS {
-        words[j] = row[NUMBER_WORDS + j];
-        j += 1;
-    }
-    KeySet { words }
-}
-
-// A row with the words of this set behind the others.
-fn with_set(row: [u64; SLOT_WORDS], set: KeySet) -> [u64; SLOT_WORDS]
-    ensures { result ≡ sets row number_words set.words }
-{
-    let words = set.words;
-    let mut next = row;
-    let mut j = 0;
-    while j < key_set::WORDS {
-        next[NUMBER_WORDS + j] = words[j];
-        j += 1;
-    }
-    next
 }
 
 // The slot that a row's words are.
@@ -159,19 +121,18 @@ fn slot_of(row: [u64; SLOT_WORDS]) -> Slot
     ensures { event_of result ≡ decode row }
 {
     let head = row[0];
-    let offset = row[1];
     let steps = row[2];
-    let stored = row[3];
-    let reactions = set_of(row);
+    let mut reactions = KeySet::empty();
+    reactions.words.copy_from_slice(&row[NUMBER_WORDS..]);
     Slot {
         queue: (head % 65536) as u16,
-        tag: QueueTag(offset, (steps % 4294967296) as u32),
+        tag: QueueTag(row[1], (steps % 4294967296) as u32),
         reactions,
         terminal: head / 4294967296 % 2 == 1,
         control: head / 8589934592 % 2 == 1,
         network: head / 17179869184 % 2 == 1,
         action: (head / 65536 % 65536) as u16,
-        stored: GlobalTag(stored, (steps / 4294967296 % 4294967296) as u32),
+        stored: GlobalTag(row[3], (steps / 4294967296 % 4294967296) as u32),
     }
 }
 
@@ -184,7 +145,8 @@ fn words_of(s: Slot) -> [u64; SLOT_WORDS]
     row[1] = s.tag.0;
     row[2] = steps_word(s);
     row[3] = s.stored.0;
-    with_set(row, s.reactions)
+    row[NUMBER_WORDS..].copy_from_slice(&s.reactions.words);
+    row
 }
 
 // The slot in row k; past the last row a blank one.
@@ -194,8 +156,7 @@ pub fn slot_at(rows: &[u64; ROOM], k: usize) -> Slot
     if ROOM_FOR_EVENTS <= k {
         return Slot::blank();
     }
-    let row = row_at(rows, k);
-    slot_of(row)
+    slot_of(row_at(rows, k))
 }
 
 // When the event in row k is due: what a search through the rows asks for.
@@ -204,12 +165,9 @@ pub fn due_at(rows: &[u64; ROOM], k: usize) -> Due
     ensures { IsDue result (get_or (events_of rows.now) k blank) }
 {
     let b = k * SLOT_WORDS;
-    let head = rows[b + 0];
-    let offset = rows[b + 1];
-    let steps = rows[b + 2];
     Due {
-        queue: (head % 65536) as u16,
-        tag: QueueTag(offset, (steps % 4294967296) as u32),
+        queue: (rows[b] % 65536) as u16,
+        tag: QueueTag(rows[b + 1], (rows[b + 2] % 4294967296) as u32),
     }
 }
 
@@ -221,8 +179,7 @@ pub fn put_slot(rows: &mut [u64; ROOM], k: usize, s: Slot)
     if ROOM_FOR_EVENTS <= k {
         return;
     }
-    let row = words_of(s);
-    put_row(rows, k, row);
+    put_row(rows, k, words_of(s));
 }
 
 // The slot of row `from` into row `to`.
@@ -231,8 +188,7 @@ pub fn copy_slot(rows: &mut [u64; ROOM], from: usize, to: usize)
     requires from_lt_room_for_events { (from < room_for_events) × (to < room_for_events) }
     ensures { Held rows.new (set (events_of rows.old) to (get_or (events_of rows.old) from blank)) }
 {
-    let row = row_at(rows, from);
-    put_row(rows, to, row);
+    put_row(rows, to, row_at(rows, from));
 }
 
 // Rows of blank slots.

@@ -5,32 +5,24 @@ use mathlib.Core.Logic.{⊎_elim}
 use mathlib.Core.List.{List, [], ◌∷◌}
 use Prim.Native.Nat.{ℕ, ◌+◌, ◌-◌, ◌*◌, ◌%◌, ◌<◌, ◌≤◌}
 use native.Mathlib.Omega.{arith}
-use native.Mathlib.Nat.{mod-eq_of_lt}
 use lib.ListN.{length, get_or, set, take, drop, replicate}
 use lib.Seq.{set-get_or}
 use lib.Dec.{ltb}
-use borrow.Author.Tests.{eq-eqb, ne_eqb, lt-ltb, ltb-true}
-use Rattle.lists.specs.Rows.{tab, tab_at, tab_set, tab_all, stores}
+use borrow.Author.Tests.{eq-eqb, ne_eqb, lt-ltb, ltb-true, not-true, not-false}
+use Rattle.lists.specs.Rows.{tab, tab_at, tab_set, tab_all}
 use Rattle.lists.specs.Lists.{drop_take_end, drop_pred}
-use Rattle.lists.specs.Tests.{same?}
+use Rattle.lists.specs.Tests.{same?, yes_no}
 use Rattle.lists.specs.Held as H
-use Rattle.tags.specs.Tags.{at, earlier}
+use Rattle.tags.specs.Tags.{Tag, at, earlier}
 use Rattle.tags.specs.Views.{of_queue}
-use Rattle.tags.specs.declared.QueueTag.{QueueTag}
 use Rattle.machine.specs.State.{Event, root, in_queue}
 use Rattle.machine.specs.Heads.{Least, no_tag, least, lesser, least_of}
 use Rattle.state_scopes.specs.Scopes.{most_scopes}
 use Rattle.state_events.specs.Slots.{blank, IsDue}
 use Rattle.state_events.specs.declared.Due.{Due}
-use Rattle.state_queues.specs.Queue.{queues, of_earliest, entry_of, queue_of, least_words, encode, decode, encode_long, leasts_of, Whole, Held, heads_of}
-use Rattle.state_queues.specs.declared.Earliest.{Earliest}
-use Rattle.state_queues.specs.declared.Earliest.TheVariants as E
+use Rattle.state_queues.specs.Queue.{queues, lowers, entry_of, queue_of, least_words, encode, decode, encode_long, leasts_of, Whole, Held, heads_of}
 
 -- ---- the words of an entry
-
-pub decode_there : (t : QueueTag) → t.1 < 4294967296 → decode (encode (least (of_queue t))) ≡ least (of_queue t)
-unfolding decode encode
-decode_there t h = rw (mod-eq_of_lt h)
 
 module _ (ws : List ℕ) (k : ℕ) where
   pub read_past : queues ≤ k → no_tag ≡ get_or (leasts_of ws) k no_tag
@@ -40,29 +32,30 @@ module _ (ws : List ℕ) (k : ℕ) where
   row = tab (λ j. get_or ws (k * least_words + j) 0) 0 least_words
 
   pub read_there :
-      k < queues → get_or ws (k * least_words + 0) 0 ≡ 1 →
+      k < queues → get_or ws (k * least_words) 0 ≡ 1 →
       least (at (get_or ws (k * least_words + 1) 0) (get_or ws (k * least_words + 2) 0 % 4294967296)) ≡ get_or (leasts_of ws) k no_tag
   unfolding decode tab row
-  read_there h e = sym (H.thing_get decode encode least_words queues encode_long ws k no_tag h ∙ simp (eq-eqb _ _ e))
+  read_there h e =
+      let z : k * least_words + 0 ≡ k * least_words = omega arith in
+      sym (H.thing_get decode encode least_words queues encode_long ws k no_tag h ∙ rw z (simp (eq-eqb _ _ e)))
 
-  pub read_nothing : k < queues → (get_or ws (k * least_words + 0) 0 ≡ 1 → ⊥) → no_tag ≡ get_or (leasts_of ws) k no_tag
+  pub read_nothing : k < queues → (get_or ws (k * least_words) 0 ≡ 1 → ⊥) → no_tag ≡ get_or (leasts_of ws) k no_tag
   unfolding decode tab row
-  read_nothing h e = sym (H.thing_get decode encode least_words queues encode_long ws k no_tag h ∙ simp (ne_eqb _ _ e))
+  read_nothing h e =
+      let z : k * least_words + 0 ≡ k * least_words = omega arith in
+      sym (H.thing_get decode encode least_words queues encode_long ws k no_tag h ∙ rw z (simp (ne_eqb _ _ e)))
 
   module _ (h : Whole ws) where
     pub put_past : (l : Least) → queues ≤ k → Held ws (set (leasts_of ws) k l)
     put_past l b = H.held_past decode encode least_words queues encode_long ws k l h b
 
+    -- what is put is read again
     pub put_there :
-        (t : QueueTag) → t.1 < 4294967296 → k < queues → {out : List ℕ} → out ≡ stores ws (k * least_words) 0 (1 ∷ t.0 ∷ t.1 ∷ []) →
-        Held out (set (leasts_of ws) k (least (of_queue t)))
-    unfolding encode
-    put_there t p b o =
-        H.held_stores decode encode least_words queues encode_long ws k (least (of_queue t)) (1 ∷ t.0 ∷ t.1 ∷ []) h (decode_there t p) b refl o
-
-    pub put_nothing : k < queues → {out : List ℕ} → out ≡ stores ws (k * least_words) 0 (0 ∷ 0 ∷ 0 ∷ []) → Held out (set (leasts_of ws) k no_tag)
-    unfolding encode decode
-    put_nothing b o = H.held_stores decode encode least_words queues encode_long ws k no_tag (0 ∷ 0 ∷ 0 ∷ []) h refl b refl o
+        (l : Least) {x y z : ℕ} → decode (encode l) ≡ l → k < queues → x ∷ y ∷ z ∷ [] ≡ encode l →
+        Held (set (set (set ws (k * least_words) x) (k * least_words + 1) y) (k * least_words + 2) z) (set (leasts_of ws) k l)
+    put_there l {x} {y} {z} d b e =
+        let n : k * least_words + 0 ≡ k * least_words = omega arith in
+        H.held_stores decode encode least_words queues encode_long ws k l (x ∷ y ∷ z ∷ []) h d b e (rw n)
 
 pub blank_heads : Held (replicate (queues * least_words) 0) (replicate queues no_tag)
 unfolding decode encode
@@ -74,25 +67,25 @@ blank_heads =
 
 -- ---- the lesser of two
 
+module _ (t : Tag) where
+  lesser_yes : (l : Least) → lowers t l ≡ true → lesser t l ≡ least t
+  lesser_yes no_tag y = refl
+  lesser_yes (least u) y = simp (not-true (earlier u t) y)
+
+  lesser_no : (l : Least) → lowers t l ≡ false → lesser t l ≡ l
+  lesser_no no_tag y = absurd (yes_no refl y)
+  lesser_no (least u) y = simp (not-false (earlier u t) y)
+
 -- the entry of one event more, by what stood there
-module _ (ws : List ℕ) (q : ℕ) (t : QueueTag) {k : ℕ} (o : k ≡ entry_of q) (e : Earliest) (h : of_earliest e ≡ get_or (leasts_of ws) k no_tag) where
+module _ (ws : List ℕ) (q : ℕ) (t : Tag) {k : ℕ} (o : k ≡ entry_of q) {e : Least} (h : e ≡ get_or (leasts_of ws) k no_tag) where
   abbrev Noted : List ℕ → Type 0
-  Noted out = Held out (set (leasts_of ws) (entry_of q) (lesser (of_queue t) (get_or (leasts_of ws) (entry_of q) no_tag)))
+  Noted out = Held out (set (leasts_of ws) (entry_of q) (lesser t (get_or (leasts_of ws) (entry_of q) no_tag)))
 
-  pub note_first : {out : List ℕ} → e ≡ E.Nothing → Held out (set (leasts_of ws) k (least (of_queue t))) → Noted out
-  note_first p r =
-      let l : get_or (leasts_of ws) k no_tag ≡ no_tag = sym h ∙ ap of_earliest p in
-      rw (← o) (rw l r)
+  pub note_lower : {out : List ℕ} → lowers t e ≡ true → Held out (set (leasts_of ws) k (least t)) → Noted out
+  note_lower y r = rw (← o, ← h, lesser_yes t e y) r
 
-  pub note_lesser : {out : List ℕ} {u : QueueTag} → e ≡ E.At u → earlier (of_queue u) (of_queue t) ≡ false → Held out (set (leasts_of ws) k (least (of_queue t))) → Noted out
-  note_lesser {u = u} p f r =
-      let l : get_or (leasts_of ws) k no_tag ≡ least (of_queue u) = sym h ∙ ap of_earliest p in
-      rw (← o) (rw (l, f) r)
-
-  pub note_kept : {u : QueueTag} → Whole ws → e ≡ E.At u → earlier (of_queue u) (of_queue t) ≡ true → Noted ws
-  note_kept {u} w p f =
-      let l : get_or (leasts_of ws) k no_tag ≡ least (of_queue u) = sym h ∙ ap of_earliest p in
-      record { whole = w; things = rw (← o) (rw (l, f) (rw (← l) (sym (set-get_or (leasts_of ws) k no_tag)))) }
+  pub note_kept : lowers t e ≡ false → Whole ws → Noted ws
+  note_kept n w = record { whole = w; things = rw (← o, ← h, lesser_no t e n, h) (sym (set-get_or (leasts_of ws) k no_tag)) }
 
 -- ---- one event more in front
 
@@ -167,6 +160,3 @@ module _ (l : List Event) (n : ℕ) where
       let es = drop i (take n l) in
       let p : drop (i - 1) (take n l) ≡ e ∷ es = drop_pred l n i blank z a b in
       rw (p, ← heads_more e es, ← h.things, ← r.queue, ← r.tag) o
-
-  pub heads_end : {ws : List ℕ} (i : ℕ) → i ≤ 0 → Held ws (heads_of (drop i (take n l))) → Held ws (heads_of (take n l))
-  heads_end i z h = let e : i ≡ 0 = omega arith in rw e at h

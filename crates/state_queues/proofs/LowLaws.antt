@@ -1,4 +1,5 @@
 -- The least tag of a queue as events come and go: one more behind the others, and those at a head taken out. Assumes nothing.
+use Rattle.std.specs.Prelude.{Option, Some, None, MatchOption, IsTrue}
 use mathlib.Core.Bool.{Bool, true, false, cond, not, ◌&&◌}
 use mathlib.Core.Path.{◌≡◌, refl, sym, ap, ◌∙◌}
 use mathlib.Core.Logic.{◌⊎◌, inl, inr, ⊎_elim}
@@ -22,8 +23,6 @@ use Rattle.state_events.specs.Slots.{blank, events_of, IsDue, room_for_events}
 use Rattle.state_events.specs.declared.Due.{Due}
 use Rattle.state_events.proofs.SlotLaws.{events_long}
 use Rattle.state_queues.specs.Queue.{queues, of_earliest, lowers, is_lower, entry_of, queue_of, leasts_of, Held, heads_of}
-use Rattle.state_queues.specs.declared.Earliest.{Earliest}
-use Rattle.state_queues.specs.declared.Earliest.TheVariants as E
 use Rattle.state_queues.proofs.HeadLaws.{entry_own, entry_other, heads_more}
 
 -- ---- the order of tags
@@ -153,20 +152,21 @@ module _ (q : ℕ) (es : List Event) (e : Event) (l : Least) (h : l ≡ least_of
       go true (least u) p = simp (not-false (earlier u e.tag) p)
       go false m p = refl
 
--- the test of an event that is due so
-module _ (q : ℕ) (l : Earliest) (d : Due) (e : Event) (h : IsDue d e) where
-  pub low_other : (d.queue ≡ q → ⊥) → false ≡ is_lower q (of_earliest l) e
+-- the test of a tag
+module _ (t : QueueTag) where
+  pub lowers_is : (l : Option QueueTag) {r : Bool} → MatchOption l (IsTrue r) (λ u. r ≡ not (earlier (of_queue u) (of_queue t))) → r ≡ lowers (of_queue t) (of_earliest l)
+  lowers_is None m = m
+  lowers_is (Some u) m = m
+
+-- and of an event that is due so
+module _ (q : ℕ) (l : Least) (d : Due) (e : Event) (h : IsDue d e) where
+  pub low_here : d.queue ≡ q → {r : Bool} → r ≡ lowers (of_queue d.tag) l → r ≡ is_lower q l e
+  unfolding is_lower in_queue
+  low_here k m = rw (← h.queue, ← h.tag) (simp (eq-eqb _ _ k) m)
+
+  pub low_other : (d.queue ≡ q → ⊥) → false ≡ is_lower q l e
   unfolding is_lower in_queue
   low_other n = rw (← h.queue) (simp (ne_eqb _ _ n))
-
-  module _ (k : d.queue ≡ q) where
-    pub low_first : l ≡ E.Nothing → true ≡ is_lower q (of_earliest l) e
-    unfolding is_lower in_queue
-    low_first f = rw (← h.queue, f) (simp (eq-eqb _ _ k))
-
-    pub low_by : {t : QueueTag} → l ≡ E.At t → (b : Bool) → earlier (of_queue t) (of_queue d.tag) ≡ b → not b ≡ is_lower q (of_earliest l) e
-    unfolding is_lower in_queue
-    low_by f b p = rw (← h.queue, ← h.tag, f) (simp (eq-eqb _ _ k, p))
 
 -- ---- one event more of the front of the rows
 
@@ -225,9 +225,6 @@ heads_taken q x es =
 -- ---- kept from call to call
 
 module _ (rows : List ℕ) (before after : ℕ) {ws : List ℕ} (w : Held ws (heads_of (take before (events_of rows)))) where
-  pub grow_none : after ≡ before → Held ws (heads_of (take after (events_of rows)))
-  grow_none e = rw e w
-
   pub grow_one : (d : Due) {out : List ℕ} → before ≤ after → after ≤ before + 1 → after ≤ room_for_events → (after ≡ before → ⊥) → IsDue d (get_or (events_of rows) before blank) →
       Held out (set (leasts_of ws) (entry_of d.queue) (lesser (of_queue d.tag) (get_or (leasts_of ws) (entry_of d.queue) no_tag))) →
       Held out (heads_of (take after (events_of rows)))

@@ -1,11 +1,11 @@
 -- Taking events out of the rows. Assumes nothing.
+use Rattle.std.specs.Int.{from_bool}
 use mathlib.Core.Bool.{Bool, true, false, cond, ◌&&◌}
 use mathlib.Core.Path.{◌≡◌, refl, sym, ap, ◌∙◌}
 use mathlib.Core.List.{List}
 use Prim.Native.Nat.{ℕ, suc, ◌+◌, ◌<◌, ◌≤◌}
 use native.Mathlib.Omega.{arith}
 use lib.ListN.{length, get_or, set, take, length-take}
-use lib.Seq.{set-get_or}
 use lib.Dec.{eqb}
 use borrow.Author.Tests.{eq-eqb, ne_eqb}
 use Rattle.lists.specs.Lists.{keep, lose, count, count_append, over, over_read, lose_shorter}
@@ -13,7 +13,6 @@ use Rattle.lists.proofs.Lists.{keep_suc_yes, keep_suc_no}
 use Rattle.lists.specs.Lay.{lay}
 use Rattle.lists.specs.Tests.{and_no}
 use Rattle.lists.specs.Loops as loops
-use Rattle.key_set.specs.Sets.{has}
 use Rattle.tags.specs.Tags.{same_tag}
 use Rattle.tags.specs.Views.{of_queue}
 use Rattle.tags.specs.declared.QueueTag.{QueueTag}
@@ -22,19 +21,9 @@ use Rattle.state_events.specs.Slots.{room_for_events}
 use Rattle.state_events.specs.Slots.{slot_words, blank, encode, decode, encode_long, events_of, Whole, Held, IsDue}
 use Rattle.state_events.specs.declared.Due.{Due}
 use Rattle.state_events.proofs.SlotLaws.{events_long}
-use Rattle.state_queues.specs.Queue.{one_if, goes_of}
-use Rattle.state_queues.specs.declared.Which.{Which}
+use Rattle.state_queues.specs.Queue.{one_if}
 
 -- ---- which go
-
-module _ (w : Which) (e : Event) {r : Bool} where
-  pub goes_at : w.by_tag ≡ true → r ≡ at_head w.queue (of_queue w.stamp) e → r ≡ goes_of w e
-  unfolding goes_of
-  goes_at t h = simp t h
-
-  pub goes_in : w.by_tag ≡ false → r ≡ has w.inside.words e.queue → r ≡ goes_of w e
-  unfolding goes_of
-  goes_in t h = simp t h
 
 -- an event that is due so
 module _ (d : Due) (q : ℕ) (t : QueueTag) (e : Event) (h : IsDue d e) where
@@ -54,10 +43,12 @@ module _ (d : Due) (q : ℕ) (t : QueueTag) (e : Event) (h : IsDue d e) where
   unfolding same_tag
   due_otherwise o = sym (and_no (eqb d.queue q)) ∙ (simp (ne_eqb _ _ o) refl ∙ at_due)
 
-  pub due_in : {r : Bool} (ws : List ℕ) → r ≡ has ws d.queue → r ≡ has ws e.queue
-  due_in ws p = p ∙ ap (has ws) h.queue
-
 -- ---- the ordinary ones that went
+
+-- a flag's number
+pub one_is : (b : Bool) {n : ℕ} → n ≡ from_bool b → (n ≡ one_if b) × (n < 2)
+one_is true e = (e, omega arith)
+one_is false e = (e, omega arith)
 
 module _ (p : Event → Bool) (es : List Event) (i : ℕ) (e : Event) (h : i < length es) (r : e ≡ get_or es i blank) where
   pub went_yes : (m k : ℕ) → p e ≡ true → m ≡ count ordinary (keep p (take i es)) → k ≡ one_if (ordinary e) → m + k ≡ count ordinary (keep p (take (i + 1) es))
@@ -115,9 +106,6 @@ module _ (p : Event → Bool) (ws : List ℕ) (n i m k : ℕ) (out : List ℕ) (
 pub taken_room : (p : Event → Bool) (ws : List ℕ) (i m k : ℕ) (out : List ℕ) → Taken p ws i m k out → m ≤ i
 taken_room p ws i m k out h = loops.lose_room decode encode slot_words room_for_events encode_long blank p ws i h.kept.count
 
-pub stay_same : (ws : List ℕ) (from to : ℕ) → to ≡ from → Whole ws → Held ws (set (events_of ws) to (get_or (events_of ws) from blank))
-stay_same ws from to e h = record { whole = h; things = rw e (sym (set-get_or (events_of ws) from blank)) }
-
 module _ (p : Event → Bool) (ws : List ℕ) (n i m k : ℕ) (out : List ℕ) (a : i ≤ n) (b : n ≤ i) (h : Taken p ws i m k out) where
   pub taken_count : m ≡ length (lose p (take n (events_of ws)))
   taken_count = loops.compact_count decode encode slot_words room_for_events encode_long p ws n i m out a b h.kept
@@ -139,9 +127,6 @@ module _ (ws : List ℕ) (w : ℕ) where
 
   pub clear_one : (i : ℕ) (out next : List ℕ) (e : Event) → w ≤ i → e ≡ blank → Blanked ws w i out → Held next (set (events_of out) i e) → Blanked ws w (i + 1) next
   clear_one i out next e b r h q = loops.blank_one decode encode slot_words room_for_events encode_long blank ws w i out next e b r h q
-
-  pub clear_all : (n i : ℕ) (out : List ℕ) → i ≤ n → n ≤ i → Blanked ws w i out → Blanked ws w n out
-  clear_all n i out a b h = loops.blank_all decode encode slot_words room_for_events encode_long blank ws w n i out a b h
 
 -- ---- both
 

@@ -1,24 +1,23 @@
 -- What the working functions on waiting events mean, over the plain machine's definitions. Assumes nothing.
-use Rattle.std.specs.Prelude.{Bool, true, cond, not, ◌&&◌, ◌≡◌, refl, List, [], ◌∷◌, ℕ, ◌+◌, ◌%◌, length, get_or, set, replicate, leb, ltb, eqb}
+use Rattle.std.specs.Prelude.{Bool, true, cond, not, ◌&&◌, ◌≡◌, refl, List, [], ◌∷◌, ℕ, ◌+◌, ◌%◌, length, get_or, set, replicate, leb, ltb, eqb, Option, Some, None, Result, Ok, Err}
 use Rattle.lists.specs.Held as H
 use Rattle.lists.specs.Rows.{tab}
+use Rattle.refusals.specs.declared.Refusal.{Refusal}
 use Rattle.refusals.specs.declared.Refusal.TheVariants as R
 use Rattle.tags.specs.Tags.{Tag, at, earlier}
 use Rattle.tags.specs.Views.{of_queue}
+use Rattle.tags.specs.declared.QueueTag.{QueueTag}
 use Rattle.machine.specs.State.{Event, root, in_queue, at_head}
 use Rattle.machine.specs.Heads.{Least, no_tag, least, least_of}
 use Rattle.state_scopes.specs.Scopes.{most_scopes}
 use Rattle.key_set.specs.Sets.{has}
 use Rattle.state_queues.specs.declared.Which.{Which}
-use Rattle.state_queues.specs.declared.Earliest.{Earliest}
-use Rattle.state_queues.specs.declared.Earliest.TheVariants as E
-use Rattle.state_queues.specs.declared.Accepted.{Accepted}
-use Rattle.state_queues.specs.declared.Accepted.TheVariants as A
+use Rattle.state_queues.specs.declared.Which.TheVariants.{At, Inside}
 
 -- ---- accepting
 
-abbrev pub accepted_at : ℕ → ℕ → Accepted
-accepted_at limit n = cond (leb limit n) (A.Refused R.Waiting) (A.Count (n + 1))
+abbrev pub accepted_at : ℕ → ℕ → Result ℕ Refusal
+accepted_at limit n = cond (leb limit n) (Err R.Waiting) (Ok (n + 1))
 
 -- the slots after it
 abbrev pub accepted_in : ℕ → ℕ → Event → List Event → List Event
@@ -29,9 +28,9 @@ accepted_in limit n e es = cond (leb limit n) es (set es n e)
 abbrev pub queues : ℕ
 queues = most_scopes + 1
 
-abbrev pub of_earliest : Earliest → Least
-of_earliest E.Nothing = no_tag
-of_earliest (E.At t) = least (of_queue t)
+abbrev pub of_earliest : Option QueueTag → Least
+of_earliest None = no_tag
+of_earliest (Some t) = least (of_queue t)
 
 -- no earlier than it
 abbrev pub lowers : Tag → Least → Bool
@@ -81,7 +80,8 @@ heads_of es = tab (λ k. least_of (queue_of k) es) 0 queues
 -- ---- taking out: the events of a queue at a tag, or those of some scopes
 
 unfoldable pub goes_of : Which → Event → Bool
-goes_of w e = cond w.by_tag (at_head w.queue (of_queue w.stamp) e) (has w.inside.words e.queue)
+goes_of (At q t) e = at_head q (of_queue t) e
+goes_of (Inside s) e = has s.words e.queue
 
 abbrev pub one_if : Bool → ℕ
 one_if b = cond b 1 0

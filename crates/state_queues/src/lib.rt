@@ -12,26 +12,12 @@ ghost use Rattle.machine.specs.Heads.{no_tag, least, lesser};
 ghost use Rattle.tags.specs.Views.{of_queue};
 ghost use Rattle.state_events.specs.Slots.{events_of, event_of, blank, IsDue, room_for_events};
 ghost use Rattle.state_events.specs.Slots as slot;
-ghost use Rattle.state_queues.specs.Queue.{accepted_at, accepted_in, of_earliest, is_lower, entry_of, leasts_of, Whole, Held, heads_of, goes_of, one_if};
+ghost use Rattle.state_queues.specs.Queue.{accepted_at, accepted_in, of_earliest, lowers, is_lower, entry_of, leasts_of, Whole, Held, heads_of, goes_of};
 
 use key_set::KeySet;
 use refusals::Refusal;
 use state_events::{Due, Slot};
 use tags::QueueTag;
-
-// The least tag of a queue, or nothing.
-#[derive(Clone, Copy)]
-pub enum Earliest {
-    Nothing,
-    At(QueueTag),
-}
-
-// How many events wait now, or the refusal.
-#[derive(Clone, Copy)]
-pub enum Accepted {
-    Count(usize),
-    Refused(Refusal),
-}
 
 // One entry for each scope, and the root's last.
 pub const QUEUES: usize = state_scopes::MOST_SCOPES + 1;
@@ -42,75 +28,81 @@ pub const HEADS: usize = QUEUES * LEAST_WORDS;
 
 // ---- accepting
 
-// One more event comes last, behind n; 8 where as many wait as may, which is the limit.
-pub fn accept(rows: &mut [u64; state_events::ROOM], n: usize, limit: usize, s: Slot) -> Accepted
+// One more event comes last, behind n, and so many wait now; 8 where as many wait as may, which is the limit.
+pub fn accept(
+    rows: &mut [u64; state_events::ROOM],
+    n: usize,
+    limit: usize,
+    s: Slot,
+) -> Result<usize, Refusal>
     requires { slot.Whole rows.old }
     ensures value { result ≡ accepted_at limit n }
     ensures held { slot.Held rows.new (accepted_in limit n (event_of s) (events_of rows.old)) }
 {
     if limit <= n {
-        return Accepted::Refused(Refusal::Waiting);
+        return Err(Refusal::Waiting);
     }
     state_events::put_slot(rows, n, s);
-    Accepted::Count(n + 1)
+    Ok(n + 1)
 }
 
 // ---- the least tag of each queue
 
 // The entry of a queue.
+// Stays: past the end for what is no queue, as `entry_of` of specs/ says, which the contracts of `renew` and `note` name.
 fn entry_of(queue: u16) -> usize
     ensures { result ≡ entry_of queue }
 {
     if queue == state_events::NONE {
         return state_scopes::MOST_SCOPES;
     }
-    let scope = queue as usize;
+    let scope = usize::from(queue);
     if scope < state_scopes::MOST_SCOPES {
-        return scope;
+        scope
+    } else {
+        QUEUES
     }
-    QUEUES
 }
 
-pub fn least_at(heads: &[u64; HEADS], k: usize) -> Earliest
+// A queue's least tag, or nothing.
+pub fn least_at(heads: &[u64; HEADS], k: usize) -> Option<QueueTag>
     ensures { of_earliest result ≡ get_or (leasts_of heads.now) k no_tag }
 {
     if QUEUES <= k {
-        return Earliest::Nothing;
+        return None;
     }
     let b = k * LEAST_WORDS;
-    let there = heads[b + 0];
-    let offset = heads[b + 1];
-    let microstep = heads[b + 2];
-    if there == 1 {
-        return Earliest::At(QueueTag(offset, (microstep % 4294967296) as u32));
+    if heads[b] == 1 {
+        Some(QueueTag(heads[b + 1], (heads[b + 2] % 4294967296) as u32))
+    } else {
+        None
     }
-    Earliest::Nothing
 }
 
-fn put_least(heads: &mut [u64; HEADS], k: usize, t: QueueTag)
+// A queue's least tag, or nothing, written.
+// Stays: word by word; a copied slice takes half as many instructions more for each event in `heads`.
+fn put_least(heads: &mut [u64; HEADS], k: usize, least: Option<QueueTag>)
     requires { Whole heads.old }
-    ensures { Held heads.new (set (leasts_of heads.old) k (least (of_queue t))) }
+    ensures { Held heads.new (set (leasts_of heads.old) k (of_earliest least)) }
 {
     if QUEUES <= k {
         return;
     }
     let b = k * LEAST_WORDS;
-    heads[b + 0] = 1;
-    heads[b + 1] = t.0;
-    heads[b + 2] = t.1 as u64;
+    let (there, offset, microstep) = match least {
+        Some(t) => (1, t.0, u64::from(t.1)),
+        None => (0, 0, 0),
+    };
+    heads[b] = there;
+    heads[b + 1] = offset;
+    heads[b + 2] = microstep;
 }
 
-fn put_none(heads: &mut [u64; HEADS], k: usize)
-    requires { Whole heads.old }
-    ensures { Held heads.new (set (leasts_of heads.old) k no_tag) }
+// A tag takes the place of the least so far, if there is one, unless that is earlier.
+fn lowers(t: QueueTag, least: Option<QueueTag>) -> bool
+    ensures { result ≡ lowers (of_queue t) (of_earliest least) }
 {
-    if QUEUES <= k {
-        return;
-    }
-    let b = k * LEAST_WORDS;
-    heads[b + 0] = 0;
-    heads[b + 1] = 0;
-    heads[b + 2] = 0;
+    least.is_none_or(|u| t <= u)
 }
 
 // One event more; where its queue has an earlier one nothing is written.
@@ -119,16 +111,8 @@ fn note(heads: &mut [u64; HEADS], d: Due)
     ensures { Held heads.new (set (leasts_of heads.old) (entry_of d.queue) (lesser (of_queue d.tag) (get_or (leasts_of heads.old) (entry_of d.queue) no_tag))) }
 {
     let k = entry_of(d.queue);
-    let t = d.tag;
-    match least_at(heads, k) {
-        Earliest::Nothing => {
-            put_least(heads, k, t);
-        }
-        Earliest::At(u) => {
-            if u.earlier(t) {} else {
-                put_least(heads, k, t);
-            }
-        }
+    if lowers(d.tag, least_at(heads, k)) {
+        put_least(heads, k, Some(d.tag));
     }
 }
 
@@ -138,11 +122,8 @@ pub fn heads(rows: &[u64; state_events::ROOM], n: usize) -> [u64; HEADS]
     ensures { Held result (heads_of (take n (events_of rows.now))) }
 {
     let mut out = [0u64; HEADS];
-    let mut i = n;
-    while 0 < i {
-        i -= 1;
-        let d = state_events::due_at(rows, i);
-        note(&mut out, d);
+    for i in (0..n).rev() {
+        note(&mut out, state_events::due_at(rows, i));
     }
     out
 }
@@ -158,49 +139,31 @@ pub fn grow(heads: &mut [u64; HEADS], rows: &[u64; state_events::ROOM], before: 
     if after == before {
         return;
     }
-    let d = state_events::due_at(rows, before);
-    note(heads, d);
+    note(heads, state_events::due_at(rows, before));
 }
 
 // The entry of a queue whose least tag is another now, or which has none.
-pub fn renew(heads: &mut [u64; HEADS], queue: u16, lowest: Earliest)
+pub fn renew(heads: &mut [u64; HEADS], queue: u16, lowest: Option<QueueTag>)
     requires { Whole heads.old }
     ensures { Held heads.new (set (leasts_of heads.old) (entry_of queue) (of_earliest lowest)) }
 {
-    let k = entry_of(queue);
-    match lowest {
-        Earliest::Nothing => {
-            put_none(heads, k);
-        }
-        Earliest::At(t) => {
-            put_least(heads, k, t);
-        }
-    }
+    put_least(heads, entry_of(queue), lowest);
 }
 
 // An event of the queue takes the place of the lowest so far, if there is one, unless that is earlier.
-pub fn is_lower(queue: u16, lowest: Earliest, d: Due) -> bool
+pub fn is_lower(queue: u16, lowest: Option<QueueTag>, d: Due) -> bool
     ensures { (e : Event) → IsDue d e → result ≡ is_lower queue (of_earliest lowest) e }
 {
-    if d.queue == queue {
-        match lowest {
-            Earliest::Nothing => true,
-            Earliest::At(t) => { if t.earlier(d.tag) { false } else { true } }
-        }
-    } else {
-        false
-    }
+    d.queue == queue && lowers(d.tag, lowest)
 }
 
 // ---- taking out
 
 // Which events go: those of a queue at a tag, or all of some scopes.
 #[derive(Clone, Copy)]
-pub struct Which {
-    pub by_tag: bool,
-    pub queue: u16,
-    pub stamp: QueueTag,
-    pub inside: KeySet,
+pub enum Which {
+    At(u16, QueueTag),
+    Inside(KeySet),
 }
 
 // How many events are left, and how many ordinary ones went.
@@ -214,13 +177,7 @@ pub struct Removed {
 fn is_at(d: Due, queue: u16, t: QueueTag) -> bool
     ensures { (e : Event) → IsDue d e → result ≡ at_head queue (of_queue t) e }
 {
-    let u = d.tag;
-    if u.0 == t.0 {
-        if d.queue == queue {
-            return u.1 == t.1;
-        }
-    }
-    false
+    d.tag.0 == t.0 && d.queue == queue && d.tag.1 == t.1
 }
 
 impl Which {
@@ -228,21 +185,11 @@ impl Which {
     pub fn goes(self, d: Due) -> bool
         ensures { (e : Event) → IsDue d e → result ≡ goes_of self e }
     {
-        if self.by_tag {
-            return is_at(d, self.queue, self.stamp);
+        match self {
+            Which::At(queue, t) => is_at(d, queue, t),
+            Which::Inside(scopes) => scopes.contains(usize::from(d.queue)),
         }
-        let inside = self.inside;
-        inside.contains(d.queue as usize)
     }
-}
-
-pub fn one_if(b: bool) -> usize
-    ensures { (result ≡ one_if b) × (result < 2) }
-{
-    if b {
-        return 1;
-    }
-    0
 }
 
 // The event of row `from` stays, in row `to`.
@@ -265,18 +212,13 @@ fn compact(rows: &mut [u64; state_events::ROOM], n: usize, which: Which) -> Remo
     ensures ordinary_value { result.ordinary ≡ count ordinary (keep (goes_of which) (take n (events_of rows.old))) }
     ensures held { slot.Held rows.new (lists.over (lose (goes_of which) (take n (events_of rows.old))) (events_of rows.old)) }
 {
-    let mut w: usize = 0;
-    let mut ordinary: usize = 0;
-    let mut i: usize = 0;
-    while i < n {
-        let d = state_events::due_at(rows, i);
-        let at = i;
-        i += 1;
-        if which.goes(d) {
-            let s = state_events::slot_at(rows, at);
-            ordinary += one_if(s.is_ordinary());
+    let mut w = 0;
+    let mut ordinary = 0;
+    for i in 0..n {
+        if which.goes(state_events::due_at(rows, i)) {
+            ordinary += usize::from(state_events::slot_at(rows, i).is_ordinary());
         } else {
-            stay(rows, at, w);
+            stay(rows, i, w);
             w += 1;
         }
     }
@@ -289,11 +231,8 @@ pub fn clear(rows: &mut [u64; state_events::ROOM], w: usize, n: usize)
     requires w_le_n { (w ≤ n) × (n ≤ room_for_events) }
     ensures { slot.Held rows.new (lay blank (events_of rows.old) (take w (events_of rows.old)) n) }
 {
-    let b = Slot::blank();
-    let mut i = w;
-    while i < n {
-        state_events::put_slot(rows, i, b);
-        i += 1;
+    for i in w..n {
+        state_events::put_slot(rows, i, Slot::blank());
     }
 }
 

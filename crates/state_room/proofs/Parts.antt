@@ -1,16 +1,14 @@
 -- Rows that hold a state are good in each part, and the other way round. Assumes nothing.
-use Rattle.std.specs.Prelude.{◌≡◌, List, ℕ}
+use Rattle.std.specs.Prelude.{◌≡◌, List, ℕ, Ok, Err}
 use Rattle.std.proofs.Math.Path.{refl}
 use Rattle.std.proofs.Common.{ap, ◌∙◌, sym}
 use Rattle.store_calls.specs.declared.Counts as store
-use Rattle.refusals.specs.declared.Outcome.{Outcome}
-use Rattle.refusals.specs.declared.Outcome.TheVariants as O
 use Rattle.machine.specs.State.{State}
 use Rattle.table_rows.specs.Bytes.{Image}
 use Rattle.table_rows.specs.Limits.{limits}
 use Rattle.machine.specs.Transition.{Step}
 use Rattle.state_room.specs.declared.Counts.{Counts}
-use Rattle.state_room.specs.Holds.{Rows, Holds, Steps, After, shows}
+use Rattle.state_room.specs.Holds.{Rows, Holds, Outcome, Steps, After, shows}
 use Rattle.state_room.specs.PartRows.{Shows, waits_queued}
 use Rattle.state_room.specs.Parts.{Good, rows_in, finished, rows_are, rows_good, changed}
 
@@ -48,5 +46,5 @@ steps_by img f r o es vs bs c h g e s k =
     rw (ap f (sym (holds_are img s r k)) ∙ e s (shows img s r k)) (go o)
   where
     go : (o : Outcome) → After img (finished o (rows_in s es vs bs c h)) o (changed r es vs bs c h)
-    go O.Done = (refl, good_holds img s r k es vs bs c h g)
-    go (O.Refused n) = refl
+    go (Ok _) = (refl, good_holds img s r k es vs bs c h g)
+    go (Err n) = refl

@@ -1,5 +1,5 @@
 -- One room for the state: all rows and the ledger, the state that they hold, and what a step or a call does to them. Assumes nothing.
-use Rattle.std.specs.Prelude.{true, ◌≡◌, refl, List, ℕ, ◌≤◌, length, take, get_or}
+use Rattle.std.specs.Prelude.{true, ◌≡◌, refl, List, ℕ, ◌≤◌, length, take, get_or, Result, Ok, Err, ⊤}
 use Rattle.std.proofs.Common.{◌∙◌, sym, le_trans, arith}
 use Rattle.std.proofs.Math.Dec.{leb}
 use borrow.Author.Tests.{leb-true}
@@ -7,8 +7,6 @@ use Rattle.lists.specs.Tests.{and_left, and_right}
 use Rattle.lists.specs.Lists.{count, every}
 use Rattle.lists.specs.Walk.{done, refused, ◌>>=◌}
 use Rattle.refusals.specs.declared.Refusal.{Refusal}
-use Rattle.refusals.specs.declared.Outcome.{Outcome}
-use Rattle.refusals.specs.declared.Outcome.TheVariants as O
 use Rattle.table_rows.specs.Bytes.{Image}
 use Rattle.table_rows.specs.Kinds as K
 use Rattle.table_rows.specs.Limits.{versions, limits, limits_fit}
@@ -128,28 +126,32 @@ pub record Kept (img : Image) (r : Rows) : Type 0 where
 
 -- ---- what a step of the machine does to rows
 
+-- what it comes to in the code
+abbrev pub Outcome : Type 0
+Outcome = Result ⊤ Refusal
+
 -- done: they hold the new state; refused: they are no state, and the caller puts back what was
 abbrev pub After : Image → Step → Outcome → Rows → Type 0
-After img (done t) o r = (o ≡ O.Done) × Holds img t r
-After img (refused n) o r = o ≡ O.Refused n
+After img (done t) o r = (o ≡ Ok tt) × Holds img t r
+After img (refused n) o r = o ≡ Err n
 
 abbrev pub Steps : Image → (State → Step) → Rows → Outcome → Rows → Type 0
 Steps img f before o after = (s : State) → Holds img s before → After img (f s) o after
 
 -- done and refused are two things
-pub not_both : {P : Type 0} {n : Refusal} → O.Done ≡ O.Refused n → P
-not_both e = let z : ◌≡◌ {A = ℕ} 0 1 = cc in absurd (omega arith)
+pub not_both : {P : Type 0} {n : Refusal} → ◌≡◌ {A = Outcome} (Ok tt) (Err n) → P
+not_both e = cc
 
 -- one step, and where it was done another
 module _ (img : Image) (f g : State → Step) (a b c : Rows) (o p : Outcome) where
-  pub steps_then : Steps img f a o b → o ≡ O.Done → Steps img g b p c → Steps img (λ s. f s >>= g) a p c
+  pub steps_then : Steps img f a o b → o ≡ Ok tt → Steps img g b p c → Steps img (λ s. f s >>= g) a p c
   steps_then h e k s w = go (f s) (h s w)
     where
       go : (r : Step) → After img r o b → After img (r >>= g) p c
       go (done t) x = k t x.1
       go (refused n) x = not_both (sym e ∙ x)
 
-  pub steps_end : {n : Refusal} → Steps img f a o b → o ≡ O.Refused n → p ≡ O.Refused n → Steps img (λ s. f s >>= g) a p c
+  pub steps_end : {n : Refusal} → Steps img f a o b → o ≡ Err n → p ≡ Err n → Steps img (λ s. f s >>= g) a p c
   steps_end h e i s w = go (f s) (h s w)
     where
       go : (r : Step) → After img r o b → After img (r >>= g) p c
@@ -157,7 +159,7 @@ module _ (img : Image) (f g : State → Step) (a b c : Rows) (o p : Outcome) whe
       go (refused n) x = i ∙ (sym e ∙ x)
 
 -- and where it was done the rows hold a state again
-pub steps_held : (img : Image) (f : State → Step) (a b : Rows) (o : Outcome) → Held img a → Steps img f a o b → o ≡ O.Done → Held img b
+pub steps_held : (img : Image) (f : State → Step) (a b : Rows) (o : Outcome) → Held img a → Steps img f a o b → o ≡ Ok tt → Held img b
 steps_held img f a b o h k e = go (f h.state) (k h.state h.holds)
   where
     go : (r : Step) → After img r o b → Held img b
@@ -166,10 +168,10 @@ steps_held img f a b o h k e = go (f h.state) (k h.state h.holds)
 
 module _ (img : Image) (f : State → Step) (a : Rows) where
   -- nothing happens
-  pub steps_done : ((s : State) → Holds img s a → f s ≡ done s) → Steps img f a O.Done a
+  pub steps_done : ((s : State) → Holds img s a → f s ≡ done s) → Steps img f a (Ok tt) a
   steps_done h s k = rw (h s k) (refl, k)
 
-  pub steps_refused : {x : Refusal} (b : Rows) → ((s : State) → Holds img s a → f s ≡ refused x) → Steps img f a (O.Refused x) b
+  pub steps_refused : {x : Refusal} (b : Rows) → ((s : State) → Holds img s a → f s ≡ refused x) → Steps img f a (Err x) b
   steps_refused b h s k = rw (h s k) refl
 
   -- another comes to the same
@@ -179,8 +181,8 @@ module _ (img : Image) (f : State → Step) (a : Rows) where
 -- ---- what a call of the machine does to rows
 
 abbrev pub reply_of : Outcome → Reply
-reply_of O.Done = M.ok
-reply_of (O.Refused n) = M.refusal n
+reply_of (Ok _) = M.ok
+reply_of (Err n) = M.refusal n
 
 -- the machine's answer, and they hold its state
 pub record Answers (img : Image) (o : M.Outcome) (reply : Reply) (r : Rows) : Type 0 where

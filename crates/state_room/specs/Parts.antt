@@ -1,5 +1,5 @@
 -- A state with those parts that some lent rows hold, as the steps of a transition change them; and such steps as steps on the whole room. Assumes nothing.
-use Rattle.std.specs.Prelude.{Bool, true, false, cond, ◌||◌, ◌≡◌, List, [], ◌∷◌, ◌++◌, ℕ, ◌+◌, ◌≤◌, ◌<◌, take, set}
+use Rattle.std.specs.Prelude.{Bool, true, false, cond, ◌||◌, ◌≡◌, List, [], ◌∷◌, ◌++◌, ℕ, ◌+◌, ◌≤◌, ◌<◌, take, set, Ok, Err}
 use Rattle.std.proofs.Math.Path.{refl}
 use Rattle.std.proofs.Common.{ap, ◌∙◌, sym, arith, length-append}
 use Rattle.std.proofs.Math.ListN.{length}
@@ -14,8 +14,6 @@ use Rattle.tags.specs.Tags.{Tag}
 use Rattle.store.specs.Store.{Store, pushed, lacks, is_value, is_bucket}
 use Rattle.store_calls.specs.declared.Counts as store
 use Rattle.store_calls.specs.declared.Changed.{Changed}
-use Rattle.refusals.specs.declared.Outcome.{Outcome}
-use Rattle.refusals.specs.declared.Outcome.TheVariants as O
 use Rattle.store_calls.specs.Lent.{store_of, Laid, Did}
 use Rattle.machine.specs.State.{Event, Scope, State, ordinary, with_queue, with_store, with_modes, with_scopes, tally, accepted}
 use Rattle.table_rows.specs.Bytes.{Image}
@@ -27,7 +25,7 @@ use Rattle.machine.specs.Table.{scopes, reactors}
 use Rattle.state_room.specs.declared.Counts.{Counts}
 use Rattle.state_room.specs.declared.Ledger.{Ledger}
 use Rattle.state_room.specs.Padded.{padded}
-use Rattle.state_room.specs.Holds.{Rows, Holds}
+use Rattle.state_room.specs.Holds.{Rows, Holds, Outcome}
 use Rattle.state_room.specs.PartRows.{most_reactors, Scoped, Queued, Waits, waits_queued, queued_is, queued_waits, queued_more, Stored, Fits, stored_is, stored_laid}
 
 -- what a working function asks of the rows of values and buckets that it is lent: blanks behind those that are held
@@ -52,8 +50,8 @@ rows_in s es vs bs c h = store_in (queue_in s es c) vs bs h
 
 -- an outcome, with what there is where it is done
 abbrev pub finished : {A : Type 0} → Outcome → A → Result Refusal A
-finished O.Done a = done a
-finished (O.Refused r) a = refused r
+finished (Ok _) a = done a
+finished (Err r) a = refused r
 
 -- ---- a state that the rows hold
 

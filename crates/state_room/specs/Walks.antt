@@ -1,17 +1,15 @@
 -- A walk of the machine on the room, one step a row, as a loop takes it: until it is done or a row is refused. Assumes nothing.
-use Rattle.std.specs.Prelude.{List, ◌≡◌, ℕ, ◌+◌, ◌-◌, ◌≤◌, ◌<◌}
+use Rattle.std.specs.Prelude.{List, ◌≡◌, ℕ, ◌+◌, ◌-◌, ◌≤◌, ◌<◌, Ok, Err}
 use Rattle.std.proofs.Math.Nat.{sub-zero}
 use Rattle.lists.specs.Lists.{from}
 use Rattle.lists.specs.Steps.{from_next, from_end}
 use Rattle.lists.specs.Walk.{done, ◌>>=◌, walk}
 use Rattle.refusals.specs.declared.Refusal.{Refusal}
-use Rattle.refusals.specs.declared.Outcome.{Outcome}
-use Rattle.refusals.specs.declared.Outcome.TheVariants as O
 use Rattle.table_rows.specs.Bytes.{Image}
 use Rattle.machine.specs.State.{State}
 use Rattle.machine.specs.Transition.{Step}
 use Rattle.state_room.specs.declared.Ledger.{Ledger}
-use Rattle.state_room.specs.Holds.{Rows, Held, Steps, steps_then, steps_end, steps_held, steps_done, steps_same}
+use Rattle.state_room.specs.Holds.{Rows, Held, Outcome, Steps, steps_then, steps_end, steps_held, steps_done, steps_same}
 
 -- of what a loop has of the lent arrays
 abbrev pub room : List ℕ → List ℕ → List ℕ → List ℕ → Ledger → Rows
@@ -39,20 +37,20 @@ pub walked_none : {f : State → ℕ → Step} {n : ℕ} {img : Image} {a : Rows
 walked_none h = record { holds = h; rest = λ o c k s w. rw sub-zero at (k s w) }
 
 module _ {f : State → ℕ → Step} {n : ℕ} {img : Image} {a : Rows} {j : ℕ} {b : Rows} (w : Walked f n img a j b) where
-  pub walked_end : {m : ℕ} → n ≤ j → n ≡ m → Steps img (λ s. walk f s (from 0 m)) a O.Done b
-  walked_end h e = rw (← e) (w.rest O.Done b (steps_done img (left f n j) b (λ s k. left_end f n j s h)))
+  pub walked_end : {m : ℕ} → n ≤ j → n ≡ m → Steps img (λ s. walk f s (from 0 m)) a (Ok tt) b
+  walked_end h e = rw (← e) (w.rest (Ok tt) b (steps_done img (left f n j) b (λ s k. left_end f n j s h)))
 
   module _ (h : j < n) (o : Outcome) (c : Rows) (k : Steps img (λ s. f s j) b o c) where
     -- the row, then the rest
     first_then : (p : Outcome) (d : Rows) → Steps img (λ s. f s j >>= left f n (j + 1)) b p d → Steps img (λ s. walk f s (from 0 n)) a p d
     first_then p d r = w.rest p d (steps_same img (left f n j) b p d _ (λ s v. left_next f n j s h) r)
 
-    pub walked_next : o ≡ O.Done → Walked f n img a (j + 1) c
+    pub walked_next : o ≡ Ok tt → Walked f n img a (j + 1) c
     walked_next e =
         record {
           holds = steps_held img (λ s. f s j) b c o w.holds k e;
           rest = λ p d r. first_then p d (steps_then img (λ s. f s j) (left f n (j + 1)) b c d o p k e r);
         }
 
-    pub walked_refused : {m : ℕ} {x : Refusal} → n ≡ m → o ≡ O.Refused x → Steps img (λ s. walk f s (from 0 m)) a o c
+    pub walked_refused : {m : ℕ} {x : Refusal} → n ≡ m → o ≡ Err x → Steps img (λ s. walk f s (from 0 m)) a o c
     walked_refused q e = rw (← q) (first_then o c (steps_end img (λ s. f s j) (left f n (j + 1)) b c c o o k e e))

@@ -6,7 +6,6 @@
 ghost use Rattle.std.specs.Prelude.{◌≡◌};
 ghost use Rattle.state_room.specs.PartRows.{bare_ledger};
 
-use refusals::Outcome;
 use store_words::{BucketRows, ValueRows};
 
 // How many reactors there may be; `most_reactors` of specs/ says the same.
@@ -37,18 +36,16 @@ pub struct Ledger {
 pub fn bare_ledger(modes: [u16; MOST_REACTORS]) -> Ledger
     ensures { result ≡ bare_ledger modes }
 {
-    let counts = Counts {
-        waiting: 0,
-        work: 0,
-    };
-    let held = store_calls::Counts {
-        values: 0,
-        buckets: 0,
-    };
     Ledger {
         modes,
-        counts,
-        held,
+        counts: Counts {
+            waiting: 0,
+            work: 0,
+        },
+        held: store_calls::Counts {
+            values: 0,
+            buckets: 0,
+        },
     }
 }
 
@@ -59,12 +56,5 @@ pub struct Room {
     pub events: [u64; state_events::ROOM],
     pub values: ValueRows,
     pub buckets: BucketRows,
-    pub ledger: Ledger,
-}
-
-// What a step or a call on lent rows comes to, and the ledger after it.
-#[derive(Clone, Copy)]
-pub struct Stepped {
-    pub outcome: Outcome,
     pub ledger: Ledger,
 }

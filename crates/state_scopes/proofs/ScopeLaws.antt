@@ -1,13 +1,19 @@
 -- What the word functions of scopes go by. Assumes nothing.
 use mathlib.Core.Path.{◌≡◌, refl, sym, ◌∙◌}
-use mathlib.Core.List.{List, [], ◌∷◌}
+use mathlib.Core.Bool.{Bool, true, false}
+use mathlib.Core.List.{List}
 use Prim.Native.Nat.{ℕ, ◌+◌, ◌*◌, ◌/◌, ◌%◌, ◌<◌, ◌≤◌}
 use native.Mathlib.Omega.{arith}
 use native.Mathlib.Nat.{mod-eq_of_lt}
-use lib.ListN.{get_or, set, replicate}
+use lib.ListN.{length, get_or, set, replicate}
+use lib.Seq.{sets, sets-eq}
+use borrow.Rule.Slice.PartMut.{put_mid}
+use Rattle.std.specs.Int.{from_bool}
+use Rattle.std.proofs.Common.{append_assoc}
+use Rattle.std.proofs.lemmas.List.{drop-drop}
 use Rattle.lists.specs.Lists.{every}
 use Rattle.lists.specs.Tests.{bit_of, bit_small, bit_back}
-use Rattle.lists.specs.Rows.{tab, stores}
+use Rattle.lists.specs.Rows.{tab}
 use Rattle.lists.specs.Held as H
 use Rattle.table_rows.specs.Bytes.{Image}
 use Rattle.table_rows.specs.Kinds.{scope}
@@ -47,6 +53,15 @@ decode_encode s p =
       mod-eq_of_lt p.suspended,
     )
 
+-- words in the place of n others, from b on
+words_put : (ws : List ℕ) (b : ℕ) {n m : ℕ} {vs new : List ℕ} → m ≡ n → b + n ≤ length ws → new ≡ vs → length vs ≡ n → put_mid b m ws new ≡ sets ws b vs
+words_put ws b {vs = vs} e h p l = rw (e, p, ← l, drop-drop, ← append_assoc) (sym (sets-eq vs ws b (omega arith)))
+
+-- a flag's number
+pub bit_is : (b : Bool) → from_bool b ≡ bit_of b
+bit_is true = refl
+bit_is false = refl
+
 module _ (ws : List ℕ) (k : ℕ) where
   pub read_past : {r : Scope} → r ≡ blank → most_scopes ≤ k → r ≡ get_or (scopes_of ws) k blank
   read_past e h = e ∙ sym (H.thing_past decode encode scope_words most_scopes encode_long ws k blank h)
@@ -59,16 +74,10 @@ module _ (ws : List ℕ) (k : ℕ) where
     put_none b = H.held_past decode encode scope_words most_scopes encode_long ws k s h b
 
     pub put_there :
-        {m : ℕ} → m ≡ marks_word s → Proper s → k < most_scopes → {out : List ℕ} →
-        out ≡
-        stores ws (k * scope_words) 0
-        (m ∷ s.clock.G.offset ∷ s.clock.G.microstep ∷ s.clock.L.offset ∷ s.clock.L.microstep ∷ s.clock.S.offset ∷ s.clock.S.microstep ∷ []) →
-        Held out (set (scopes_of ws) k s)
-    unfolding encode
-    put_there {m} e p b o =
-        let row = m ∷ s.clock.G.offset ∷ s.clock.G.microstep ∷ s.clock.L.offset ∷ s.clock.L.microstep ∷ s.clock.S.offset ∷ s.clock.S.microstep ∷ [] in
-        let q : row ≡ encode s = rw e in
-        H.held_stores decode encode scope_words most_scopes encode_long ws k s row h (decode_encode s p) b q o
+        {n : ℕ} {new : List ℕ} → Proper s → k < most_scopes → n ≡ scope_words → k * scope_words + scope_words ≤ length ws → new ≡ encode s →
+        Held (put_mid (k * scope_words) n ws new) (set (scopes_of ws) k s)
+    put_there p b l f e =
+        rw (words_put ws (k * scope_words) l f e (encode_long s)) (H.held_put decode encode scope_words most_scopes encode_long ws k s h (decode_encode s p) b)
 
 pub blank_held : Held (replicate (most_scopes * scope_words) 0) (replicate most_scopes blank)
 unfolding decode encode marks_word

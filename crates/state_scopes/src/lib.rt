@@ -3,6 +3,7 @@
 #![tactic(auto)]
 
 ghost use Rattle.std.specs.Prelude.{◌≡◌, ◌<◌, get_or, set, replicate};
+ghost use Rattle.machine.specs.State.{fresh_scope};
 ghost use Rattle.state_scopes.specs.Scopes.{most_scopes, scope_of, blank, marks_word, scopes_of, Whole, Held};
 
 use tags::{GlobalTag, LocalTag, ScopeClock};
@@ -24,20 +25,21 @@ pub struct Scope {
 }
 
 impl Scope {
+    // One that starts active or not.
+    pub fn fresh(active: bool) -> Self
+        ensures { scope_of result ≡ fresh_scope active }
+    {
+        Self {
+            clock: ScopeClock::fresh(active),
+            active,
+            ever: active,
+        }
+    }
+
     pub fn blank() -> Self
         ensures { scope_of result ≡ blank }
     {
-        let clock = ScopeClock {
-            activation_global: GlobalTag(0, 0),
-            activation_local: LocalTag(0, 0),
-            allowed: false,
-            suspended_local: LocalTag(0, 0),
-        };
-        Self {
-            clock,
-            active: false,
-            ever: false,
-        }
+        Self::fresh(false)
     }
 }
 
@@ -45,11 +47,7 @@ impl Scope {
 fn marks_word(s: Scope) -> u64
     ensures { result ≡ marks_word (scope_of s) }
 {
-    let c = s.clock;
-    let allowed = lists::bit(c.allowed);
-    let active = lists::bit(s.active);
-    let ever = lists::bit(s.ever);
-    allowed + active * 2 + ever * 4
+    u64::from(s.clock.allowed) + u64::from(s.active) * 2 + u64::from(s.ever) * 4
 }
 
 // The scope in row k; past the last row a blank one.
@@ -60,21 +58,14 @@ pub fn scope_at(rows: &[u64; ROOM], k: usize) -> Scope
         return Scope::blank();
     }
     let b = k * SCOPE_WORDS;
-    let marks = rows[b + 0];
-    let global = rows[b + 1];
-    let global_step = rows[b + 2];
-    let local = rows[b + 3];
-    let local_step = rows[b + 4];
-    let suspended = rows[b + 5];
-    let suspended_step = rows[b + 6];
-    let clock = ScopeClock {
-        activation_global: GlobalTag(global, (global_step % 4294967296) as u32),
-        activation_local: LocalTag(local, (local_step % 4294967296) as u32),
-        allowed: marks % 2 == 1,
-        suspended_local: LocalTag(suspended, (suspended_step % 4294967296) as u32),
-    };
+    let marks = rows[b];
     Scope {
-        clock,
+        clock: ScopeClock {
+            activation_global: GlobalTag(rows[b + 1], (rows[b + 2] % 4294967296) as u32),
+            activation_local: LocalTag(rows[b + 3], (rows[b + 4] % 4294967296) as u32),
+            allowed: marks % 2 == 1,
+            suspended_local: LocalTag(rows[b + 5], (rows[b + 6] % 4294967296) as u32),
+        },
         active: marks / 2 % 2 == 1,
         ever: marks / 4 % 2 == 1,
     }
@@ -90,16 +81,16 @@ pub fn put_scope(rows: &mut [u64; ROOM], k: usize, s: Scope)
     }
     let b = k * SCOPE_WORDS;
     let c = s.clock;
-    let g = c.activation_global;
-    let l = c.activation_local;
-    let p = c.suspended_local;
-    rows[b + 0] = marks_word(s);
-    rows[b + 1] = g.0;
-    rows[b + 2] = g.1 as u64;
-    rows[b + 3] = l.0;
-    rows[b + 4] = l.1 as u64;
-    rows[b + 5] = p.0;
-    rows[b + 6] = p.1 as u64;
+    let row = [
+        marks_word(s),
+        c.activation_global.0,
+        u64::from(c.activation_global.1),
+        c.activation_local.0,
+        u64::from(c.activation_local.1),
+        c.suspended_local.0,
+        u64::from(c.suspended_local.1),
+    ];
+    rows[b..b + SCOPE_WORDS].copy_from_slice(&row);
 }
 
 // Rows of blank scopes.

@@ -3,5 +3,4 @@ use Rattle.state_events.proofs.SlotLaws.{copied}
 use Rattle.state_events.proofs.copy_slot.Goals as goal
 
 pub returns : goal.returns
-returns c =
-    copied _ _ _ c.requires.whole c.requires.from_lt_room_for_events.0 c.requires.from_lt_room_for_events.1 c.row_at-row.ensures c.put_row.ensures
+returns c = let r = c.requires in copied _ _ _ r.whole r.from_lt_room_for_events.0 r.from_lt_room_for_events.1 c.row_at.ensures c.put_row.ensures

@@ -10,4 +10,4 @@ pub loop-j-preserved : goal.loop-j-preserved
 loop-j-preserved c = search put_more
 
 pub returns : goal.returns
-returns c = put_list _ _ _ c.args.row c.loop-j.invariant c.loop-j-test.false (search rules)
+returns c = put_list _ _ _ c.args.row c.loop-j.invariant (search rules) (search rules)

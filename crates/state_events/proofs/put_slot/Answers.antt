@@ -7,4 +7,4 @@ pub returns-then-k-ge-ROOM_FOR_EVENTS : goal.returns-then-k-ge-ROOM_FOR_EVENTS
 returns-then-k-ge-ROOM_FOR_EVENTS c = put_past _ _ _ c.requires c.if-k-ge-ROOM_FOR_EVENTS.true
 
 pub returns : goal.returns
-returns c = put_there _ _ _ c.requires (search rules) c.words_of-row.ensures c.put_row.ensures
+returns c = put_there _ _ _ c.requires (search rules) c.words_of.ensures c.put_row.ensures

@@ -1,5 +1,6 @@
 -- `state_events::row_at` meets its contract: so many words are read. Assumes nothing.
 use mathlib.Core.Path.{refl}
+use borrow.Author.Rules.{rules}
 use Rattle.state_events.proofs.SlotLaws.{put_none, fill_more, fill_all}
 use Rattle.state_events.proofs.row_at.Goals as goal
 
@@ -10,4 +11,4 @@ pub loop-j-preserved : goal.loop-j-preserved
 loop-j-preserved c = search fill_more
 
 pub returns : goal.returns
-returns c = fill_all _ _ _ c.loop-j.invariant c.loop-j-test.false refl
+returns c = fill_all _ _ _ c.loop-j.invariant (search rules) refl

@@ -7,4 +7,4 @@ pub returns-then-k-ge-ROOM_FOR_EVENTS : goal.returns-then-k-ge-ROOM_FOR_EVENTS
 returns-then-k-ge-ROOM_FOR_EVENTS c = search read_past
 
 pub returns : goal.returns
-returns c = read_there _ _ (search rules) c.slot_of.ensures c.row_at-row.ensures
+returns c = read_there _ _ (search rules) c.slot_of.ensures c.row_at.ensures

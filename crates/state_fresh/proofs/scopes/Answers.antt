@@ -1,7 +1,5 @@
 -- `state_fresh::scopes` meets its contract: the scopes before i stand. Assumes nothing.
 use mathlib.Core.Path.{ap, ◌∙◌}
-use mathlib.Core.Path.{◌≡◌}
-use Rattle.machine.specs.Table.{scopes}
 use Rattle.machine.specs.State.{fresh_scope}
 use Rattle.state_fresh.proofs.FreshLaws.{scopes_none, scopes_more}
 use borrow.Author.Rules.{rules}
@@ -13,7 +11,4 @@ loop-i-init c = (search rules, c.count-n.ensures, scopes_none _ c.blank_rows-out
 pub loop-i-preserved : goal.loop-i-preserved
 loop-i-preserved c =
     let l = c.loop-i in
-    (search rules, l.invariant.1, scopes_more _ l.i _ l.out _ l.invariant.2 (c.scope-s.ensures ∙ ap fresh_scope c.is_active-active.ensures) c.put_scope.ensures)
-
-pub returns : goal.returns
-returns c = let l = c.loop-i in let e : l.i ≡ scopes c.args.image.now = search rules in rw (← e) l.invariant.2
+    (search rules, l.invariant.1, scopes_more _ l.i _ l.out _ l.invariant.2 (c.fresh-s.ensures ∙ ap fresh_scope c.is_active-active.ensures) (rw c.from.ensures at c.put_scope.ensures))

@@ -1,5 +1,5 @@
 -- `state_fresh::scopes` meets its contract: the scopes before i stand. Assumes nothing.
-use Prim.Native.Nat.{◌-◌, ◌≤◌}
+use Prim.Native.Nat.{◌≤◌}
 use mathlib.Core.Path.{◌≡◌}
 use mathlib.Core.List.{map}
 use Rattle.lists.specs.Lists.{from}
@@ -11,6 +11,3 @@ use Rattle.state_fresh.proofs.scopes.Given as goal
 
 abbrev pub invariant-loop-i : goal.invariant-loop-i
 invariant-loop-i l = (l.i ≤ l.n) × (l.n ≡ scopes l.image) × Scoped (map (λ k. fresh_scope (is_active l.image l.modes k)) (from 0 l.i)) l.out
-
-abbrev pub decreases-loop-i : goal.decreases-loop-i
-decreases-loop-i l = l.n - l.i

@@ -6,5 +6,4 @@ pub returns-then-h-eq-NONE : goal.returns-then-h-eq-NONE
 returns-then-h-eq-NONE c = held_root _ _ _ c.if-h-eq-NONE.true
 
 pub returns : goal.returns
-returns c =
-    held_scope _ _ _ c.if-h-eq-NONE.false c.scope_at-s.ensures c.as_local-local.ensures c.to_global-image.ensures c.is_held.ensures
+returns c = held_scope _ _ _ c.if-h-eq-NONE.false (rw c.from.ensures at c.scope_at-s.ensures) c.as_local.ensures c.to_global.ensures c.is_held.ensures

@@ -5,5 +5,5 @@ use Rattle.state_heads.proofs.scope_head_of.Goals as goal
 pub returns-then-s : goal.returns-then-s
 returns-then-s c = search scope_heads
 
-pub returns : goal.returns
-returns c = search scope_heads
+pub returns-else-s : goal.returns-else-s
+returns-else-s c = search scope_heads

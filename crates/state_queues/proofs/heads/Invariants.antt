@@ -7,6 +7,3 @@ use Rattle.state_queues.proofs.heads.Given as goal
 
 abbrev pub invariant-loop-i : goal.invariant-loop-i
 invariant-loop-i l = (l.i ≤ l.n) × Held l.out (heads_of (drop l.i (take l.n (events_of l.rows))))
-
-abbrev pub decreases-loop-i : goal.decreases-loop-i
-decreases-loop-i l = l.i

@@ -1,19 +1,13 @@
 -- `state_queues::note` meets its contract: one entry is rewritten, or stays. Assumes nothing.
-use Rattle.state_queues.proofs.HeadLaws.{note_first, note_lesser, note_kept}
 use Rattle.lists.specs.Tests.{flag}
+use Rattle.tags.specs.Views.{of_queue}
+use Rattle.state_queues.proofs.HeadLaws.{note_lower, note_kept}
 use Rattle.state_queues.proofs.note.Goals as goal
 
-pub returns-in-Nothing : goal.returns-in-Nothing
-returns-in-Nothing c =
-    let a = c.args in note_first _ a.d.queue a.d.tag c.entry_of-k.ensures _ c.least_at.ensures c.in-Nothing.is c.put_least.ensures
+pub returns-then-lowers : goal.returns-then-lowers
+returns-then-lowers c =
+    let d = c.args.d in note_lower _ d.queue (of_queue d.tag) c.entry_of-k.ensures c.least_at.ensures (flag c.lowers.ensures c.if-lowers.true) c.put_least.ensures
 
-pub returns-then-earlier : goal.returns-then-earlier
-returns-then-earlier c =
-    let a = c.args in
-    note_kept _ a.d.queue a.d.tag c.entry_of-k.ensures _ c.least_at.ensures c.requires c.in-At.is (flag c.earlier.ensures c.if-earlier.true)
-
-pub returns-else-earlier : goal.returns-else-earlier
-returns-else-earlier c =
-    let a = c.args in
-    note_lesser _ a.d.queue a.d.tag c.entry_of-k.ensures _ c.least_at.ensures c.in-At.is (flag c.earlier.ensures c.if-earlier.false)
-    c.put_least-else-earlier.ensures
+pub returns-else-lowers : goal.returns-else-lowers
+returns-else-lowers c =
+    let d = c.args.d in note_kept _ d.queue (of_queue d.tag) c.entry_of-k.ensures c.least_at.ensures (flag c.lowers.ensures c.if-lowers.false) c.requires

@@ -3,15 +3,10 @@ use Rattle.state_queues.specs.Queue.{goes_of}
 use Rattle.state_queues.proofs.TakeLaws.{remove_room, remove_held}
 use Rattle.state_queues.proofs.remove.Goals as goal
 
-pub clear-requires : goal.clear-requires
-clear-requires c =
-    record { whole = c.compact-r.ensures.held.whole; w_le_n = (remove_room (goes_of c.args.which) c.args.rows.now c.args.n c.compact-r.result.count c.compact-r.ensures.count_value, c.requires.n_le_room_for_events) }
+pub clear-requires-clause-w_le_n : goal.clear-requires-clause-w_le_n
+clear-requires-clause-w_le_n c = (remove_room (goes_of c.args.which) c.args.rows.now c.args.n c.compact-r.result.count c.compact-r.ensures.count_value, c.requires.n_le_room_for_events)
 
-pub returns : goal.returns
-returns c =
-    record {
-      count_value = c.compact-r.ensures.count_value;
-      ordinary_value = c.compact-r.ensures.ordinary_value;
-      held = remove_held (goes_of c.args.which) c.args.rows.now c.args.n c.compact-r.result.count c.compact-r.new.rows c.clear.new.rows c.requires.n_le_room_for_events
-          c.compact-r.ensures.count_value c.compact-r.ensures.held c.clear.ensures;
-    }
+pub returns-clause-held : goal.returns-clause-held
+returns-clause-held c =
+    remove_held (goes_of c.args.which) c.args.rows.now c.args.n c.compact-r.result.count c.compact-r.new.rows c.clear.new.rows c.requires.n_le_room_for_events
+    c.compact-r.ensures.count_value c.compact-r.ensures.held c.clear.ensures

@@ -2,10 +2,10 @@
 use Rattle.machine.specs.State.{ordinary}
 use Rattle.state_events.proofs.Slot.is_ordinary.Goals as goal
 
-pub returns-then-self : goal.returns-then-self
+pub returns-then-not-self : goal.returns-then-not-self
 unfolding ordinary
-returns-then-self c = simp c.if-self.true
+returns-then-not-self c = simp c.if-not-self.true
 
-pub returns : goal.returns
+pub returns-else-not-self : goal.returns-else-not-self
 unfolding ordinary
-returns c = simp c.if-self.false
+returns-else-not-self c = simp c.if-not-self.false
