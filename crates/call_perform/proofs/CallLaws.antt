@@ -1,4 +1,6 @@
 -- Each call on the rows is the machine's: its answer, and the rows hold the state after it. Assumes nothing.
+use Rattle.std.specs.Prelude.{None}
+use Rattle.std.specs.Prelude as code
 use mathlib.Core.Bool.{Bool, true, false, cond}
 use mathlib.Core.Path.{◌≡◌, refl, ◌∙◌, sym, subst}
 use mathlib.Core.List.{List}
@@ -11,8 +13,6 @@ use Rattle.lists.specs.Walk.{Result, done, refused}
 use Rattle.refusals.specs.declared.Refusal.{Refusal}
 use Rattle.refusals.specs.declared.Refusal.TheVariants as R
 use Rattle.table_rows.specs.Bytes.{Image}
-use Rattle.tags.specs.Tags.{zero_tag}
-use Rattle.tags.specs.Views.{of_global}
 use Rattle.machine.specs.Table.{scopes}
 use Rattle.machine.specs.State.{State, with_queue, active_at, ever_at}
 use Rattle.state_events.specs.Slots.{room_for_events}
@@ -22,7 +22,6 @@ use Rattle.state_scopes.specs.Scopes as scope
 use Rattle.state_scopes.specs.Scopes.{Scope, scopes_of}
 use Rattle.state_room.specs.declared.Counts.{Counts}
 use Rattle.state_room.specs.PartRows.{Queued, Waits, Shows, queued_is}
-use Rattle.state_room.specs.Holds as L
 use Rattle.state_room.proofs.Holds as LLaws
 use Rattle.state_room.specs.Holds.{Rows, Holds, Kept, state_in, Answers, Performs, shows, store_is}
 use Rattle.state_room.specs.Parts.{changed, rows_in}
@@ -30,7 +29,6 @@ use Rattle.state_room.proofs.Parts.{holds_good, good_holds}
 use Rattle.call_push.specs.Pushes as pushes
 use Rattle.call_push.specs.Pushes.{Pushes}
 use Rattle.call_push.specs.declared.Push.{Push}
-use Rattle.call_push.specs.declared.Pushed.{Pushed}
 use Rattle.call_push.proofs.PushLaws.{call_frame}
 use Rattle.call_pop.specs.Pops.{Pops, pop_reply}
 use Rattle.call_pop.specs.declared.Popped.{Popped}
@@ -47,10 +45,10 @@ module _ {img : Image} {d : Rows} (k : Kept img d) where
   abbrev view : State
   view = state_in img d
 
-  -- a pop's action keys find room, and where it finds nothing its parts are blank
+  -- a pop's action keys find room, and where it finds nothing, nothing is gathered
   pub pop_tells : {p : Popped} {was events actions : List ℕ} →
       ((s : State) → Queued s.waiting s.work d.events d.ledger.counts → Shows s d.scopes → Pops (perform img s M.pop) p was events actions) →
-      (Grown 0 p.gathered.actions was actions × (p.gathered.actions ≤ room_for_events)) × (p.found ≡ false → (of_global p.tag ≡ zero_tag) × (p.gathered ≡ none_yet))
+      (Grown 0 p.gathered.actions was actions × (p.gathered.actions ≤ room_for_events)) × (p.tag ≡ None → p.gathered ≡ none_yet)
   pop_tells f = let x = f view k.holds.queued (shows img view d k.holds) in ((x.grown, omega (arith, x.room)), x.idle)
 
   -- no more wait after a call than may
@@ -59,7 +57,7 @@ module _ {img : Image} {d : Rows} (k : Kept img d) where
 
 -- with no ready event the lent keys are as they were
 pub idle_grown : (r : Performed) → Idle r → (keys : List ℕ) → Grown 0 r.gathered.actions keys keys × (r.gathered.actions ≤ room_for_events)
-idle_grown r i keys = rw i.1.1 (record { more = omega arith; long = refl; behind = refl }, omega arith)
+idle_grown r i keys = rw i.1 (record { more = omega arith; long = refl; behind = refl }, omega arith)
 
 pub answers_as : {img : Image} {o : M.Outcome} {p q : Reply} {r : Rows} → Answers img o q r → p ≡ q → Answers img o p r
 answers_as x e = record { reply_is = e ∙ x.reply_is; holds = x.holds }
@@ -110,9 +108,9 @@ module _ (img : Image) (s : State) (d : Rows) (u : Holds img s d) where
       subst (λ x. Holds img x (counted events c)) p
       (good_holds img s d u events d.values d.buckets c d.ledger.held (record { waits = w; keeps = (holds_good img s d u).keeps }))
 
-  pub push_answers : (p : Push) (ks : List ℕ) {r : Pushed} {events : List ℕ} {reply : Reply} →
-      ((s : State) → Queued s.waiting s.work d.events d.ledger.counts → Shows s d.scopes → Pushes (perform img s (pushes.call_of p ks)) r events) →
-      reply ≡ L.reply_of r.outcome → Answers img (perform img s (pushes.call_of p ks)) reply (counted events r.counts)
+  pub push_answers : (p : Push) (ks : List ℕ) {r : code.Result Counts Refusal} {events : List ℕ} {reply : Reply} →
+      ((s : State) → Queued s.waiting s.work d.events d.ledger.counts → Shows s d.scopes → Pushes (perform img s (pushes.call_of p ks)) d.ledger.counts r events) →
+      reply ≡ pushes.reply_of r → Answers img (perform img s (pushes.call_of p ks)) reply (counted events (pushes.left d.ledger.counts r))
   push_answers p ks f e =
       let x = f s u.queued (shows img s d u) in
       record { reply_is = e ∙ x.reply; holds = requeued (call_frame img s d.scopes (shows img s d u) p ks) x.queued x.waits }

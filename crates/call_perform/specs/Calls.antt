@@ -1,13 +1,15 @@
 -- The code's calls and answers as the plain machine's. Assumes nothing.
-use Rattle.std.specs.Prelude.{ℕ, Bool, true, false, cond, ◌≡◌, List}
-use Rattle.tags.specs.Tags.{zero_tag}
+use Rattle.std.specs.Prelude.{ℕ, Bool, true, false, ◌≡◌, List, Some, None, Ok, Err}
+use Rattle.std.specs.Prelude as code
+use Rattle.refusals.specs.declared.Refusal.{Refusal}
 use Rattle.tags.specs.Views.{of_global}
 use Rattle.machine.specs.Machine as M
 use Rattle.machine.specs.Machine.{Reply}
 use Rattle.value_store.specs.Calls as C
 use Rattle.value_store.specs.Views as stores
 use Rattle.call_push.specs.Pushes as pushes
-use Rattle.call_pop_ready.specs.Gathering.{ready_at, gathering_of, none_yet}
+use Rattle.call_pop.specs.Pops.{found_or}
+use Rattle.call_pop_ready.specs.Gathering.{gathering_of, none_yet}
 use Rattle.call_transition.specs.Transiting as transition
 use Rattle.call_perform.specs.declared.Question.{Question}
 use Rattle.call_perform.specs.declared.Question.TheVariants as Q
@@ -56,17 +58,20 @@ value_reply (C.number n) = M.number n
 value_reply C.nothing_there = M.nothing
 value_reply (C.no r) = M.refusal r
 
-abbrev pub answer_reply : Answer → Reply
-answer_reply A.Done = M.ok
-answer_reply A.Nothing = M.nothing
-answer_reply (A.Tag t) = M.tag (of_global t)
-answer_reply (A.Flag b) = M.flag b
-answer_reply (A.Number n) = M.number n
-answer_reply (A.Refused n) = M.refusal n
+abbrev pub said_reply : Answer → Reply
+said_reply A.Done = M.ok
+said_reply A.Nothing = M.nothing
+said_reply (A.Tag t) = M.tag (of_global t)
+said_reply (A.Flag b) = M.flag b
+said_reply (A.Number n) = M.number n
+
+abbrev pub answer_reply : code.Result Answer Refusal → Reply
+answer_reply (Ok a) = said_reply a
+answer_reply (Err n) = M.refusal n
 
 -- a ready event's action keys stand in the array
 abbrev pub reply_of : Performed → List ℕ → Reply
-reply_of p keys = cond p.found (M.ready (ready_at (of_global p.tag) (gathering_of p.gathered keys))) (answer_reply p.answer)
+reply_of p keys = found_or p.tag (gathering_of p.gathered keys) (answer_reply p.answer)
 
 abbrev pub is_pop : Call → Bool
 is_pop (K.Push p) = false
@@ -75,14 +80,14 @@ is_pop K.Pop = true
 is_pop (K.Ask q) = false
 is_pop (K.Value c) = false
 
--- no ready event, and its parts are blank
+-- no ready event, and nothing is gathered
 abbrev pub Idle : Performed → Type 0
-Idle r = (r.found ≡ false) × ((of_global r.tag ≡ zero_tag) × (r.gathered ≡ none_yet))
+Idle r = (r.tag ≡ None) × (r.gathered ≡ none_yet)
 
 -- a pop alone answers a ready event, and "nothing" where it finds none
 abbrev pub Tells : Call → Performed → Type 0
 Tells (K.Push p) r = Idle r
 Tells (K.Transition q) r = Idle r
-Tells K.Pop r = (r.answer ≡ A.Nothing) × (r.found ≡ false → Idle r)
+Tells K.Pop r = (r.answer ≡ Ok A.Nothing) × (r.tag ≡ None → Idle r)
 Tells (K.Ask q) r = Idle r
 Tells (K.Value c) r = Idle r

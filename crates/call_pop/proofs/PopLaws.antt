@@ -1,25 +1,30 @@
 -- A law for each case of a peek and a pop, and the loop over the scopes' turns. Assumes nothing.
+use Rattle.std.specs.Prelude.{Some, None, MatchBool}
+use Rattle.std.specs.Prelude as std
+use Rattle.std.specs.List.{AllWithin, HoldsAt, range_with_len}
 use mathlib.Core.Bool.{Bool, true, false, cond, not, ◌&&◌, ◌||◌}
 use mathlib.Core.Path.{◌≡◌, refl, sym, ap, ◌∙◌}
 use mathlib.Core.Logic.{⊎_elim}
 use mathlib.Core.List.{List, [], ◌∷◌, ◌++◌, map, append-nil, append_assoc}
 use Prim.Native.Nat.{ℕ, zero, suc, ◌+◌, ◌-◌, ◌<◌, ◌≤◌}
 use native.Mathlib.Omega.{arith}
-use lib.ListN.{length, take, drop, get_or, set, length-take}
-use lib.Seq.{get_or-take}
+use lib.ListN.{length, take, drop, get_or, set}
+use lib.Seq.{drop-cons}
+use native.Mathlib.Numerals.{add-one}
 use lib.Dec.{ltb, eqb}
 use borrow.Author.Tests.{eqb-true, ltb-true, ltb-false, lt-ltb, le-ltb}
-use Rattle.lists.specs.Tests.{flag, lt_eqb, and_yes, and_no, and_left, and_right, below?, yes_no}
-use Rattle.lists.specs.Lists.{keep, lose, any, count, every, foldl, from}
+use Rattle.lists.specs.Tests.{lt_eqb, and_left, and_right, below?}
+use Rattle.lists.specs.Lists.{keep, lose, any, count, every, every_at, foldl, from}
 use Rattle.lists.specs.Lay.{lay}
 use Rattle.lists.specs.Held.{thing_past}
 use Rattle.lists.specs.Rows.{tab_at}
 use Rattle.lists.proofs.Every.{count_split}
-use Rattle.lists.specs.Steps.{every_pass, every_fail, every_end}
+use Rattle.lists.specs.Every.{both, by_test, no_way}
 use Rattle.table_rows.specs.Bytes.{Image}
-use Rattle.tags.specs.Tags.{Tag, zero_tag, same_tag, earlier, to_global, held_in}
+use Rattle.tags.specs.Tags.{Tag, same_tag, earlier, to_global, held_in}
 use Rattle.tags.specs.Views.{of_global, of_queue}
 use Rattle.tags.specs.declared.GlobalTag.{GlobalTag}
+use Rattle.tags.specs.declared.QueueTag.{QueueTag}
 use Rattle.tags.proofs.Laws.{same_tag_lem}
 use Rattle.machine.specs.Table.{scopes}
 use Rattle.machine.specs.State.{Event, State, root, ordinary, in_queue, at_head, with_queue}
@@ -33,12 +38,9 @@ use Rattle.state_scopes.specs.Scopes as scope
 use Rattle.state_scopes.specs.Scopes.{Scope, most_scopes, scopes_of}
 use Rattle.state_queues.specs.Queue as queue
 use Rattle.state_queues.specs.Queue.{queues, queue_of, entry_of, of_earliest, leasts_of, heads_of}
-use Rattle.state_queues.specs.declared.Earliest.{Earliest}
 use Rattle.state_queues.proofs.LowLaws.{least_lose, other_queue, heads_taken}
 use Rattle.state_heads.specs.Found.{head_of, head_in, least_head}
 use Rattle.state_heads.specs.declared.HeadAt.{HeadAt}
-use Rattle.state_heads.specs.declared.Head as code
-use Rattle.state_heads.specs.declared.Head.TheVariants as C
 use Rattle.call_pop_ready.specs.Gathering.{Gathering, nothing_yet, none_yet, added_to, also_held, added_by, held_too, ready_at, gathering_of, Grown}
 use Rattle.call_pop_ready.specs.declared.Gathered.{Gathered}
 use Rattle.call_pop_ready.proofs.GatherLaws.{foldl_append, gathered, ready_nothing, grown_none, grown_then}
@@ -46,34 +48,21 @@ use Rattle.state_room.specs.declared.Counts.{Counts}
 use Rattle.state_room.specs.PartRows.{Queued, Waits, Shows, queued_is, queued_waits, queued_laid, waits_queued}
 use Rattle.call_pop.specs.Pops.{reply_of, lent, Takes, Pops}
 use Rattle.call_pop.specs.declared.Taking as T
-use Rattle.call_pop.specs.declared.Peeked.{Peeked}
-use Rattle.call_pop.specs.declared.Peeked.TheVariants as P
 
 -- ---- the peek
 
-module _ (h : code.Head) (t : Tag) {r : Bool} where
-  pub is_at_lem : {x : HeadAt} → h ≡ C.At x → r ≡ same_tag (of_global x.tag) t → r ≡ is_at t (head_of h)
+module _ (h : std.Option HeadAt) (t : Tag) {r : Bool} where
+  pub is_at_lem : {x : HeadAt} → h ≡ Some x → r ≡ same_tag (of_global x.tag) t → r ≡ is_at t (head_of h)
   is_at_lem e p = p ∙ rw e
 
-module _ (a b : code.Head) where
-  pub peek_none : a ≡ C.Empty → b ≡ C.Empty → reply_of P.Nothing ≡ peek_at (sooner (head_of a) (head_of b))
-  peek_none p q = rw (p, q)
-
-  pub peek_second : {y : HeadAt} → a ≡ C.Empty → b ≡ C.At y → reply_of (P.At y.tag) ≡ peek_at (sooner (head_of a) (head_of b))
-  peek_second p q = rw (p, q)
-
-  pub peek_first : {x : HeadAt} → a ≡ C.At x → b ≡ C.Empty → reply_of (P.At x.tag) ≡ peek_at (sooner (head_of a) (head_of b))
-  peek_first p q = rw (p, q)
-
+module _ (a b : std.Option HeadAt) where
   pub peek_earlier :
-      {x y : HeadAt} → a ≡ C.At x → b ≡ C.At y → earlier (of_global y.tag) (of_global x.tag) ≡ true → reply_of (P.At y.tag) ≡ peek_at (sooner (head_of a) (head_of b))
+      {x y : HeadAt} → a ≡ Some x → b ≡ Some y → earlier (of_global y.tag) (of_global x.tag) ≡ true → reply_of (Some y.tag) ≡ peek_at (sooner (head_of a) (head_of b))
   peek_earlier p q t = rw (p, q) (simp t)
 
   pub peek_later :
-      {x y : HeadAt} → a ≡ C.At x → b ≡ C.At y → earlier (of_global y.tag) (of_global x.tag) ≡ false → reply_of (P.At x.tag) ≡ peek_at (sooner (head_of a) (head_of b))
+      {x y : HeadAt} → a ≡ Some x → b ≡ Some y → earlier (of_global y.tag) (of_global x.tag) ≡ false → reply_of (Some x.tag) ≡ peek_at (sooner (head_of a) (head_of b))
   peek_later p q t = rw (p, q) (simp t)
-
-pub ruleset peeks = (peek_none, peek_second, peek_first, peek_earlier, peek_later, flag, refl)
 
 -- ---- the heads of some events
 
@@ -132,11 +121,11 @@ pub queue_is : (s : State) (ev : List ℕ) (c : Counts) → c.waiting ≤ room_f
 queue_is s ev c f q = queued_is s.waiting s.work ev c q (rw (← q.waiting) f)
 
 -- the heads that the code finds are the machine's
-pub record Seen (img : Image) (s : State) (a b : code.Head) : Type 0 where
+pub record Seen (img : Image) (s : State) (a b : std.Option HeadAt) : Type 0 where
   pub root : head_of a ≡ root_head s.waiting
   pub local : head_of b ≡ scope_head img s.scopes s.waiting
 
-pub seen_peek : {img : Image} {s : State} {a b : code.Head} {r : Reply} → Seen img s a b → r ≡ peek_at (sooner (head_of a) (head_of b)) → r ≡ peek_at (peek img s.scopes s.waiting)
+pub seen_peek : {img : Image} {s : State} {a b : std.Option HeadAt} {r : Reply} → Seen img s a b → r ≡ peek_at (sooner (head_of a) (head_of b)) → r ≡ peek_at (peek img s.scopes s.waiting)
 unfolding peek
 seen_peek w e = e ∙ rw (w.root, w.local)
 
@@ -146,7 +135,7 @@ module _ (img : Image) (s : State) (ws : List ℕ) (h : Shows s ws) where
   local_is es = λ k. foldl sooner empty (map (λ i. scope_head_of (h i k) i (least_of i es)) (from 0 (scopes img)))
 
   pub seen :
-      (a b : code.Head) {hs : List ℕ} {n : ℕ} → n ≡ scopes img → queue.Held hs (heads_of s.waiting) →
+      (a b : std.Option HeadAt) {hs : List ℕ} {n : ℕ} → n ≡ scopes img → queue.Held hs (heads_of s.waiting) →
       head_of a ≡ root_of (get_or (leasts_of hs) most_scopes no_tag) → head_of b ≡ least_head (scopes_of ws) (leasts_of hs) n → Seen img s a b
   seen a b e w p r = record { root = root_head_lem s.waiting w p; local = scope_head_lem img ws s.waiting e w r ∙ local_is s.waiting }
 
@@ -157,7 +146,7 @@ module _ (img : Image) (s : State) (ws : List ℕ) (h : Shows s ws) where
 
 module _ (img : Image) (s : State) (ev ws : List ℕ) (c : Counts) (few : c.waiting ≤ room_for_events) (q : Queued s.waiting s.work ev c) (h : Shows s ws) where
   pub seen_in :
-      (a b : code.Head) {hs : List ℕ} {n : ℕ} → n ≡ scopes img → queue.Held hs (heads_of (take c.waiting (events_of ev))) →
+      (a b : std.Option HeadAt) {hs : List ℕ} {n : ℕ} → n ≡ scopes img → queue.Held hs (heads_of (take c.waiting (events_of ev))) →
       head_of a ≡ root_of (get_or (leasts_of hs) most_scopes no_tag) → head_of b ≡ least_head (scopes_of ws) (leasts_of hs) n → Seen img s a b
   seen_in a b e k p r = seen img s ws h a b e (rw (queue_is s ev c few q) at k) p r
 
@@ -166,6 +155,9 @@ module _ (img : Image) (s : State) (ev ws : List ℕ) (c : Counts) (few : c.wait
   taking_is t = rw (queue_is s ev c few q, q.work, q.waiting, scopes_are img s ws h)
 
 -- ---- a head by what its peek answers
+
+some_not : {t : GlobalTag} → ◌≡◌ {A = std.Option GlobalTag} (Some t) None → ⊥
+some_not e = let z : ◌≡◌ {A = ℕ} 0 1 = cc in omega arith
 
 no_tag_lem : {P : Type 0} {t : Tag} → ◌≡◌ {A = Reply} nothing (tag t) → P
 no_tag_lem e = let z : ◌≡◌ {A = ℕ} 0 1 = cc in absurd (omega arith)
@@ -198,45 +190,45 @@ module _ (img : Image) (ss : List Scope) (es : List Event) where
   control_some (head q x u) t e = let d : t ≡ u = cc in rw d
 
 -- by the tests that the code makes
-module _ {img : Image} {s : State} {a b : code.Head} (w : Seen img s a b) (p : Peeked) (e : reply_of p ≡ peek_at (sooner (head_of a) (head_of b))) where
+module _ {img : Image} {s : State} {a b : std.Option HeadAt} (w : Seen img s a b) (p : std.Option GlobalTag) (e : reply_of p ≡ peek_at (sooner (head_of a) (head_of b))) where
   abbrev Only : Bool → Type 0
   Only r = M.flag r ≡ (perform img s M.only_control).reply
 
-  pub control_nothing : p ≡ P.Nothing → Only false
+  pub control_nothing : p ≡ None → Only false
   unfolding perform control_only
   control_nothing d = ap M.flag (control_none img s.scopes s.waiting (peek img s.scopes s.waiting) (sym (ap reply_of d) ∙ seen_peek w e))
 
-  module _ {t : GlobalTag} (d : p ≡ P.At t) where
-    only : {r : Bool} → r ≡ (is_at (of_global t) (head_of a) && (every (controlled (of_global t)) s.waiting && not (is_at (of_global t) (head_of b)))) → Only r
+  module _ {t : GlobalTag} (d : p ≡ Some t) where
+    pub control_some_lem : {r : Bool} → r ≡ (is_at (of_global t) (head_of a) && (every (controlled (of_global t)) s.waiting && not (is_at (of_global t) (head_of b)))) → Only r
     unfolding perform control_only
-    only q = ap M.flag (q ∙ rw (w.root, w.local) (sym (control_some img s.scopes s.waiting (peek img s.scopes s.waiting) (of_global t) (sym (ap reply_of d) ∙ seen_peek w e))))
+    control_some_lem q = ap M.flag (q ∙ rw (w.root, w.local) (sym (control_some img s.scopes s.waiting (peek img s.scopes s.waiting) (of_global t) (sym (ap reply_of d) ∙ seen_peek w e))))
 
-    pub control_other : {x : Bool} → x ≡ is_at (of_global t) (head_of a) → x ≡ false → Only false
-    control_other i n = only (rw (sym i ∙ n))
+-- ---- the library's `all`, and the machine's test of every event
 
-    pub control_both : {y : Bool} → y ≡ is_at (of_global t) (head_of b) → y ≡ true → Only false
-    control_both j n = only (rw (sym j ∙ n, and_no (every (controlled (of_global t)) s.waiting), and_no (is_at (of_global t) (head_of a))))
+module _ {A : Type 0} (p : A → Bool) where
+  every_each : (l : List A) → ((k : ℕ) (d : A) → k < length l → p (get_or l k d) ≡ true) → every p l ≡ true
+  unfolding every
+  every_each [] f = refl
+  every_each (a ∷ l) f = both (f 0 a (omega arith)) (every_each l (λ k d h. f (suc k) d (omega arith)))
 
-    pub control_asked : {x y r : Bool} → x ≡ is_at (of_global t) (head_of a) → x ≡ true → y ≡ is_at (of_global t) (head_of b) → y ≡ false → r ≡ every (controlled (of_global t)) s.waiting → Only r
-    control_asked i m j n o = only (o ∙ rw (sym i ∙ m, sym j ∙ n, and_yes (every (controlled (of_global t)) s.waiting)))
+  every_other : (l : List A) → (k : ℕ) → k < length l → ((d : A) → p (get_or l k d) ≡ false) → every p l ≡ false
+  every_other [] k h f = absurd (omega arith)
+  every_other (a ∷ l) k h f = by_test (every p (a ∷ l)) (λ t. no_way (sym (f a) ∙ every_at p (a ∷ l) k a h t)) (λ e. e)
 
--- ---- of the root's events at a tag, only control events
+  pub all_of :
+      (l : List A) (r : Bool) → MatchBool r (AllWithin (λ a. p a ≡ true) l 0 (length l)) ((k : ℕ) × (k < length l) × HoldsAt (λ a. p a ≡ false) l k) → r ≡ every p l
+  all_of l true m = sym (every_each l (λ k d h. m k d (omega arith) h))
+  all_of l false m = sym (every_other l m.0 m.1 m.2)
 
-module _ (p : Event → Bool) (es : List Event) (n i : ℕ) (e : Event) (h : i < n) (f : n ≤ length es) (r : e ≡ get_or es i slot.blank) where
-  read : get_or (take n es) i slot.blank ≡ e
-  read = get_or-take n es i slot.blank h ∙ sym r
+-- the first n of a list, by their places
+module _ {A : Type 0} (p : A → Bool) (l : List A) (d : A) where
+  every_part : (n i : ℕ) → i + n ≤ length l → every (λ j. p (get_or l j d)) (range_with_len i n) ≡ every p (take n (drop i l))
+  unfolding every
+  every_part zero i h = refl
+  every_part (suc n) i h = rw (drop-cons l i d (omega arith)) (ap (λ b. p (get_or l i d) && b) (every_part n (i + 1) (omega arith) ∙ rw add-one))
 
-  inside : i < length (take n es)
-  inside = rw length-take (omega arith)
-
-  pub each_pass : p e ≡ true → every p (take n es) ≡ every p (drop i (take n es)) → every p (take n es) ≡ every p (drop (i + 1) (take n es))
-  each_pass y w = w ∙ every_pass p (take n es) i slot.blank inside (rw read y)
-
-  pub each_fail : p e ≡ false → every p (take n es) ≡ every p (drop i (take n es)) → false ≡ every p (take n es)
-  each_fail y w = sym (w ∙ every_fail p (take n es) i slot.blank inside (rw read y))
-
-pub each_end : (p : Event → Bool) (es : List Event) (n i : ℕ) → n ≤ i → every p (take n es) ≡ every p (drop i (take n es)) → true ≡ every p (take n es)
-each_end p es n i h w = sym (w ∙ every_end p (take n es) i (rw length-take (omega arith)))
+  pub every_front : (n : ℕ) → n ≤ length l → every (λ j. p (get_or l j d)) (range_with_len 0 n) ≡ every p (take n l)
+  every_front n h = every_part n 0 (omega arith)
 
 -- ---- taking at one head
 
@@ -357,11 +349,11 @@ module _ (ss : List Scope) (ws : List ℕ) (given : T.Taking) (w : Waits ws give
         })
 
 -- by the head's case
-module _ (t : Tag) (k : Taking) (h : code.Head) where
-  pub at_none : h ≡ C.Empty → take_at_of t k (head_of h) ≡ k
+module _ (t : Tag) (k : Taking) (h : std.Option HeadAt) where
+  pub at_none : h ≡ None → take_at_of t k (head_of h) ≡ k
   at_none e = rw e
 
-  module _ (x : HeadAt) (e : h ≡ C.At x) where
+  module _ (x : HeadAt) (e : h ≡ Some x) where
     pub at_other : same_tag (of_global x.tag) t ≡ false → take_at_of t k (head_of h) ≡ k
     at_other d = rw e (simp d)
 
@@ -412,7 +404,7 @@ module _ {ss : List Scope} {k : Taking} {given g : T.Taking} {was ws keys : List
 
   -- every queue's least tag, where events of one queue went
   pub heads_left :
-      (q : ℕ) (x : Tag) (es : List Event) (t : Earliest) {hs out : List ℕ} → k.waiting ≡ lose (at_head q x) es → queue.Held hs (heads_of es) →
+      (q : ℕ) (x : Tag) (es : List Event) (t : std.Option QueueTag) {hs out : List ℕ} → k.waiting ≡ lose (at_head q x) es → queue.Held hs (heads_of es) →
       of_earliest t ≡ least_of q (lose (at_head q x) es) → queue.Held out (set (leasts_of hs) (entry_of q) (of_earliest t)) →
       queue.Held out (heads_of (take g.counts.waiting (events_of ws)))
   heads_left q x es t e h l o = rw (takes_waiting, e, ← heads_taken q x es, ← h.things, ← l) o
@@ -502,18 +494,18 @@ module _ (ev : List ℕ) (c : Counts) (g : Gathered) (o : g ≡ none_yet) (w : W
   start_room = rw o (omega (arith, w.few))
 
   -- by what the peek answers
-  module _ {img : Image} {s : State} {a b : code.Head} (n : Seen img s a b) (p : Peeked) (e : reply_of p ≡ peek_at (sooner (head_of a) (head_of b))) (q : Queued s.waiting s.work ev c) where
+  module _ {img : Image} {s : State} {a b : std.Option HeadAt} (n : Seen img s a b) (p : std.Option GlobalTag) (e : reply_of p ≡ peek_at (sooner (head_of a) (head_of b))) (q : Queued s.waiting s.work ev c) where
     pub pops_nothing :
-        p ≡ P.Nothing → (z : GlobalTag) → of_global z ≡ zero_tag → (keys : List ℕ) → Pops (perform img s M.pop) (record { found = false; tag = z; gathered = g; counts = c }) keys ev keys
+        p ≡ None → (keys : List ℕ) → Pops (perform img s M.pop) (record { tag = None; gathered = g; counts = c }) keys ev keys
     unfolding perform
-    pops_nothing d z f keys =
+    pops_nothing d keys =
         rw (pop_nothing img s (peek img s.scopes s.waiting) (sym (ap reply_of d) ∙ seen_peek n e))
-        (record { reply = refl; queued = q; waits = w; grown = rw o (grown_none 0 keys); room = start_room; idle = λ _. (f, o) })
+        (record { reply = refl; queued = q; waits = w; grown = rw o (grown_none 0 keys); room = start_room; idle = λ _. o })
 
     pub pops_found :
-        {t : GlobalTag} → p ≡ P.At t → (ws : List ℕ) → Shows s ws → (all : T.Taking) {keys out next : List ℕ} →
+        {t : GlobalTag} → p ≡ Some t → (ws : List ℕ) → Shows s ws → (all : T.Taking) {keys out next : List ℕ} →
         Takes (scopes_of ws) (take_scopes c.waiting img (scopes_of ws) (of_global t) (take_at_of (of_global t) (lent ev c) (head_of a))) (record { gathered = g; counts = c }) all keys out next →
-        Pops (perform img s M.pop) (record { found = true; tag = t; gathered = all.gathered; counts = all.counts }) keys out next
+        Pops (perform img s M.pop) (record { tag = Some t; gathered = all.gathered; counts = all.counts }) keys out next
     unfolding perform
     pops_found {t} d ws h all v =
         let k = taking img s.scopes (of_global t) (untaken s.waiting s.work) in
@@ -525,5 +517,5 @@ module _ (ev : List ℕ) (c : Counts) (g : Gathered) (o : g ≡ none_yet) (w : W
           waits = u.waits;
           grown = u.grown;
           room = u.room;
-          idle = λ z. absurd (yes_no refl z);
+          idle = λ z. absurd (some_not z);
         })

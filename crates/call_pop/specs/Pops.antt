@@ -1,25 +1,24 @@
 -- What a peek and a pop hand back: the plain machine's answers and its queue. Document 01, "Pop at peek tag t", peek and control only are the machine's. Assumes nothing.
-use Rattle.std.specs.Prelude.{cond, false, ◌≡◌, List, ℕ, ◌+◌, ◌≤◌, take}
+use Rattle.std.specs.Prelude.{◌≡◌, List, ℕ, ◌+◌, ◌≤◌, take, Some, None}
+use Rattle.std.specs.Prelude as std
 use Rattle.lists.specs.Lists.{foldl}
-use Rattle.tags.specs.Tags.{zero_tag}
 use Rattle.tags.specs.Views.{of_global}
+use Rattle.tags.specs.declared.GlobalTag.{GlobalTag}
 use Rattle.machine.specs.State.{Scope}
-use Rattle.machine.specs.Heads.{Taking, Ready, untaken}
+use Rattle.machine.specs.Heads.{Taking, untaken}
 use Rattle.machine.specs.Machine.{Reply, Outcome, nothing, ready, tag}
 use Rattle.state_events.specs.Slots.{events_of, room_for_events}
-use Rattle.call_pop_ready.specs.Gathering.{none_yet, added_by, ready_at, gathering_of, Grown}
+use Rattle.call_pop_ready.specs.Gathering.{Gathering, none_yet, added_by, ready_at, gathering_of, Grown}
 use Rattle.state_room.specs.declared.Counts.{Counts}
 use Rattle.state_room.specs.PartRows.{Queued, Waits}
 use Rattle.call_pop.specs.declared.Taking as code
 use Rattle.call_pop.specs.declared.Popped.{Popped}
-use Rattle.call_pop.specs.declared.Peeked.{Peeked}
-use Rattle.call_pop.specs.declared.Peeked.TheVariants as P
 
 -- ---- a peek
 
-abbrev pub reply_of : Peeked → Reply
-reply_of P.Nothing = nothing
-reply_of (P.At t) = tag (of_global t)
+abbrev pub reply_of : std.Option GlobalTag → Reply
+reply_of None = nothing
+reply_of (Some t) = tag (of_global t)
 
 -- ---- taking
 
@@ -37,12 +36,14 @@ pub record Takes (ss : List Scope) (k : Taking) (given r : code.Taking) (was ws 
 
 -- ---- a pop
 
--- the ready event, the action keys in the array beside it
-abbrev pub ready_from : Popped → List ℕ → Ready
-ready_from r keys = ready_at (of_global r.tag) (gathering_of r.gathered keys)
+-- the ready event at a tag, or what else is answered
+abbrev pub found_or : std.Option GlobalTag → Gathering → Reply → Reply
+found_or None g r = r
+found_or (Some t) g r = ready (ready_at (of_global t) g)
 
+-- the action keys in the array beside it
 abbrev pub pop_reply : Popped → List ℕ → Reply
-pop_reply r keys = cond r.found (ready (ready_from r keys)) nothing
+pop_reply r keys = found_or r.tag (gathering_of r.gathered keys) nothing
 
 -- the machine's answer, its queue in rows and counts, and the keys in the array as it was; with no head, nothing is gathered
 pub record Pops (o : Outcome) (r : Popped) (was ws keys : List ℕ) : Type 0 where
@@ -51,4 +52,4 @@ pub record Pops (o : Outcome) (r : Popped) (was ws keys : List ℕ) : Type 0 whe
   pub waits : Waits ws r.counts
   pub grown : Grown 0 r.gathered.actions was keys
   pub room : r.gathered.actions + r.counts.waiting ≤ room_for_events
-  pub idle : r.found ≡ false → (of_global r.tag ≡ zero_tag) × (r.gathered ≡ none_yet)
+  pub idle : r.tag ≡ None → r.gathered ≡ none_yet

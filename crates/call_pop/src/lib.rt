@@ -17,26 +17,18 @@ ghost use Rattle.state_room.specs.PartRows.{waiting_in, Headed, Queued, Waits, S
 ghost use Rattle.call_pop.specs.Pops.{reply_of, lent, Takes, Pops};
 
 use call_pop_ready::Gathered;
-use key_set::KeySet;
 use state_events::Slot;
-use state_heads::{Head, HeadAt};
+use state_heads::HeadAt;
 use state_queues::Which;
 use state_room::Counts;
 use tags::GlobalTag;
 
-// Whether there was a head, its tag, what was gathered there (the action keys stand in the lent array), and what still waits.
+// The tag of the least head, if there is one, what was gathered there (the action keys stand in the lent array), and what still waits.
 #[derive(Clone, Copy)]
 pub struct Popped {
-    pub found: bool,
-    pub tag: GlobalTag,
+    pub tag: Option<GlobalTag>,
     pub gathered: Gathered,
     pub counts: Counts,
-}
-
-#[derive(Clone, Copy)]
-pub enum Peeked {
-    Nothing,
-    At(GlobalTag),
 }
 
 // What was gathered so far, and what still waits.
@@ -50,64 +42,34 @@ struct Taking {
 #[derive(Clone, Copy)]
 struct Turn {
     tag: GlobalTag,
-    local: Head,
+    local: Option<HeadAt>,
     turns: usize,
 }
 
 // ---- heads
 
-fn is_at(h: Head, t: GlobalTag) -> bool
+fn is_at(h: Option<HeadAt>, t: GlobalTag) -> bool
     ensures { result ≡ is_at (of_global t) (head_of h) }
 {
     match h {
-        Head::Empty => false,
-        Head::At(x) => {
-            let g = x.tag;
-            g.same(t)
-        }
+        Some(x) => x.tag == t,
+        None => false,
     }
 }
 
 // The tag of the earlier of two heads.
-fn peek_of(root: Head, local: Head) -> Peeked
+fn peek_of(root: Option<HeadAt>, local: Option<HeadAt>) -> Option<GlobalTag>
     ensures { reply_of result ≡ peek_at (sooner (head_of root) (head_of local)) }
 {
-    match root {
-        Head::Empty => match local {
-            Head::Empty => Peeked::Nothing,
-            Head::At(y) => {
-                let second = y.tag;
-                Peeked::At(second)
-            }
-        },
-        Head::At(x) => {
-            let first = x.tag;
-            match local {
-                Head::Empty => Peeked::At(first),
-                Head::At(y) => {
-                    let second = y.tag;
-                    if second.earlier(first) {
-                        Peeked::At(second)
-                    } else {
-                        Peeked::At(first)
-                    }
-                }
-            }
-        }
+    match (root, local) {
+        (Some(x), Some(y)) => Some(if y.tag < x.tag { y.tag } else { x.tag }),
+        (Some(x), None) => Some(x.tag),
+        (None, Some(y)) => Some(y.tag),
+        (None, None) => None,
     }
 }
 
 // ---- taking
-
-// Those at the head are held back, if any went.
-fn is_held_in(scopes: &[u64; state_scopes::ROOM], h: HeadAt, some: bool) -> bool
-    ensures { result ≡ (some && held_at (scopes_of scopes.now) h.queue (of_queue h.stamp)) }
-{
-    if some {
-        return state_heads::is_held(scopes, h);
-    }
-    false
-}
 
 // All events at a head.
 fn take_at(
@@ -124,28 +86,24 @@ fn take_at(
     ensures takes { Takes (scopes_of scopes.now) (taken h.queue (of_queue h.stamp) (lent events.old given.counts)) given result keys.old events.new keys.new }
     ensures headed_2 { Headed heads.new events.new result.counts }
 {
-    let none = KeySet::empty();
-    let stamp = h.stamp;
-    let which = Which {
-        by_tag: true,
-        queue: h.queue,
-        stamp,
-        inside: none,
-    };
     let counts = given.counts;
-    let before = given.gathered;
-    let gone = call_pop_ready::take_out(events, counts.waiting, which, keys, before);
-    let lowest = gone.lowest;
-    state_queues::renew(heads, h.queue, lowest);
-    let held = is_held_in(scopes, h, gone.count < counts.waiting);
-    let gathered = gone.gathered.hold(held);
-    let left = Counts {
-        waiting: gone.count,
-        work: counts.work - gone.ordinary,
-    };
+    let which = Which::At(h.queue, h.stamp);
+    let gone = call_pop_ready::take_out(
+        events,
+        counts.waiting,
+        which,
+        h.queue,
+        keys,
+        given.gathered,
+    );
+    state_queues::renew(heads, h.queue, gone.lowest);
+    let held = gone.count < counts.waiting && state_heads::is_held(scopes, h);
     Taking {
-        gathered,
-        counts: left,
+        gathered: gone.gathered.hold(held),
+        counts: Counts {
+            waiting: gone.count,
+            work: counts.work - gone.ordinary,
+        },
     }
 }
 
@@ -156,7 +114,7 @@ fn take_head(
     keys: &mut [u16; state_events::ROOM_FOR_EVENTS],
     heads: &mut [u64; state_queues::HEADS],
     given: Taking,
-    h: Head,
+    h: Option<HeadAt>,
     t: GlobalTag,
 ) -> Taking
     requires waits { Waits events.old given.counts }
@@ -166,15 +124,8 @@ fn take_head(
     ensures headed_2 { Headed heads.new events.new result.counts }
 {
     match h {
-        Head::Empty => given,
-        Head::At(x) => {
-            let g = x.tag;
-            if g.same(t) {
-                take_at(scopes, events, keys, heads, given, x)
-            } else {
-                given
-            }
-        }
+        Some(x) if x.tag == t => take_at(scopes, events, keys, heads, given, x),
+        _ => given,
     }
 }
 
@@ -195,19 +146,15 @@ fn take_scopes(
     ensures takes { Takes (scopes_of scopes.now) (take_scopes turn.turns image.now (scopes_of scopes.now) (of_global turn.tag) (lent events.old given.counts)) given result keys.old events.new keys.new }
     ensures headed_2 { Headed heads.new events.new result.counts }
 {
-    let t = turn.tag;
     let n = table_rows::count(image, table_rows::SCOPE);
     let mut local = turn.local;
     let mut out = given;
-    let mut turns = turn.turns;
-    while 0 < turns {
-        turns -= 1;
-        if is_at(local, t) {
-            out = take_head(scopes, events, keys, heads, out, local, t);
-            local = state_heads::scope_head(heads, scopes, n);
-        } else {
+    for _i in 0..turn.turns {
+        if !is_at(local, turn.tag) {
             return out;
         }
+        out = take_head(scopes, events, keys, heads, out, local, turn.tag);
+        local = state_heads::scope_head(heads, scopes, n);
     }
     out
 }
@@ -228,38 +175,30 @@ pub fn pop_next_event(
     ensures headed_2 { Headed heads.new events.new result.counts }
 {
     let n = table_rows::count(image, table_rows::SCOPE);
-    let waiting = counts.waiting;
     let root = state_heads::root_head(heads);
     let local = state_heads::scope_head(heads, scopes, n);
-    let none = Gathered::nothing_yet();
-    match peek_of(root, local) {
-        Peeked::Nothing => Popped {
-            found: false,
-            tag: GlobalTag(0, 0),
-            gathered: none,
+    let start = Taking {
+        gathered: Gathered::nothing_yet(),
+        counts,
+    };
+    let Some(tag) = peek_of(root, local) else {
+        return Popped {
+            tag: None,
+            gathered: start.gathered,
             counts,
-        },
-        Peeked::At(t) => {
-            let start = Taking {
-                gathered: none,
-                counts,
-            };
-            let first = take_head(scopes, events, keys, heads, start, root, t);
-            let turn = Turn {
-                tag: t,
-                local,
-                turns: waiting,
-            };
-            let all = take_scopes(image, scopes, events, keys, heads, first, turn);
-            let gathered = all.gathered;
-            let left = all.counts;
-            Popped {
-                found: true,
-                tag: t,
-                gathered,
-                counts: left,
-            }
-        }
+        };
+    };
+    let first = take_head(scopes, events, keys, heads, start, root, tag);
+    let turn = Turn {
+        tag,
+        local,
+        turns: counts.waiting,
+    };
+    let all = take_scopes(image, scopes, events, keys, heads, first, turn);
+    Popped {
+        tag: Some(tag),
+        gathered: all.gathered,
+        counts: all.counts,
     }
 }
 
@@ -269,7 +208,7 @@ pub fn peek_tag(
     image: &[u8],
     scopes: &[u64; state_scopes::ROOM],
     heads: &[u64; state_queues::HEADS],
-) -> Peeked
+) -> Option<GlobalTag>
     ensures { (s : State) → Held heads.now (heads_of s.waiting) → Shows s scopes.now → reply_of result ≡ (perform image.now s peek_tag).reply }
 {
     let n = table_rows::count(image, table_rows::SCOPE);
@@ -282,29 +221,14 @@ pub fn peek_tag(
 fn is_controlled(s: Slot, t: GlobalTag) -> bool
     ensures { result ≡ controlled (of_global t) (event_of s) }
 {
-    if s.queue == state_events::NONE {
-        let own = s.tag.as_global();
-        if own.same(t) {
-            return s.control;
-        }
-    }
-    true
+    s.queue != state_events::NONE || s.tag.as_global() != t || s.control
 }
 
 fn all_controlled(events: &[u64; state_events::ROOM], waiting: usize, t: GlobalTag) -> bool
     requires { waiting ≤ room_for_events }
     ensures { result ≡ every (controlled (of_global t)) (take waiting (events_of events.now)) }
 {
-    let mut i: usize = 0;
-    while i < waiting {
-        let s = state_events::slot_at(events, i);
-        if is_controlled(s, t) {
-            i += 1;
-        } else {
-            return false;
-        }
-    }
-    true
+    (0..waiting).all(|i| is_controlled(state_events::slot_at(events, i), t))
 }
 
 pub fn peek_is_control_only(
@@ -319,19 +243,10 @@ pub fn peek_is_control_only(
     ensures { (s : State) → Queued s.waiting s.work events.now counts → Shows s scopes.now → flag result ≡ (perform image.now s only_control).reply }
 {
     let n = table_rows::count(image, table_rows::SCOPE);
-    let waiting = counts.waiting;
     let root = state_heads::root_head(heads);
     let local = state_heads::scope_head(heads, scopes, n);
     match peek_of(root, local) {
-        Peeked::Nothing => false,
-        Peeked::At(t) => {
-            if is_at(root, t) {
-                if is_at(local, t) {
-                    return false;
-                }
-                return all_controlled(events, waiting, t);
-            }
-            false
-        }
+        Some(t) => is_at(root, t) && !is_at(local, t) && all_controlled(events, counts.waiting, t),
+        None => false,
     }
 }

@@ -6,10 +6,12 @@ use Prim.Native.Nat.{ℕ, ◌+◌, ◌-◌, ◌<◌, ◌≤◌}
 use native.Mathlib.Omega.{arith}
 use native.Mathlib.Numerals.{add-one}
 use lib.ListN.{length, get_or, set, take, drop, length-set, length-take, length-append}
-use lib.Seq.{take-suc-set, get_or-take, drop-set-lt, drop-drop}
+use lib.Seq.{take-suc-set, drop-set-lt, drop-drop}
 use lib.Dec.{eqb}
+use Rattle.std.specs.List.{list_any}
+use Rattle.std.proofs.lemmas.Bool.Decides.{nat_tests}
 use borrow.Author.Tests.{eq-eqb, ne_eqb}
-use Rattle.lists.specs.Lists.{any, keep, foldl, any_at, any_suc, any_append}
+use Rattle.lists.specs.Lists.{any, keep, foldl, any_append}
 use Rattle.lists.proofs.Lists.{keep_suc_yes, keep_suc_no, keep_shorter}
 use Rattle.table_rows.specs.Rows.{none}
 use Rattle.tags.specs.Tags.{Tag}
@@ -17,8 +19,7 @@ use Rattle.key_set.specs.Sets.{union_of, no_keys, word_count}
 use Rattle.machine.specs.State.{Event, Scope, ordinary}
 use Rattle.machine.specs.Heads.{Ready, add_action, held_at, ready_of}
 use Rattle.state_events.specs.Slots.{blank}
-use Rattle.call_pop_ready.specs.declared.Gathered.{Gathered}
-use Rattle.call_pop_ready.specs.Gathering.{Gathering, nothing_yet, added_to, added_by, held_too, is_new, count_after, keys_after, Grown}
+use Rattle.call_pop_ready.specs.Gathering.{Gathering, nothing_yet, added_to, added_by, is_new, count_after, keys_after, Grown}
 
 -- ---- folding at the end
 
@@ -63,10 +64,6 @@ pub ready_nothing : (ss : List Scope) (t : Tag) → untagged (ready_of ss t []) 
 unfolding ready_of any foldl
 ready_nothing ss t = refl
 
-pub held_too_lem : (held : Bool) (g : Gathered) {b : Bool} → b ≡ (g.held || held) →
-    record { terminal = g.terminal; work = g.work; network = g.network; held = b; reactions = g.reactions; actions = g.actions } ≡ held_too held g
-held_too_lem held g e = rw e
-
 -- a key that is new, or none
 module _ (keys : List ℕ) (n a : ℕ) where
   pub key_none : a ≡ none → (n ≡ count_after keys n a) × (keys ≡ keys_after keys n a)
@@ -80,21 +77,14 @@ module _ (keys : List ℕ) (n a : ℕ) where
 
 -- ---- looking a key up
 
-module _ (keys : List ℕ) (n a i : ℕ) (f : n ≤ length keys) where
-  pub key_found : i < n → a ≡ get_or keys i 0 → true ≡ any (eqb a) (take n keys)
-  key_found h e =
-      let l : i < length (take n keys) = rw length-take (omega arith) in
-      sym (any_at (eqb a) (take n keys) i 0 l (rw (get_or-take n keys i 0 h) (eq-eqb _ _ e)))
+eqb_sym : (a b : ℕ) → eqb a b ≡ eqb b a
+eqb_sym a b = grind (arith, nat_tests)
 
-  pub key_next : i < n → (a ≡ get_or keys i 0 → ⊥) → any (eqb a) (take i keys) ≡ false → any (eqb a) (take (i + 1) keys) ≡ false
-  key_next h e g = any_suc (eqb a) keys i 0 (omega arith) g (ne_eqb _ _ e)
-
-  pub key_missing : i ≤ n → n ≤ i → any (eqb a) (take i keys) ≡ false → false ≡ any (eqb a) (take n keys)
-  key_missing h k g = let e : i ≡ n = omega arith in sym (rw e at g)
-
-pub key_first : (keys : List ℕ) (a : ℕ) → any (eqb a) (take 0 keys) ≡ false
+-- the library's search is the machine's
+pub contains_any : (a : ℕ) (l : List ℕ) → list_any (λ b. eqb b a) l ≡ any (eqb a) l
 unfolding any
-key_first keys a = refl
+contains_any a [] = refl
+contains_any a (b ∷ l) = rw (eqb_sym b a, contains_any a l)
 
 -- ---- the keys after one event
 
@@ -169,6 +159,3 @@ module _ (p : Event → Bool) (es : List Event) (start : Gathering) (first i : �
 -- no more keys than events
 pub going_room : (p : Event → Bool) (es : List Event) (start : Gathering) (first i : ℕ) (g : Gathering) (k : ℕ) → Going p es start first i g k → k ≤ first + i
 going_room p es start first i g k w = omega (arith, w.near, keep_shorter p (take i es), length-take i es)
-
-pub going_end : (p : Event → Bool) (es : List Event) (start : Gathering) (first n i : ℕ) (g : Gathering) (k : ℕ) → i ≤ n → n ≤ i → Going p es start first i g k → Going p es start first n g k
-going_end p es start first n i g k a b w = let e : i ≡ n = omega arith in rw e at w

@@ -1,11 +1,12 @@
 -- Taking out and gathering in one loop: the laws of both, side by side. Assumes nothing.
+use Rattle.std.specs.Prelude.{Option, Some, None}
 use mathlib.Core.Bool.{Bool, true, false}
 use mathlib.Core.Path.{◌≡◌, refl, sym, ap, ◌∙◌}
 use mathlib.Core.List.{List, [], ◌∷◌, ◌++◌}
 use Prim.Native.Nat.{ℕ, ◌+◌, ◌<◌, ◌≤◌}
 use native.Mathlib.Omega.{arith}
 use lib.ListN.{length, get_or, set, take}
-use Rattle.lists.specs.Lists.{lose, over}
+use Rattle.lists.specs.Lists.{lose}
 use Rattle.machine.specs.State.{Event, ordinary}
 use Rattle.state_events.specs.Slots.{room_for_events}
 use Rattle.state_events.specs.Slots.{blank, events_of, Whole, Held}
@@ -14,17 +15,15 @@ use Rattle.tags.specs.Views.{of_queue}
 use Rattle.tags.specs.declared.QueueTag.{QueueTag}
 use Rattle.machine.specs.Heads.{least, least_of}
 use Rattle.state_queues.specs.Queue.{one_if, of_earliest, is_lower}
-use Rattle.state_queues.specs.declared.Earliest.{Earliest}
-use Rattle.state_queues.specs.declared.Earliest.TheVariants as E
 use Rattle.state_queues.proofs.LowLaws.{lower_yes, lower_no, stays_more, goes_more}
 use Rattle.state_queues.proofs.TakeLaws as T
-use Rattle.call_pop_ready.specs.Gathering.{gathering_of, added_to, Grown, Sifted}
+use Rattle.call_pop_ready.specs.Gathering.{gathering_of, added_to, Grown}
 use Rattle.call_pop_ready.specs.declared.Gathered.{Gathered}
-use Rattle.call_pop_ready.proofs.GatherLaws.{grown_none, grown_then, Going, going_none, going_yes, going_no, going_room, going_end}
+use Rattle.call_pop_ready.proofs.GatherLaws.{grown_none, grown_then, Going, going_none, going_yes, going_no, going_room}
 
 -- the loop has come to event i: w stay, over the front of the rows, k ordinary ones went, what went is gathered, and of queue q's
 -- events that stay the lowest is found
-pub record Sifting (q : ℕ) (p : Event → Bool) (ws : List ℕ) (n : ℕ) (f : Gathered) (was : List ℕ) (i w k : ℕ) (low : Earliest) (out : List ℕ) (g : Gathered)
+pub record Sifting (q : ℕ) (p : Event → Bool) (ws : List ℕ) (n : ℕ) (f : Gathered) (was : List ℕ) (i w k : ℕ) (low : Option QueueTag) (out : List ℕ) (g : Gathered)
     (keys : List ℕ) : Type 0 where
   pub before : i ≤ n
   pub grown : Grown f.actions g.actions was keys
@@ -33,12 +32,12 @@ pub record Sifting (q : ℕ) (p : Event → Bool) (ws : List ℕ) (n : ℕ) (f :
   pub least : of_earliest low ≡ least_of q (lose p (take i (events_of ws)))
 
 pub sifting_none :
-    (q : ℕ) (p : Event → Bool) (ws : List ℕ) (n : ℕ) (g : Gathered) (keys : List ℕ) → Whole ws → Sifting q p ws n g keys 0 0 0 E.Nothing ws g keys
+    (q : ℕ) (p : Event → Bool) (ws : List ℕ) (n : ℕ) (g : Gathered) (keys : List ℕ) → Whole ws → Sifting q p ws n g keys 0 0 0 None ws g keys
 unfolding lose least_of
 sifting_none q p ws n g keys h =
     record { before = omega arith; grown = grown_none g.actions keys; taken = T.taken_none p ws h; going = going_none p (events_of ws) (gathering_of g keys) g.actions; least = refl }
 
-module _ {q : ℕ} {p : Event → Bool} {ws : List ℕ} {n : ℕ} {f : Gathered} {was : List ℕ} {i w k : ℕ} {low : Earliest} {out : List ℕ} {g : Gathered} {keys : List ℕ}
+module _ {q : ℕ} {p : Event → Bool} {ws : List ℕ} {n : ℕ} {f : Gathered} {was : List ℕ} {i w k : ℕ} {low : Option QueueTag} {out : List ℕ} {g : Gathered} {keys : List ℕ}
     (s : Sifting q p ws n f was i w k low out g keys) where
   pub sifting_room : w ≤ i
   sifting_room = T.taken_room p ws i w k out s.taken
@@ -69,7 +68,7 @@ module _ {q : ℕ} {p : Event → Bool} {ws : List ℕ} {n : ℕ} {f : Gathered}
       one_more : least_of q (lose p (take i (events_of ws)) ++ (e ∷ [])) ≡ least_of q (lose p (take (i + 1) (events_of ws)))
       one_more = ap (least_of q) (rw original (sym (stays_more (events_of ws) i inside p (rw original at (sym t ∙ c)))))
 
-      stays : (new : Earliest) → of_earliest new ≡ least_of q (lose p (take i (events_of ws)) ++ (e ∷ [])) → Sifting q p ws n f was (i + 1) (w + 1) k new next g keys
+      stays : (new : Option QueueTag) → of_earliest new ≡ least_of q (lose p (take i (events_of ws)) ++ (e ∷ [])) → Sifting q p ws n f was (i + 1) (w + 1) k new next g keys
       stays new m =
           record {
             before = omega arith;
@@ -79,24 +78,8 @@ module _ {q : ℕ} {p : Event → Bool} {ws : List ℕ} {n : ℕ} {f : Gathered}
             least = m ∙ one_more;
           }
 
-      pub sifting_lower : (new : QueueTag) → of_queue new ≡ e.tag → y ≡ true → Sifting q p ws n f was (i + 1) (w + 1) k (E.At new) next g keys
-      sifting_lower new d z = stays (E.At new) (ap least d ∙ lower_yes q (lose p (take i (events_of ws))) e (of_earliest low) s.least (sym l ∙ z))
+      pub sifting_lower : (new : QueueTag) → of_queue new ≡ e.tag → y ≡ true → Sifting q p ws n f was (i + 1) (w + 1) k (Some new) next g keys
+      sifting_lower new d z = stays (Some new) (ap least d ∙ lower_yes q (lose p (take i (events_of ws))) e (of_earliest low) s.least (sym l ∙ z))
 
       pub sifting_stays : y ≡ false → Sifting q p ws n f was (i + 1) (w + 1) k low next g keys
       sifting_stays z = stays low (lower_no q (lose p (take i (events_of ws))) e (of_earliest low) s.least (sym l ∙ z))
-
-  module _ (b : n ≤ i) where
-    pub sifting_all : Sifted q p (take n (events_of ws)) f was (record { gathered = g; count = w; ordinary = k; lowest = low }) keys
-    sifting_all =
-        let e = going_end p (events_of ws) (gathering_of f was) f.actions n i (gathering_of g keys) g.actions s.before b s.going in
-        record {
-          folds = e.folds;
-          near = e.near;
-          grown = s.grown;
-          left = T.taken_count p ws n i w k out s.before b s.taken;
-          went = T.taken_went p ws n i w k out s.before b s.taken;
-          least = let d : i ≡ n = omega (arith, s.before) in rw (← d) s.least;
-        }
-
-    pub sifting_held : Held out (over (lose p (take n (events_of ws))) (events_of ws))
-    sifting_held = T.taken_held p ws n i w k out s.before b s.taken

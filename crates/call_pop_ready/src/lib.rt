@@ -13,7 +13,8 @@ ghost use Rattle.call_pop_ready.specs.Gathering.{none_yet, held_too, added_to, g
 
 use key_set::KeySet;
 use state_events::Slot;
-use state_queues::{Earliest, Which};
+use state_queues::Which;
+use tags::QueueTag;
 
 // The action keys taken so far stand beside it, in a lent array.
 #[derive(Clone, Copy)]
@@ -30,13 +31,12 @@ impl Gathered {
     pub fn nothing_yet() -> Self
         ensures { result ≡ none_yet }
     {
-        let none = KeySet::empty();
         Self {
             terminal: false,
             work: false,
             network: false,
             held: false,
-            reactions: none,
+            reactions: KeySet::empty(),
             actions: 0,
         }
     }
@@ -45,32 +45,11 @@ impl Gathered {
     pub fn hold(self, held: bool) -> Self
         ensures { result ≡ held_too held self }
     {
-        let reactions = self.reactions;
         Self {
-            terminal: self.terminal,
-            work: self.work,
-            network: self.network,
-            held: either(self.held, held),
-            reactions,
-            actions: self.actions,
+            held: self.held || held,
+            ..self
         }
     }
-}
-
-// The key stands among the first n.
-fn has_key(keys: &[u16; state_events::ROOM_FOR_EVENTS], n: usize, a: u16) -> bool
-    requires { (length keys.now ≡ room_for_events) × (n ≤ room_for_events) }
-    ensures { result ≡ any (eqb a) (take n keys.now) }
-{
-    let mut i: usize = 0;
-    while i < n {
-        let key = keys[i];
-        if a == key {
-            return true;
-        }
-        i += 1;
-    }
-    false
 }
 
 // An action's key comes last, if it is one and is not there yet; how many there are then.
@@ -79,10 +58,7 @@ fn add_key(keys: &mut [u16; state_events::ROOM_FOR_EVENTS], n: usize, a: u16) ->
     ensures value { result ≡ count_after keys.old n a }
     ensures keys_after { keys.new ≡ keys_after keys.old n a }
 {
-    if a == state_events::NONE {
-        return n;
-    }
-    if has_key(keys, n, a) {
+    if a == state_events::NONE || keys[..n].contains(&a) {
         return n;
     }
     keys[n] = a;
@@ -95,38 +71,24 @@ fn add(keys: &mut [u16; state_events::ROOM_FOR_EVENTS], g: Gathered, s: Slot) ->
     ensures keys_after { gathering_of result keys.new ≡ added_to (gathering_of g keys.old) (event_of s) }
     ensures actions_bound { (result.actions ≤ g.actions + 1) × Grown g.actions result.actions keys.old keys.new }
 {
-    let n = g.actions;
-    let count = add_key(keys, n, s.action);
-    let old = g.reactions;
-    let new = s.reactions;
-    let both = old.union(new);
-    let ordinary = s.is_ordinary();
+    let actions = add_key(keys, g.actions, s.action);
     Gathered {
-        terminal: either(g.terminal, s.terminal),
-        work: either(g.work, ordinary),
-        network: either(g.network, s.network),
+        terminal: g.terminal || s.terminal,
+        work: g.work || s.is_ordinary(),
+        network: g.network || s.network,
         held: g.held,
-        reactions: both,
-        actions: count,
+        reactions: g.reactions.union(s.reactions),
+        actions,
     }
 }
 
-fn either(a: bool, b: bool) -> bool
-    ensures { result ≡ (a || b) }
-{
-    if a {
-        return true;
-    }
-    b
-}
-
-// What was gathered, how many events are left, how many ordinary ones went, and the least tag that the queue has left, if it has one.
+// What was gathered, how many events are left, how many ordinary ones went, and the least tag that a queue has left, if it has one.
 #[derive(Clone, Copy)]
 pub struct Taken {
     pub gathered: Gathered,
     pub count: usize,
     pub ordinary: usize,
-    pub lowest: Earliest,
+    pub lowest: Option<QueueTag>,
 }
 
 // The events that go are gathered, in order of acceptance; those that stay, over the front.
@@ -134,33 +96,30 @@ fn sift(
     rows: &mut [u64; state_events::ROOM],
     n: usize,
     which: Which,
+    queue: u16,
     keys: &mut [u16; state_events::ROOM_FOR_EVENTS],
     g: Gathered,
 ) -> Taken
     requires whole { Whole rows.old × (n ≤ room_for_events) }
     requires keys_len { (length keys.old ≡ room_for_events) × (g.actions + n ≤ room_for_events) }
-    ensures sifted { Sifted which.queue (goes_of which) (take n (events_of rows.old)) g keys.old result keys.new }
+    ensures sifted { Sifted queue (goes_of which) (take n (events_of rows.old)) g keys.old result keys.new }
     ensures held { Held rows.new (over (lose (goes_of which) (take n (events_of rows.old))) (events_of rows.old)) }
 {
     let mut out = g;
-    let mut w: usize = 0;
-    let mut ordinary: usize = 0;
-    let mut lowest = Earliest::Nothing;
-    let mut i: usize = 0;
-    while i < n {
+    let mut w = 0;
+    let mut ordinary = 0;
+    let mut lowest = None;
+    for i in 0..n {
         let d = state_events::due_at(rows, i);
-        let at = i;
-        i += 1;
         if which.goes(d) {
-            let s = state_events::slot_at(rows, at);
+            let s = state_events::slot_at(rows, i);
             out = add(keys, out, s);
-            ordinary += state_queues::one_if(s.is_ordinary());
+            ordinary += usize::from(s.is_ordinary());
         } else {
-            state_queues::stay(rows, at, w);
+            state_queues::stay(rows, i, w);
             w += 1;
-            if state_queues::is_lower(which.queue, lowest, d) {
-                let t = d.tag;
-                lowest = Earliest::At(t);
+            if state_queues::is_lower(queue, lowest, d) {
+                lowest = Some(d.tag);
             }
         }
     }
@@ -177,15 +136,16 @@ pub fn take_out(
     rows: &mut [u64; state_events::ROOM],
     n: usize,
     which: Which,
+    queue: u16,
     keys: &mut [u16; state_events::ROOM_FOR_EVENTS],
     g: Gathered,
 ) -> Taken
     requires whole { Whole rows.old × (n ≤ room_for_events) }
     requires keys_len { (length keys.old ≡ room_for_events) × (g.actions + n ≤ room_for_events) }
-    ensures sifted { Sifted which.queue (goes_of which) (take n (events_of rows.old)) g keys.old result keys.new }
+    ensures sifted { Sifted queue (goes_of which) (take n (events_of rows.old)) g keys.old result keys.new }
     ensures held { Held rows.new (lay blank (events_of rows.old) (lose (goes_of which) (take n (events_of rows.old))) n) }
 {
-    let r = sift(rows, n, which, keys, g);
+    let r = sift(rows, n, which, queue, keys, g);
     state_queues::clear(rows, r.count, n);
     r
 }

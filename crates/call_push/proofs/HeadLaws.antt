@@ -1,4 +1,5 @@
 -- Every queue's least tag over a push: one event more waits, or none. Assumes nothing.
+use Rattle.std.specs.Prelude as code
 use mathlib.Core.Bool.{Bool, true, false, cond}
 use mathlib.Core.Path.{◌≡◌, ap, ◌∙◌, sym}
 use mathlib.Core.List.{List, [], ◌∷◌, ◌++◌}
@@ -18,8 +19,7 @@ use Rattle.state_events.specs.Slots.{events_of, room_for_events}
 use Rattle.state_queues.specs.Queue.{Held, heads_of}
 use Rattle.state_room.specs.declared.Counts.{Counts}
 use Rattle.state_room.specs.PartRows.{Queued, Waits, queued_is, waits_queued}
-use Rattle.call_push.specs.Pushes.{Pushes, pushed}
-use Rattle.call_push.specs.declared.Pushed.{Pushed}
+use Rattle.call_push.specs.Pushes.{Pushes, pushed, left}
 
 -- these events, with one more behind them or none
 record Grown (es new : List Event) : Type 0 where
@@ -46,8 +46,8 @@ pushed_grows img s (done e) = go (leb (limits img).waiting (length s.waiting))
     go false = grown_one s.waiting e
 
 -- what a push leaves of the rows
-module _ (img : Image) (events : List ℕ) (c : Counts) (m : Result Refusal Event) (r : Pushed) (end : List ℕ) (w : Waits events c)
-    (p : (s : State) → Queued s.waiting s.work events c → Pushes (pushed img s m) r end) where
+module _ (img : Image) (events : List ℕ) (c : Counts) (m : Result Refusal Event) (r : code.Result Counts Refusal) (end : List ℕ) (w : Waits events c)
+    (p : (s : State) → Queued s.waiting s.work events c → Pushes (pushed img s m) c r end) where
   abbrev es : List Event
   es = take c.waiting (events_of events)
 
@@ -58,7 +58,7 @@ module _ (img : Image) (events : List ℕ) (c : Counts) (m : Result Refusal Even
   abbrev new : List Event
   new = (pushed img s m).state.waiting
 
-  pushes : Pushes (pushed img s m) r end
+  pushes : Pushes (pushed img s m) c r end
   pushes = p s (waits_queued events c w)
 
   grown : Grown es new
@@ -67,17 +67,17 @@ module _ (img : Image) (events : List ℕ) (c : Counts) (m : Result Refusal Even
   before : c.waiting ≡ length es
   before = (waits_queued events c w).waiting
 
-  after : r.counts.waiting ≡ length new
+  after : (left c r).waiting ≡ length new
   after = pushes.queued.waiting
 
-  pub push_more : (c.waiting ≤ r.counts.waiting) × (r.counts.waiting ≤ c.waiting + 1) × (r.counts.waiting ≤ room_for_events)
-  push_more = (rw (before, after) grown.least, rw (before, after) grown.most, pushes.waits.few)
+  pub push_more : (c.waiting ≤ (left c r).waiting) × ((left c r).waiting ≤ c.waiting + 1) × ((left c r).waiting ≤ room_for_events)
+  push_more = (omega (arith, before, after, grown.least), omega (arith, before, after, grown.most), pushes.waits.few)
 
   -- the events that waited before stand where they stood
   same_front : take c.waiting (events_of end) ≡ es
   same_front =
-      sym (take-take c.waiting r.counts.waiting (events_of end) push_more.0) ∙
-      (ap (take c.waiting) (queued_is new _ end r.counts pushes.queued (rw (← after) pushes.waits.few)) ∙ (ap (λ n. take n new) before ∙ grown.front))
+      sym (take-take c.waiting (left c r).waiting (events_of end) push_more.0) ∙
+      (ap (take c.waiting) (queued_is new _ end (left c r) pushes.queued (rw (← after) pushes.waits.few)) ∙ (ap (λ n. take n new) before ∙ grown.front))
 
   pub heads_still : {hs : List ℕ} → Held hs (heads_of es) → Held hs (heads_of (take c.waiting (events_of end)))
   heads_still h = rw same_front h

@@ -1,5 +1,8 @@
 -- A law for each case of a push, and the loop over its keys. Assumes nothing.
-use mathlib.Core.Bool.{Bool, true, false, cond, not, ◌&&◌}
+use Rattle.std.specs.Prelude.{Ok, Err, is_err}
+use Rattle.std.specs.Prelude as code
+use mir.Val.{bool_byte}
+use mathlib.Core.Bool.{Bool, true, false, cond, not}
 use mathlib.Core.Path.{◌≡◌, refl, sym, ap, ◌∙◌}
 use mathlib.Core.Logic.{⊎_elim}
 use mathlib.Core.List.{List, [], ◌∷◌, ◌++◌}
@@ -9,8 +12,8 @@ use native.Mathlib.Numerals.{add-one}
 use lib.ListN.{length, take, drop, get_or, length-append, drop_of_length-le}
 use lib.Seq.{drop-cons}
 use lib.Dec.{ltb, leb}
-use borrow.Author.Tests.{eq-eqb, ne_eqb, le-leb, lt-leb}
-use Rattle.lists.specs.Tests.{below?, and_yes, or_no, or_yes}
+use borrow.Author.Tests.{le-leb, lt-leb, lt-ltb, le-ltb}
+use Rattle.lists.specs.Tests.{below?}
 use Rattle.lists.specs.Lists.{every, count, foldl, count_append, count_shorter}
 use Rattle.lists.specs.Walk.{Result, done, refused}
 use Rattle.lists.specs.Held as H
@@ -18,132 +21,97 @@ use Rattle.refusals.specs.declared.Refusal.{Refusal}
 use Rattle.refusals.specs.declared.Refusal.TheVariants as R
 use Rattle.table_rows.specs.Bytes.{Image}
 use Rattle.table_rows.specs.Limits.{limits}
-use Rattle.table_rows.specs.Rows.{none, parent, action_scope, is_logical}
-use Rattle.tags.specs.Tags.{Tag, MappedAnswer, within, to_local, image_of, tag_only}
-use Rattle.tags.specs.Views.{of_local, mapped_global, mapped_local}
-use Rattle.tags.specs.declared.GlobalTag.{GlobalTag}
+use Rattle.table_rows.specs.Rows.{action_scope}
+use Rattle.tags.specs.Tags.{Tag, MappedAnswer, within, to_local, to_global, image_of, tag_only}
+use Rattle.tags.specs.Views.{of_local, mapped_global}
 use Rattle.tags.specs.declared.LocalTag.{LocalTag}
-use Rattle.tags.specs.declared.MappedGlobal.{MappedGlobal}
-use Rattle.tags.specs.declared.MappedGlobal.TheVariants as MG
-use Rattle.tags.specs.declared.MappedLocal.{MappedLocal}
-use Rattle.tags.specs.declared.MappedLocal.TheVariants as ML
+use Rattle.tags.specs.declared.Mapped.{Mapped}
 use Rattle.key_set.specs.Sets.{insert_key, no_keys, word_count}
-use Rattle.table_schedule.specs.Schedule.{is_modal}
-use Rattle.machine.specs.Table.{actions, has_parent, set_of}
-use Rattle.machine.specs.State.{Event, State, root, ordinary, root_event, tally, with_queue, accepted}
+use Rattle.machine.specs.Table.{actions, set_of}
+use Rattle.machine.specs.State.{Event, State, root, root_event, ordinary, tally, with_queue, accepted}
 use Rattle.machine.specs.Transition.{is_tag}
-use Rattle.machine.specs.Machine.{refusal, settle, root_made, to_root, local_tag, action_event, action_placed, action_made, push_root, push_action, perform}
+use Rattle.machine.specs.Machine.{refusal, settle, to_root, local_tag, action_event, action_placed, root_made, action_made, push_root, push_action, perform}
 use Rattle.state_events.specs.Slots as slot
 use Rattle.state_events.specs.Slots.{events_of, room_for_events, waiting_fits}
 use Rattle.state_scopes.specs.Scopes.{Scope, blank}
 use Rattle.state_queues.specs.Queue.{accepted_at, accepted_in}
-use Rattle.state_queues.specs.declared.Accepted.{Accepted}
-use Rattle.state_queues.specs.declared.Accepted.TheVariants as A
 use Rattle.state_room.specs.declared.Counts.{Counts}
 use Rattle.state_room.specs.PartRows.{Queued, Waits, Shows, queued_is, queued_waits, queued_more, waits_queued}
-use Rattle.state_room.specs.Parts.{finished}
 use Rattle.call_push.specs.Pushes.{made, call_of, pushed, Pushes}
 use Rattle.call_push.specs.declared.Push.{Push}
 use Rattle.call_push.specs.declared.Push.TheVariants as P
-use Rattle.refusals.specs.declared.Outcome.{Outcome}
-use Rattle.refusals.specs.declared.Outcome.TheVariants as O
 
--- ---- the keys: what was seen of the first i, and what is left
+-- ---- the keys: the table has the first i, and what is left
 
-pub record Keying (n : ℕ) (keys : List ℕ) (i : ℕ) (known : Bool) (ws : List ℕ) : Type 0 where
+pub record Keying (n : ℕ) (keys : List ℕ) (i : ℕ) (ws : List ℕ) : Type 0 where
   pub near : i ≤ length keys
-  pub exist : every (λ k. ltb k n) keys ≡ (known && every (λ k. ltb k n) (drop i keys))
+  pub exist : every (λ k. ltb k n) keys ≡ every (λ k. ltb k n) (drop i keys)
   pub set : set_of keys ≡ foldl insert_key ws (drop i keys)
 
 module _ (n : ℕ) (keys : List ℕ) where
-  pub keying_start : (ws : List ℕ) → ws ≡ no_keys word_count → Keying n keys 0 true ws
+  pub keying_start : (ws : List ℕ) → ws ≡ no_keys word_count → Keying n keys 0 ws
   unfolding set_of
   keying_start ws e = record { near = omega arith; exist = refl; set = rw e }
 
-  and_assoc : (a b c : Bool) → (a && (b && c)) ≡ ((a && b) && c)
-  and_assoc true b c = refl
-  and_assoc false b c = refl
+  module _ (i : ℕ) (ws : List ℕ) (w : Keying n keys i ws) (h : i < length keys) where
+    one_less : drop i keys ≡ get_or keys i 0 ∷ drop (i + 1) keys
+    one_less = rw (add-one, drop-cons keys i 0 h)
 
-  pub keying_next :
-      (i : ℕ) (known : Bool) (ws : List ℕ) → Keying n keys i known ws → i < length keys → (now : Bool) (next : List ℕ) → now ≡ (known && ltb (get_or keys i 0) n) →
-      next ≡ insert_key ws (get_or keys i 0) → Keying n keys (i + 1) now next
-  unfolding every foldl
-  keying_next i known ws w h now next e f =
-      let d : drop i keys ≡ get_or keys i 0 ∷ drop (i + 1) keys = rw (add-one, drop-cons keys i 0 h) in
-      record {
-        near = omega arith;
-        exist = w.exist ∙ rw (d, e) (and_assoc known (ltb (get_or keys i 0) n) (every (λ k. ltb k n) (drop (i + 1) keys)));
-        set = w.set ∙ rw (d, f);
-      }
+    pub keying_next : (next : List ℕ) → get_or keys i 0 < n → next ≡ insert_key ws (get_or keys i 0) → Keying n keys (i + 1) next
+    unfolding every foldl
+    keying_next next k f =
+        record { near = omega arith; exist = w.exist ∙ rw one_less (simp (lt-ltb (get_or keys i 0) n k)); set = w.set ∙ rw (one_less, f) }
 
-  module _ (i : ℕ) (known : Bool) (ws : List ℕ) (w : Keying n keys i known ws) (h : length keys ≤ i) where
-    pub keying_known : known ≡ every (λ k. ltb k n) keys
+    pub keying_stop : n ≤ get_or keys i 0 → every (λ k. ltb k n) keys ≡ false
     unfolding every
-    keying_known = sym (w.exist ∙ rw (drop_of_length-le keys h) (and_yes known))
+    keying_stop k = w.exist ∙ rw one_less (simp (le-ltb (get_or keys i 0) n k))
+
+  module _ (ws : List ℕ) (w : Keying n keys (length keys) ws) where
+    pub keying_known : every (λ k. ltb k n) keys ≡ true
+    unfolding every
+    keying_known = w.exist ∙ rw (drop_of_length-le keys {i = length keys} (omega arith))
 
     pub keying_set : ws ≡ set_of keys
     unfolding foldl
-    keying_set = sym (w.set ∙ rw (drop_of_length-le keys h))
+    keying_set = sym (w.set ∙ rw (drop_of_length-le keys {i = length keys} (omega arith)))
 
 -- ---- an event of the root
 
+-- the keys exist and the tag is within the limits
 module _ (known : Bool) (t : Tag) (ws : List ℕ) (a b c : Bool) {r : Result Refusal Event} where
-  pub root_key : known ≡ false → r ≡ refused R.Key → r ≡ root_made known t ws a b c
-  unfolding root_made
-  root_key k e = e ∙ rw k
-
-  pub root_tag : known ≡ true → within t ≡ false → r ≡ refused R.ArgumentTag → r ≡ root_made known t ws a b c
-  unfolding root_made
-  root_tag k w e = e ∙ rw (k, w)
-
   pub root_done : known ≡ true → within t ≡ true → r ≡ done (root_event t ws a b c) → r ≡ root_made known t ws a b c
   unfolding root_made
   root_done k w e = e ∙ rw (k, w)
 
 -- ---- an action's event
 
-module _ (a : MappedAnswer) (m : MappedGlobal) (h : mapped_global m ≡ a) where
-  pub maps_tag : {g : GlobalTag} {b : Bool} → m ≡ MG.Tag g b → true ≡ is_tag (tag_only a)
-  maps_tag e = ap (λ r. is_tag (tag_only r)) (sym (ap mapped_global e) ∙ h)
+maps_told : (m : code.Result Mapped Refusal) {a : MappedAnswer} → mapped_global m ≡ a → is_tag (tag_only a) ≡ not (is_err m)
+maps_told (Ok t) h = ap (λ r. is_tag (tag_only r)) (sym h)
+maps_told (Err n) h = ap (λ r. is_tag (tag_only r)) (sym h)
 
-  pub maps_over : {n : Refusal} → m ≡ MG.Refused n → false ≡ is_tag (tag_only a)
-  maps_over e = ap (λ r. is_tag (tag_only r)) (sym (ap mapped_global e) ∙ h)
-
-pub ruleset mapped = (maps_tag, maps_over)
-
-module _ (ss : List Scope) (i : ℕ) (t : Tag) (s : Scope) (g : s ≡ get_or ss i blank) (m : MappedLocal) (h : mapped_local m ≡ to_local s.clock t) where
-  pub local_over : {n : Refusal} → m ≡ ML.Refused n → refused n ≡ local_tag (get_or ss i blank) t
+module _ (ss : List Scope) (i : ℕ) (t : Tag) (s : Scope) (g : s ≡ get_or ss i blank) where
+  pub local_over : {n : Refusal} → refused n ≡ to_local s.clock t → refused n ≡ local_tag (get_or ss i blank) t
   unfolding local_tag
-  local_over {n} e = let d : to_local s.clock t ≡ refused n = sym h ∙ ap mapped_local e in rw (← g, d)
+  local_over e = rw (← g, ← e)
 
-  module _ (x : LocalTag) (e : m ≡ ML.Tag x) where
-    there : to_local s.clock t ≡ done (of_local x)
-    there = sym h ∙ ap mapped_local e
-
+  module _ (x : LocalTag) (e : done (of_local x) ≡ to_local s.clock t) where
     pub local_idle : s.active ≡ false → done (of_local x) ≡ local_tag (get_or ss i blank) t
     unfolding local_tag
-    local_idle a = rw (← g, there, a)
+    local_idle a = rw (← g, ← e, a)
 
-    pub local_maps : s.active ≡ true → is_tag (image_of s.clock (of_local x)) ≡ true → done (of_local x) ≡ local_tag (get_or ss i blank) t
-    unfolding local_tag
-    local_maps a b = rw (← g, there, a, b)
+    module _ (m : code.Result Mapped Refusal) (h : mapped_global m ≡ to_global s.clock (of_local x)) {b : Bool} (d : b ≡ is_err m) (a : s.active ≡ true) where
+      pub local_maps : b ≡ false → done (of_local x) ≡ local_tag (get_or ss i blank) t
+      unfolding local_tag
+      local_maps f = let k : is_tag (image_of s.clock (of_local x)) ≡ true = maps_told m h ∙ ap not (sym d ∙ f) in rw (← g, ← e, a, k)
 
-    pub local_image : s.active ≡ true → is_tag (image_of s.clock (of_local x)) ≡ false → refused R.MappedTag ≡ local_tag (get_or ss i blank) t
-    unfolding local_tag
-    local_image a b = rw (← g, there, a, b)
+      pub local_image : b ≡ true → refused R.MappedTag ≡ local_tag (get_or ss i blank) t
+      unfolding local_tag
+      local_image f = let k : is_tag (image_of s.clock (of_local x)) ≡ false = maps_told m h ∙ ap not (sym d ∙ f) in rw (← g, ← e, a, k)
 
-module _ (img : Image) (a : ℕ) where
-  pub root_physical : is_logical img a ≡ false → true ≡ to_root img a
-  unfolding to_root
-  root_physical l = rw (l, or_yes (not (is_modal img)))
-
-  pub root_top : parent img (action_scope img a) ≡ none → true ≡ to_root img a
-  unfolding to_root has_parent
-  root_top p = rw (eq-eqb _ _ p, or_yes (not (is_logical img a)), or_yes (not (is_modal img)))
-
-  pub root_plain : is_logical img a ≡ true → (parent img (action_scope img a) ≡ none → ⊥) → not (is_modal img) ≡ to_root img a
-  unfolding to_root has_parent
-  root_plain l p = rw (l, ne_eqb _ _ p, or_no (not (is_modal img)))
+pub placed_refused : (img : Image) (ss : List Scope) (a : ℕ) (t : Tag) (terminal : Bool) (ws : List ℕ) {n : Refusal} → to_root img a ≡ false →
+    refused n ≡ local_tag (get_or ss (action_scope img a) blank) t → refused n ≡ action_placed img (get_or ss (action_scope img a) blank) a t terminal ws
+unfolding action_placed
+placed_refused img ss a t terminal ws o l = rw (o, ← l)
 
 module _ (img : Image) (ss : List Scope) (a : ℕ) (t : Tag) (terminal : Bool) (ws : List ℕ) {r : Result Refusal Event} where
   pub placed_root : to_root img a ≡ true → r ≡ done (action_event root a t t terminal ws) → r ≡ action_placed img (get_or ss (action_scope img a) blank) a t terminal ws
@@ -155,43 +123,42 @@ module _ (img : Image) (ss : List Scope) (a : ℕ) (t : Tag) (terminal : Bool) (
   unfolding action_placed
   placed_there o l e = e ∙ rw (o, ← l)
 
-  pub placed_refused : {n : Refusal} → to_root img a ≡ false → refused n ≡ local_tag (get_or ss (action_scope img a) blank) t → r ≡ refused n →
-      r ≡ action_placed img (get_or ss (action_scope img a) blank) a t terminal ws
-  unfolding action_placed
-  placed_refused o l e = e ∙ rw (o, ← l)
+module _ (img : Image) (x : Scope) (a : ℕ) (t : Tag) (terminal : Bool) (ws : List ℕ) (known : Bool) where
+  pub action_none : actions img ≤ a → refused R.Key ≡ action_made img x a t terminal known ws
+  unfolding action_made
+  action_none h = rw (le-ltb a (actions img) h)
 
-  module _ (known : Bool) where
-    pub action_key : (ltb a (actions img) && known) ≡ false → r ≡ refused R.Key → r ≡ action_made img (get_or ss (action_scope img a) blank) a t terminal known ws
+  module _ (h : a < actions img) where
+    pub action_key : known ≡ false → refused R.Key ≡ action_made img x a t terminal known ws
     unfolding action_made
-    action_key k e = e ∙ rw k
+    action_key k = rw (lt-ltb a (actions img) h, k)
 
-    pub action_tag : (ltb a (actions img) && known) ≡ true → within t ≡ false → r ≡ refused R.ArgumentTag → r ≡ action_made img (get_or ss (action_scope img a) blank) a t terminal known ws
+    pub action_tag : known ≡ true → within t ≡ false → refused R.ArgumentTag ≡ action_made img x a t terminal known ws
     unfolding action_made
-    action_tag k w e = e ∙ rw (k, w)
+    action_tag k w = rw (lt-ltb a (actions img) h, k, w)
 
-    pub action_placed_lem : (ltb a (actions img) && known) ≡ true → within t ≡ true → r ≡ action_placed img (get_or ss (action_scope img a) blank) a t terminal ws →
-        r ≡ action_made img (get_or ss (action_scope img a) blank) a t terminal known ws
+    pub action_placed_lem : known ≡ true → within t ≡ true → action_placed img x a t terminal ws ≡ action_made img x a t terminal known ws
     unfolding action_made
-    action_placed_lem k w e = e ∙ rw (k, w)
+    action_placed_lem k w = rw (lt-ltb a (actions img) h, k, w)
 
 -- ---- accepting
 
--- as many wait as may, or there is room
-never_count : {P : Type 0} {n : Refusal} {m : ℕ} → A.Refused n ≡ A.Count m → P
-never_count e = let z : ◌≡◌ {A = ℕ} 0 1 = cc in absurd (omega arith)
+never_ok : {P A B : Type 0} {n : B} {m : A} → ◌≡◌ {A = code.Result A B} (Err n) (Ok m) → P
+never_ok e = let z : ◌≡◌ {A = ℕ} 0 1 = cc in absurd (omega arith)
 
-module _ (limit n : ℕ) (a : Accepted) (e : a ≡ accepted_at limit n) where
-  full : limit ≤ n → a ≡ A.Refused R.Waiting
+-- as many wait as may, or there is room
+module _ (limit n : ℕ) (a : code.Result ℕ Refusal) (e : a ≡ accepted_at limit n) where
+  full : limit ≤ n → a ≡ Err R.Waiting
   full h = e ∙ simp (le-leb limit n h)
 
-  room : n < limit → a ≡ A.Count (n + 1)
+  room : n < limit → a ≡ Ok (n + 1)
   room h = e ∙ simp (lt-leb limit n h)
 
-  pub accept_full : {m : Refusal} → a ≡ A.Refused m → (limit ≤ n) × (m ≡ R.Waiting)
-  accept_full {m} d = ⊎_elim (λ (h : n < limit). never_count (sym d ∙ room h)) (λ (h : limit ≤ n). (h, (let q = full h in cc))) (below? n limit)
+  pub accept_full : {m : Refusal} → a ≡ Err m → (limit ≤ n) × (m ≡ R.Waiting)
+  accept_full {m} d = ⊎_elim (λ (h : n < limit). never_ok (sym d ∙ room h)) (λ (h : limit ≤ n). (h, (let q = full h in cc))) (below? n limit)
 
-  pub accept_room : {m : ℕ} → a ≡ A.Count m → (n < limit) × (m ≡ n + 1)
-  accept_room {m} d = ⊎_elim (λ (h : n < limit). (h, (let q = room h in cc))) (λ (h : limit ≤ n). never_count (sym (full h) ∙ d)) (below? n limit)
+  pub accept_room : {m : ℕ} → a ≡ Ok m → (n < limit) × (m ≡ n + 1)
+  accept_room {m} d = ⊎_elim (λ (h : n < limit). (h, (let q = room h in cc))) (λ (h : limit ≤ n). never_ok (sym (full h) ∙ d)) (below? n limit)
 
 -- one more event counts if it is ordinary
 tally_more : (l : List Event) (n : ℕ) (e : Event) → n ≡ count ordinary l → tally e n ≡ count ordinary (l ++ (e ∷ []))
@@ -208,38 +175,42 @@ module _ (ws : List ℕ) (c : Counts) (w : Waits ws c) where
       let q = (waits_queued ws c w).waiting in
       omega (arith, w.counted, w.few, count_shorter ordinary (take c.waiting (events_of ws)))
 
-  module _ (img : Image) (o : Outcome) (e : Event) where
-    pub give_refused : {n : Refusal} → o ≡ O.Refused n → (s : State) → Queued s.waiting s.work ws c → Pushes (pushed img s (finished o e)) (record { outcome = O.Refused n; counts = c }) ws
-    give_refused d s q = rw d (record { reply = refl; queued = q; waits = w })
+  -- the image's limit, as the code has it
+  module _ (img : Image) (e : Event) (limit : ℕ) (m : limit ≡ (limits img).waiting) (a : code.Result ℕ Refusal) (f : a ≡ accepted_at limit c.waiting)
+      (out : List ℕ) (k : slot.Held out (accepted_in limit c.waiting e (events_of ws))) where
+    pub give_full : {n : Refusal} → a ≡ Err n → (s : State) → Queued s.waiting s.work ws c → Pushes (pushed img s (done e)) c (Err n) out
+    unfolding accepted
+    give_full {n} r s q =
+        let x = accept_full limit c.waiting a f r in
+        let none : limit ≤ length s.waiting = rw (← q.waiting) x.0 in
+        let same : out ≡ ws =
+        H.rows_back slot.decode slot.encode slot.slot_words room_for_events slot.encode_long ws out w.held.whole (rw (le-leb limit c.waiting x.0) at k) in
+        rw (same, ← m, le-leb limit _ none) (record { reply = ap refusal x.1; queued = q; waits = w })
 
-    -- the image's limit, as the code has it
-    module _ (d : o ≡ O.Done) (limit : ℕ) (m : limit ≡ (limits img).waiting) (a : Accepted) (f : a ≡ accepted_at limit c.waiting)
-        (out : List ℕ) (k : slot.Held out (accepted_in limit c.waiting e (events_of ws))) where
-      pub give_full : {n : Refusal} → a ≡ A.Refused n → (s : State) → Queued s.waiting s.work ws c →
-          Pushes (pushed img s (finished o e)) (record { outcome = O.Refused n; counts = c }) out
-      unfolding accepted
-      give_full {n} r s q =
-          let x = accept_full limit c.waiting a f r in
-          let none : limit ≤ length s.waiting = rw (← q.waiting) x.0 in
-          let same : out ≡ ws =
-          H.rows_back slot.decode slot.encode slot.slot_words room_for_events slot.encode_long ws out w.held.whole (rw (le-leb limit c.waiting x.0) at k) in
-          rw (d, same, ← m, le-leb limit _ none) (record { reply = ap refusal x.1; queued = q; waits = w })
+    pub give_done : {p : ℕ} (n : ℕ) → a ≡ Ok p → n ≡ cond (ordinary e) (c.work + 1) c.work →
+        (s : State) → Queued s.waiting s.work ws c → Pushes (pushed img s (done e)) c (Ok (record { waiting = p; work = n })) out
+    unfolding accepted
+    give_done {p} n r t s q =
+        let x = accept_room limit c.waiting a f r in
+        let l = s.waiting in
+        let few : length l < limit = rw (← q.waiting) x.0 in
+        let fits : limit ≤ room_for_events = rw m (waiting_fits img) in
+        let longer : length (l ++ (e ∷ [])) ≡ length l + 1 = length-append l (e ∷ []) in
+        let held = queued_more l s.work ws c e out q (rw (lt-leb limit c.waiting x.0) at k) in
+        let new : Queued (l ++ (e ∷ [])) (tally e s.work) out (record { waiting = p; work = n }) =
+        record { held = held; waiting = omega (arith, x.1, q.waiting); work = t ∙ ap (tally e) q.work } in
+        let counted : s.work ≡ count ordinary l = sym q.work ∙ (w.counted ∙ ap (count ordinary) (queued_is l s.work ws c q (omega arith))) in
+        rw (← m, lt-leb limit _ few)
+        (record { reply = refl; queued = new; waits = queued_waits _ _ out _ new (omega arith) (tally_more l s.work e counted) })
 
-      pub give_done : {p : ℕ} (n : ℕ) → a ≡ A.Count p → n ≡ cond (ordinary e) (c.work + 1) c.work →
-          (s : State) → Queued s.waiting s.work ws c → Pushes (pushed img s (finished o e)) (record { outcome = O.Done; counts = record { waiting = p; work = n } }) out
-      unfolding accepted
-      give_done {p} n r t s q =
-          let x = accept_room limit c.waiting a f r in
-          let l = s.waiting in
-          let few : length l < limit = rw (← q.waiting) x.0 in
-          let fits : limit ≤ room_for_events = rw m (waiting_fits img) in
-          let longer : length (l ++ (e ∷ [])) ≡ length l + 1 = length-append l (e ∷ []) in
-          let held = queued_more l s.work ws c e out q (rw (lt-leb limit c.waiting x.0) at k) in
-          let new : Queued (l ++ (e ∷ [])) (tally e s.work) out (record { waiting = p; work = n }) =
-          record { held = held; waiting = omega (arith, x.1, q.waiting); work = t ∙ ap (tally e) q.work } in
-          let counted : s.work ≡ count ordinary l = sym q.work ∙ (w.counted ∙ ap (count ordinary) (queued_is l s.work ws c q (omega arith))) in
-          rw (d, ← m, lt-leb limit _ few)
-          (record { reply = refl; queued = new; waits = queued_waits _ _ out _ new (omega arith) (tally_more l s.work e counted) })
+-- a flag is added
+pub byte_small : (b : Bool) → bool_byte b ≤ 1
+byte_small true = omega arith
+byte_small false = omega arith
+
+pub one_more : (b : Bool) (n : ℕ) → n + bool_byte b ≡ cond b (n + 1) n
+one_more true n = refl
+one_more false n = omega arith
 
 -- a push changes the queue and nothing else
 pub push_frame : (img : Image) (s : State) (m : Result Refusal Event) → let t = (pushed img s m).state in t ≡ with_queue s t.waiting t.work

@@ -1,6 +1,7 @@
 -- What a push hands back: the plain machine's answer and its queue. Document 01, "Push (plain, network, control)" and "Push of an action", is the machine's. Assumes nothing.
-use Rattle.std.specs.Prelude.{◌≡◌, true, false, List, [], ℕ, get_or}
-use Rattle.lists.specs.Walk.{Result, ◌>>=◌}
+use Rattle.std.specs.Prelude.{◌≡◌, true, false, List, [], ℕ, get_or, Ok, Err}
+use Rattle.std.specs.Prelude as code
+use Rattle.lists.specs.Walk.{Result, done, refused, ◌>>=◌}
 use Rattle.refusals.specs.declared.Refusal.{Refusal}
 use Rattle.machine.specs.State.{Event, State, accepted}
 use Rattle.machine.specs.Machine as M
@@ -10,18 +11,17 @@ use Rattle.table_rows.specs.Bytes.{Image}
 use Rattle.table_rows.specs.Rows.{action_scope}
 use Rattle.tags.specs.Views.{of_global}
 use Rattle.state_events.specs.Slots.{event_of}
+use Rattle.state_events.specs.declared.Slot.{Slot}
 use Rattle.state_scopes.specs.Scopes.{Scope, scopes_of, blank}
 use Rattle.state_room.specs.PartRows.{Queued, Waits}
-use Rattle.state_room.specs.Parts.{finished}
-pub use Rattle.state_room.specs.Holds.{reply_of}
+use Rattle.state_room.specs.declared.Counts.{Counts}
 use Rattle.call_push.specs.declared.Push.{Push}
 use Rattle.call_push.specs.declared.Push.TheVariants as P
-use Rattle.call_push.specs.declared.Made.{Made}
-use Rattle.call_push.specs.declared.Pushed.{Pushed}
 
 -- the event that is to wait, or the refusal
-abbrev pub made_of : Made → Result Refusal Event
-made_of m = finished m.outcome (event_of m.slot)
+abbrev pub made_of : code.Result Slot Refusal → Result Refusal Event
+made_of (Ok s) = done (event_of s)
+made_of (Err n) = refused n
 
 -- the scope of an action, as the rows show it
 abbrev pub scope_for : Image → List ℕ → ℕ → Scope
@@ -46,7 +46,16 @@ made img ws (P.Action p) ks =
 abbrev pub pushed : Image → State → Result Refusal Event → M.Outcome
 pushed img s m = settle s (m >>= accepted img s)
 
-pub record Pushes (o : M.Outcome) (r : Pushed) (ws : List ℕ) : Type 0 where
-  pub reply : reply_of r.outcome ≡ o.reply
-  pub queued : Queued o.state.waiting o.state.work ws r.counts
-  pub waits : Waits ws r.counts
+-- what is answered, and what waits then: a refusal leaves it
+abbrev pub reply_of : code.Result Counts Refusal → M.Reply
+reply_of (Ok c) = M.ok
+reply_of (Err n) = M.refusal n
+
+abbrev pub left : Counts → code.Result Counts Refusal → Counts
+left c (Ok after) = after
+left c (Err n) = c
+
+pub record Pushes (o : M.Outcome) (c : Counts) (r : code.Result Counts Refusal) (ws : List ℕ) : Type 0 where
+  pub reply : reply_of r ≡ o.reply
+  pub queued : Queued o.state.waiting o.state.work ws (left c r)
+  pub waits : Waits ws (left c r)

@@ -1,12 +1,11 @@
 -- The rows in use, saved and put back, are the rows as given: each part lies at its array's front, and blanks behind it are zeros. Assumes nothing.
 use mathlib.Core.Path.{◌≡◌, refl, ap, ◌∙◌, sym}
 use mathlib.Core.List.{List, [], ◌∷◌, ◌++◌, append_assoc}
-use Prim.Native.Nat.{ℕ, zero, suc, ◌+◌, ◌*◌, ◌≤◌, ◌<◌}
+use Prim.Native.Nat.{ℕ, zero, suc, ◌+◌, ◌*◌, ◌≤◌}
 use native.Mathlib.Omega.{arith}
-use native.Mathlib.Numerals.{add-one}
 use native.Mathlib.Nat.{le_trans, add-mul, mul-le-mul_right}
-use lib.ListN.{length, take, drop, set, get_or, replicate, replicate-append-replicate, length-drop}
-use lib.Seq.{paste, paste-suc, length-paste, take-paste, take_at, drop_at, take-take, take-add, drop-drop, length-take-le, get_or-drop}
+use lib.ListN.{length, take, drop, replicate, replicate-append-replicate, length-drop}
+use lib.Seq.{paste, length-paste, take-paste, take_at, drop_at, take-take, take-add, drop-drop, length-take-le}
 use Rattle.lists.specs.Rows.{flat, flat_length, tab}
 use Rattle.lists.specs.Held as H
 use Rattle.table_rows.specs.Bytes.{Image}
@@ -23,24 +22,6 @@ use Rattle.state_room.specs.PartRows.{spare_room}
 use Rattle.state_room.specs.Holds.{Rows, Holds, Held, most_scopes_lem}
 use Rattle.call_transition.specs.Saving.{Few, Fit, fronts_of, saved_in}
 use Rattle.call_transition.specs.declared.Fronts.{Fronts}
-
-pub fronts_fit : (img : Image) (l : Ledger) → Few img l → {f : Fronts} → f ≡ fronts_of img l → (f ≡ fronts_of img l) × Fit f
-fronts_fit img l k e =
-    (e, rw e (record { scopes = omega (arith, k.scopes); events = omega (arith, k.waiting); values = omega (arith, k.values); buckets = omega (arith, k.buckets) }))
-
--- ---- words copied
-
-module _ (to : List ℕ) (at : ℕ) (from : List ℕ) (start n : ℕ) (room : (at + n ≤ length to) × (start + n ≤ length from)) (i : ℕ) {mid : List ℕ} (e : mid ≡ paste to at (drop start from) i) where
-  pub copied_long : i ≤ n → length mid ≡ length to
-  copied_long h = ap length e ∙ length-paste to at (drop start from) i (omega (arith, room.0)) (omega (arith, room.1, length-drop start from))
-
-  pub copied_next : i < n → set mid (at + i) (get_or from (start + i) 0) ≡ paste to at (drop start from) (i + 1)
-  copied_next h =
-      rw (e, add-one, ← (get_or-drop start from i 0))
-      (paste-suc to at (drop start from) i 0 (omega (arith, room.0)) (omega (arith, room.1, length-drop start from)))
-
-  pub copied_all : i ≤ n → n ≤ i → mid ≡ paste to at (drop start from) n
-  copied_all h g = let q : i ≡ n = omega arith in rw q at e
 
 -- ---- parts one behind the other
 

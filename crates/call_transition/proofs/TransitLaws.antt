@@ -2,17 +2,16 @@
 use mathlib.Core.Bool.{Bool, true, false, cond, ◌&&◌}
 use mathlib.Core.Path.{◌≡◌, refl, ap, ◌∙◌, sym, subst}
 use mathlib.Core.List.{List}
-use Prim.Native.Nat.{ℕ, ◌≤◌, ◌<◌}
+use Prim.Native.Nat.{ℕ, ◌<◌}
+use Rattle.std.specs.Prelude.{Ok, Err, is_err}
 use lib.Dec.{ltb, eqb}
 use lib.ListN.{length, get_or, take}
-use borrow.Author.Tests.{lt-ltb, le-ltb, ltb-true, ne_eqb, eq-eqb}
-use Rattle.lists.specs.Tests.{and_left, and_no}
+use borrow.Author.Tests.{ltb-true, ne_eqb, eq-eqb}
+use Rattle.lists.specs.Tests.{and_left, and_no, yes_no}
 use Rattle.lists.specs.Every.{either_is}
 use Rattle.lists.specs.Walk.{done, refused, ◌>>=◌}
 use Rattle.refusals.specs.declared.Refusal.{Refusal}
 use Rattle.refusals.specs.declared.Refusal.TheVariants as R
-use Rattle.refusals.specs.declared.Outcome.{Outcome}
-use Rattle.refusals.specs.declared.Outcome.TheVariants as O
 use Rattle.table_rows.specs.Bytes.{Image}
 use Rattle.table_rows.specs.Rows.{mode_scope, mode_reactor}
 use Rattle.tags.specs.Tags.{within}
@@ -23,7 +22,7 @@ use Rattle.machine.specs.State.{State, with_modes, without}
 use Rattle.machine.specs.Transition as T
 use Rattle.machine.specs.Transition.{Step, inside_of, prepared, plan_of, transition}
 use Rattle.machine.specs.Machine.{ok, refusal, perform, settle}
-use Rattle.state_room.specs.Holds.{Rows, Holds, Held, After, Steps, Answers, Performs, reply_of, modes_are, shows, not_both}
+use Rattle.state_room.specs.Holds.{Rows, Holds, Held, Outcome, After, Steps, Answers, Performs, reply_of, modes_are, shows, not_both}
 use Rattle.state_room.specs.PartRows.{most_reactors}
 use Rattle.state_room.specs.Padded.{padded_length}
 use Rattle.state_room.specs.Parts.{finished, remoded, with_ledger, modes_hold}
@@ -31,7 +30,7 @@ use Rattle.call_transition_plan.specs.declared.Plan.{Plan}
 use Rattle.call_transition_plan.specs.declared.Request.{Request}
 use Rattle.call_transition_plan.specs.Plans.{plan_in, Marks, Planned}
 use Rattle.call_transition_plan.proofs.PlanLaws.{marks_map, planned_inside, planned_plan, planned_modes, prepared_long}
-use Rattle.call_transition_resets.specs.Resetting.{cleared, Resets}
+use Rattle.call_transition_resets.specs.Resetting.{cleared}
 use Rattle.call_transition_resets.proofs.ResetLaws.{none_cleared, step1_is}
 use Rattle.call_transition_events.specs.Starting.{first_time, restarts_on}
 use Rattle.call_transition_events.proofs.StartLaws.{firsts_are}
@@ -40,29 +39,22 @@ use Rattle.call_transition.specs.Transiting.{call_of, refusal_of, starts_on, tur
 
 -- ---- refusals before anything changes
 
-module _ (a b : ℕ) {x y n m : ℕ} (e : x ≡ n) (f : y ≡ m) where
-  pub known_yes : a < x → ltb b y ≡ (ltb a n && ltb b m)
-  known_yes h = sym (rw (← e, ← f, lt-ltb a x h))
-
-  pub known_no : x ≤ a → false ≡ (ltb a n && ltb b m)
-  known_no h = sym (rw (← e, le-ltb a x h))
-
 module _ (img : Image) (q : Request) {known : Bool} (k : known ≡ (ltb q.reactor (reactors img) && ltb q.mode (modes img))) where
-  pub refused_key : known ≡ false → O.Refused R.Key ≡ refusal_of img q
+  pub refused_key : known ≡ false → Err R.Key ≡ refusal_of img q
   unfolding refusal_of
   refused_key e = sym (rw (sym k ∙ e))
 
   module _ (e : known ≡ true) {owner : ℕ} (o : owner ≡ mode_reactor img q.mode) where
-    pub refused_target : (owner ≡ q.reactor → ⊥) → O.Refused R.TargetMode ≡ refusal_of img q
+    pub refused_target : (owner ≡ q.reactor → ⊥) → Err R.TargetMode ≡ refusal_of img q
     unfolding refusal_of
     refused_target n = sym (rw (sym k ∙ e, ← o, ne_eqb owner q.reactor n))
 
     module _ (m : owner ≡ q.reactor) {fits : Bool} (f : fits ≡ within (of_global q.c)) where
-      pub refused_tag : fits ≡ false → O.Refused R.ArgumentTag ≡ refusal_of img q
+      pub refused_tag : fits ≡ false → Err R.ArgumentTag ≡ refusal_of img q
       unfolding refusal_of
       refused_tag n = sym (rw (sym k ∙ e, ← o, eq-eqb owner q.reactor m, sym f ∙ n))
 
-      pub refused_none : fits ≡ true → O.Done ≡ refusal_of img q
+      pub refused_none : fits ≡ true → (Ok tt) ≡ refusal_of img q
       unfolding refusal_of
       refused_none n = sym (rw (sym k ∙ e, ← o, eq-eqb owner q.reactor m, sym f ∙ n))
 
@@ -139,7 +131,7 @@ module _ (img : Image) (old : List ℕ) (q : Request) (p : Plan) (h : Planned im
 -- ---- the whole
 
 module _ (img : Image) (q : Request) where
-  pub allowed_known : refusal_of img q ≡ O.Done → q.reactor < reactors img
+  pub allowed_known : refusal_of img q ≡ (Ok tt) → q.reactor < reactors img
   unfolding refusal_of
   allowed_known e =
       either_is (ltb q.reactor (reactors img) && ltb q.mode (modes img)) e
@@ -157,34 +149,43 @@ module _ (img : Image) (q : Request) where
 
       go : (a b d : Bool) →
           settle s (cond a (cond b (cond d wanted (refused R.ArgumentTag)) (refused R.TargetMode)) (refused R.Key)) ≡
-          settle s (finished (cond a (cond b (cond d O.Done (O.Refused R.ArgumentTag)) (O.Refused R.TargetMode)) (O.Refused R.Key)) s >>= λ t. wanted)
+          settle s (finished (cond a (cond b (cond d (Ok tt) (Err R.ArgumentTag)) (Err R.TargetMode)) (Err R.Key)) s >>= λ t. wanted)
       go true true true = refl
       go true true false = refl
       go true false d = refl
       go false b d = refl
 
   -- refused before anything changed
-  pub early_refused : {o : Outcome} {n : Refusal} (r : Rows) → o ≡ refusal_of img q → o ≡ O.Refused n → Performs img (call_of q) r (reply_of o) r
+  pub early_refused : {o : Outcome} {n : Refusal} (r : Rows) → o ≡ refusal_of img q → o ≡ Err n → Performs img (call_of q) r (reply_of o) r
   early_refused {o} r e f s w = let x = perform_is s o (sym e) in rw (x, f) (record { reply_is = refl; holds = w })
 
-  module _ {o : Outcome} (e : o ≡ refusal_of img q) (f : o ≡ O.Done) (x : Outcome) (before after : Rows)
+  module _ {o : Outcome} (e : o ≡ refusal_of img q) (f : o ≡ (Ok tt)) (x : Outcome) (before after : Rows)
       (k : Steps img (λ s. transition img q.reactor q.mode q.reset (of_global q.c) s) before x after) where
     -- done: the rows after it
-    pub performs_done : x ≡ O.Done → Performs img (call_of q) before (reply_of x) after
-    performs_done d s w = rw (perform_is s O.Done (sym e ∙ f), d) (go (transition img q.reactor q.mode q.reset (of_global q.c) s) (k s w))
+    pub performs_done : x ≡ (Ok tt) → Performs img (call_of q) before (reply_of x) after
+    performs_done d s w = rw (perform_is s (Ok tt) (sym e ∙ f), d) (go (transition img q.reactor q.mode q.reset (of_global q.c) s) (k s w))
       where
         go : (a : Step) → After img a x after → Answers img (settle s a) ok after
         go (done t) y = record { reply_is = refl; holds = y.1 }
         go (refused n) y = not_both (sym d ∙ y)
 
     -- refused: the rows as they were
-    pub performs_refused : {n : Refusal} {back : Rows} → back ≡ before → x ≡ O.Refused n → Performs img (call_of q) before (reply_of x) back
+    pub performs_refused : {n : Refusal} {back : Rows} → back ≡ before → x ≡ Err n → Performs img (call_of q) before (reply_of x) back
     performs_refused {n} {back} b d s w =
-        rw (perform_is s O.Done (sym e ∙ f), d) (go (transition img q.reactor q.mode q.reset (of_global q.c) s) (k s w))
+        rw (perform_is s (Ok tt) (sym e ∙ f), d) (go (transition img q.reactor q.mode q.reset (of_global q.c) s) (k s w))
       where
         go : (a : Step) → After img a x after → Answers img (settle s a) (refusal n) back
         go (done t) y = not_both (sym y.0 ∙ d)
         go (refused m) y = record { reply_is = ap (λ o. reply_of o) (sym d ∙ y); holds = rw b w }
+
+-- the code's outcome, by its test
+pub outcome_ok : (o : Outcome) → is_err o ≡ false → o ≡ Ok tt
+outcome_ok (Ok u) e = refl
+outcome_ok (Err n) e = absurd (yes_no refl e)
+
+pub outcome_err : (o : Outcome) → is_err o ≡ true → (n : Refusal) × (o ≡ Err n)
+outcome_err (Ok u) e = absurd (yes_no e refl)
+outcome_err (Err n) e = (n, refl)
 
 -- ---- steps 3 to 5
 
@@ -194,11 +195,3 @@ unfolding T.turns_on
 turns_steps img p set r m o after k s w =
     subst (λ l. After img (all_turns img p s >>= λ t. T.step4 img (of_global p.c) l t >>= restarts_on img p) o after)
     (sym (firsts_are img p r.scopes set s m (shows img s r w))) (k s w)
-
--- ---- step 1 and then those
-
-pub reset_steps : (img : Image) (p : Plan) (a b : Rows) → Resets img p a b → (o : Outcome) (after : Rows) → Steps img (turns_on img p) b o after → Steps img (steps_on img p) a o after
-reset_steps img p a b h o after k s w = k _ (h s w)
-
-pub reset_held : (img : Image) (p : Plan) (a b : Rows) → Resets img p a b → Held img a → Held img b
-reset_held img p a b h k = record { state = _; holds = h k.state k.holds }

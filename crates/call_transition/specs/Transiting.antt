@@ -1,9 +1,7 @@
 -- A transition in the parts that the code takes it in. Assumes nothing.
-use Rattle.std.specs.Prelude.{cond, ◌&&◌, List, ℕ, ltb, eqb}
+use Rattle.std.specs.Prelude.{cond, ◌&&◌, List, ℕ, ltb, eqb, Ok, Err}
 use Rattle.lists.specs.Walk.{◌>>=◌}
 use Rattle.refusals.specs.declared.Refusal.TheVariants as R
-use Rattle.refusals.specs.declared.Outcome.{Outcome}
-use Rattle.refusals.specs.declared.Outcome.TheVariants as O
 use Rattle.table_rows.specs.Bytes.{Image}
 use Rattle.table_rows.specs.Rows.{mode_reactor}
 use Rattle.tags.specs.Tags.{within}
@@ -13,6 +11,7 @@ use Rattle.machine.specs.State.{State}
 use Rattle.machine.specs.Transition as T
 use Rattle.machine.specs.Transition.{Step}
 use Rattle.machine.specs.Machine.{Call, transit}
+use Rattle.state_room.specs.Holds.{Outcome}
 use Rattle.call_transition_plan.specs.declared.Plan.{Plan}
 use Rattle.call_transition_plan.specs.declared.Request.{Request}
 use Rattle.call_transition_plan.specs.Plans.{plan_in}
@@ -26,8 +25,8 @@ call_of q = transit q.reactor q.mode q.reset (of_global q.c)
 unfoldable pub refusal_of : Image → Request → Outcome
 refusal_of img q =
     cond (ltb q.reactor (reactors img) && ltb q.mode (modes img))
-    (cond (eqb (mode_reactor img q.mode) q.reactor) (cond (within (of_global q.c)) O.Done (O.Refused R.ArgumentTag)) (O.Refused R.TargetMode))
-    (O.Refused R.Key)
+    (cond (eqb (mode_reactor img q.mode) q.reactor) (cond (within (of_global q.c)) (Ok tt) (Err R.ArgumentTag)) (Err R.TargetMode))
+    (Err R.Key)
 
 -- steps 4 and 5, for the first-time scopes of a set
 abbrev pub starts_on : Image → Plan → List ℕ → State → Step

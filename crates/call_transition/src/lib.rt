@@ -7,129 +7,62 @@ ghost use Rattle.std.specs.Prelude.{◌≡◌, ◌&&◌, ◌+◌, ◌≤◌, ltb
 ghost use Rattle.std.proofs.Math.Seq.{paste};
 ghost use Rattle.machine.specs.Table.{reactors, modes as modes_in};
 ghost use Rattle.state_room.specs.PartRows.{spare_room};
-ghost use Rattle.state_room.specs.Holds.{rows, Held, Steps, Performs, reply_of};
+ghost use Rattle.state_room.specs.Holds.{rows_of, Held, Steps, Performs, reply_of};
 ghost use Rattle.call_transition_plan.specs.Plans.{Inner};
-ghost use Rattle.call_transition.specs.Transiting.{call_of, refusal_of, starts_on, turns_on, steps_on};
+ghost use Rattle.call_transition.specs.Transiting.{call_of, refusal_of, turns_on, steps_on};
 ghost use Rattle.call_transition.specs.Saving.{Few, Fit, fronts_of, saved_in};
 
 use call_transition_plan::{Plan, Request};
-use key_set::KeySet;
-use refusals::{Outcome, Refusal};
-use state_room::{Ledger, Stepped};
-use store_words::{BucketRows, ValueRows};
+use refusals::Refusal;
+use state_room::{Ledger, Room};
+use tags::Scale;
 
 // ---- refusals before anything changes
 
 fn is_known(image: &[u8], request: Request) -> bool
     ensures { result ≡ (ltb request.reactor (reactors image.now) && ltb request.mode (modes_in image.now)) }
 {
-    let reactors = table_rows::count(image, table_rows::REACTOR);
-    let modes = table_rows::count(image, table_rows::MODE);
-    if request.reactor < reactors {
-        return request.mode < modes;
-    }
-    false
+    request.reactor < table_rows::count(image, table_rows::REACTOR)
+        && request.mode < table_rows::count(image, table_rows::MODE)
 }
 
 // 5, 10, 6, in this order.
-fn refusal_of(image: &[u8], request: Request) -> Outcome
+fn refusal_of(image: &[u8], request: Request) -> Result<(), Refusal>
     ensures { result ≡ refusal_of image.now request }
 {
-    let c = request.c;
     if !is_known(image, request) {
-        return Outcome::Refused(Refusal::Key);
+        return Err(Refusal::Key);
     }
-    let owner = table_rows::mode_reactor(image, request.mode);
-    if owner != request.reactor {
-        return Outcome::Refused(Refusal::TargetMode);
+    if table_rows::mode_reactor(image, request.mode) != request.reactor {
+        return Err(Refusal::TargetMode);
     }
-    if !c.within() {
-        return Outcome::Refused(Refusal::ArgumentTag);
+    if !request.c.within() {
+        return Err(Refusal::ArgumentTag);
     }
-    Outcome::Done
+    Ok(())
 }
 
 // ---- the steps
 
-// The scopes that are active for the first time, and the plan.
-#[derive(Clone, Copy)]
-struct Beginning {
-    first: KeySet,
-    plan: Plan,
-}
-
-// Steps 4 and 5.
-fn begin(
-    image: &[u8],
-    scopes: &[u64; state_scopes::ROOM],
-    events: &mut [u64; state_events::ROOM],
-    values: &mut ValueRows,
-    buckets: &mut BucketRows,
-    ledger: Ledger,
-    b: Beginning,
-) -> Stepped
-    requires { Held image.now (rows scopes.now events.old values.old buckets.old ledger) }
-    ensures { Steps image.now (starts_on image.now b.plan b.first.words) (rows scopes.now events.old values.old buckets.old ledger) result.outcome (rows scopes.now events.new values.new buckets.new result.ledger) }
-{
-    let first = b.first;
-    let plan = b.plan;
-    let s = call_transition_events::startups(
-        image, scopes, events, values, buckets, ledger, first, plan,
-    );
-    let o = s.outcome;
-    let next = s.ledger;
-    match o {
-        Outcome::Done => call_transition_events::restarts(
-            image, scopes, events, values, buckets, next, plan,
-        ),
-        Outcome::Refused(_) => s,
-    }
-}
-
 // Steps 3 to 5. Which scopes are active for the first time is asked before step 3.
-fn turns_on(
-    image: &[u8],
-    scopes: &mut [u64; state_scopes::ROOM],
-    events: &mut [u64; state_events::ROOM],
-    values: &mut ValueRows,
-    buckets: &mut BucketRows,
-    ledger: Ledger,
-    plan: Plan,
-) -> Stepped
-    requires { Held image.now (rows scopes.old events.old values.old buckets.old ledger) }
-    ensures { Steps image.now (turns_on image.now plan) (rows scopes.old events.old values.old buckets.old ledger) result.outcome (rows scopes.new events.new values.new buckets.new result.ledger) }
+fn turns_on(image: &[u8], room: &mut Room, plan: Plan) -> Result<(), Refusal>
+    requires { Held image.now (rows_of room.old) }
+    ensures { Steps image.now (turns_on image.now plan) (rows_of room.old) result (rows_of room.new) }
 {
-    let first = call_transition_events::firsts(image, scopes, plan);
-    let t = call_transition_scopes::turn_scopes(
-        image, scopes, events, values, buckets, ledger, plan,
-    );
-    let o = t.outcome;
-    let next = t.ledger;
-    match o {
-        Outcome::Done => {
-            let b = Beginning { first, plan };
-            begin(image, scopes, events, values, buckets, next, b)
-        }
-        Outcome::Refused(_) => t,
-    }
+    let first = call_transition_events::firsts(image, &room.scopes, plan);
+    call_transition_scopes::turn_scopes(image, room, plan)?;
+    call_transition_events::startups(image, room, first, plan)?;
+    call_transition_events::restarts(image, room, plan)
 }
 
 // All steps but the modes, which are the plan's.
-fn steps(
-    image: &[u8],
-    scopes: &mut [u64; state_scopes::ROOM],
-    events: &mut [u64; state_events::ROOM],
-    values: &mut ValueRows,
-    buckets: &mut BucketRows,
-    ledger: Ledger,
-    plan: Plan,
-) -> Stepped
+fn steps(image: &[u8], room: &mut Room, plan: Plan) -> Result<(), Refusal>
     requires inner { Inner image.now plan }
-    requires held { Held image.now (rows scopes.old events.old values.old buckets.old ledger) }
-    ensures { Steps image.now (steps_on image.now plan) (rows scopes.old events.old values.old buckets.old ledger) result.outcome (rows scopes.new events.new values.new buckets.new result.ledger) }
+    requires held { Held image.now (rows_of room.old) }
+    ensures { Steps image.now (steps_on image.now plan) (rows_of room.old) result (rows_of room.new) }
 {
-    let next = call_transition_resets::reset(image, scopes, events, values, buckets, ledger, plan);
-    turns_on(image, scopes, events, values, buckets, next, plan)
+    call_transition_resets::reset(image, room, plan);
+    turns_on(image, room, plan)
 }
 
 // ---- the rows as given
@@ -147,14 +80,12 @@ fn fronts_of(image: &[u8], ledger: Ledger) -> Fronts
     requires { Few image.now ledger }
     ensures { (result ≡ fronts_of image.now ledger) × Fit result }
 {
-    let n = table_rows::count(image, table_rows::SCOPE);
-    let counts = ledger.counts;
-    let held = ledger.held;
+    let n = table_rows::count(image, table_rows::SCOPE) as usize;
     Fronts {
-        scopes: n as usize * state_scopes::SCOPE_WORDS,
-        events: counts.waiting * state_events::SLOT_WORDS,
-        values: held.values * store_words::VALUE_WORDS,
-        buckets: held.buckets * store_words::BUCKET_WORDS,
+        scopes: n * state_scopes::SCOPE_WORDS,
+        events: ledger.counts.waiting * state_events::SLOT_WORDS,
+        values: ledger.held.values * store_words::VALUE_WORDS,
+        buckets: ledger.held.buckets * store_words::BUCKET_WORDS,
     }
 }
 
@@ -163,106 +94,68 @@ fn copy(to: &mut [u64], at: usize, from: &[u64], start: usize, n: usize)
     requires { (at + n ≤ length to.old) × (start + n ≤ length from.now) }
     ensures { to.new ≡ paste to.old at (drop start from.now) n }
 {
-    let mut i: usize = 0;
-    while i < n {
-        to[at + i] = from[start + i];
-        i += 1;
-    }
+    to[at..at + n].copy_from_slice(&from[start..start + n]);
 }
 
 // The rows in use, one part behind the other.
-fn save(
-    image: &[u8],
-    scopes: &[u64; state_scopes::ROOM],
-    events: &[u64; state_events::ROOM],
-    values: &ValueRows,
-    buckets: &BucketRows,
-    ledger: Ledger,
-    spare: &mut [u64],
-)
-    requires held { Held image.now (rows scopes.now events.now values.now buckets.now ledger) }
+fn save(image: &[u8], room: &Room, spare: &mut [u64])
+    requires held { Held image.now (rows_of room.now) }
     requires spare_room_in_bounds { spare_room ≤ length spare.old }
-    ensures { saved_in (fronts_of image.now ledger) ledger spare.new ≡ rows scopes.now events.now values.now buckets.now ledger }
+    ensures { saved_in (fronts_of image.now room.now.ledger) room.now.ledger spare.new ≡ rows_of room.now }
 {
-    let f = fronts_of(image, ledger);
+    let f = fronts_of(image, room.ledger);
     let a = f.scopes;
     let b = a + f.events;
     let c = b + f.values;
-    copy(spare, 0, scopes, 0, f.scopes);
-    copy(spare, a, events, 0, f.events);
-    copy(spare, b, values, 0, f.values);
-    copy(spare, c, buckets, 0, f.buckets);
+    copy(spare, 0, &room.scopes, 0, f.scopes);
+    copy(spare, a, &room.events, 0, f.events);
+    copy(spare, b, &room.values, 0, f.values);
+    copy(spare, c, &room.buckets, 0, f.buckets);
 }
 
-// What was saved, and blanks behind it.
-fn put_back(
-    image: &[u8],
-    scopes: &mut [u64; state_scopes::ROOM],
-    events: &mut [u64; state_events::ROOM],
-    values: &mut ValueRows,
-    buckets: &mut BucketRows,
-    ledger: Ledger,
-    spare: &[u64],
-)
+// What was saved, and blanks behind it, under the ledger of then.
+fn put_back(image: &[u8], room: &mut Room, ledger: Ledger, spare: &[u64])
     requires { Few image.now ledger × (spare_room ≤ length spare.now) }
-    ensures { rows scopes.new events.new values.new buckets.new ledger ≡ saved_in (fronts_of image.now ledger) ledger spare.now }
+    ensures { rows_of room.new ≡ saved_in (fronts_of image.now ledger) ledger spare.now }
 {
     let f = fronts_of(image, ledger);
     let a = f.scopes;
     let b = a + f.events;
     let c = b + f.values;
-    let mut scope_words = [0u64; state_scopes::ROOM];
-    let mut event_words = [0u64; state_events::ROOM];
-    let mut value_words: ValueRows = [0; store_words::ROOM_FOR_ENTRIES * store_words::VALUE_WORDS];
-    let mut bucket_words: BucketRows = [0; store_words::ROOM_FOR_ENTRIES
-        * store_words::BUCKET_WORDS];
-    copy(&mut scope_words, 0, spare, 0, f.scopes);
-    copy(&mut event_words, 0, spare, a, f.events);
-    copy(&mut value_words, 0, spare, b, f.values);
-    copy(&mut bucket_words, 0, spare, c, f.buckets);
-    *scopes = scope_words;
-    *events = event_words;
-    *values = value_words;
-    *buckets = bucket_words;
+    room.scopes = [0; state_scopes::ROOM];
+    room.events = [0; state_events::ROOM];
+    room.values = [0; store_words::ROOM_FOR_ENTRIES * store_words::VALUE_WORDS];
+    room.buckets = [0; store_words::ROOM_FOR_ENTRIES * store_words::BUCKET_WORDS];
+    room.ledger = ledger;
+    copy(&mut room.scopes, 0, spare, 0, f.scopes);
+    copy(&mut room.events, 0, spare, a, f.events);
+    copy(&mut room.values, 0, spare, b, f.values);
+    copy(&mut room.buckets, 0, spare, c, f.buckets);
 }
 
 // ---- the transition
 
-// The spare's content, before and after, is nobody's.
-
+// Done, or refused and all as it was. The spare's content, before and after, is nobody's.
 pub fn apply_transition(
     image: &[u8],
-    scopes: &mut [u64; state_scopes::ROOM],
-    events: &mut [u64; state_events::ROOM],
-    values: &mut ValueRows,
-    buckets: &mut BucketRows,
+    room: &mut Room,
     spare: &mut [u64],
-    ledger: Ledger,
     request: Request,
-) -> Stepped
-    requires held { Held image.now (rows scopes.old events.old values.old buckets.old ledger) }
+) -> Result<(), Refusal>
+    requires held { Held image.now (rows_of room.old) }
     requires spare_room_in_bounds { spare_room ≤ length spare.old }
-    ensures { Performs image.now (call_of request) (rows scopes.old events.old values.old buckets.old ledger) (reply_of result.outcome) (rows scopes.new events.new values.new buckets.new result.ledger) }
+    ensures { Performs image.now (call_of request) (rows_of room.old) (reply_of result) (rows_of room.new) }
 {
-    let o = refusal_of(image, request);
-    match o {
-        Outcome::Refused(_) => Stepped { outcome: o, ledger },
-        Outcome::Done => {
-            let modes = ledger.modes;
-            let p = call_transition_plan::plan_of(image, &modes, request);
-            save(image, scopes, events, values, buckets, ledger, spare);
-            let after = p.modes;
-            let mut next = ledger;
-            next.modes = after;
-            let r = steps(image, scopes, events, values, buckets, next, p);
-            let outcome = r.outcome;
-            match outcome {
-                Outcome::Done => r,
-                Outcome::Refused(_) => {
-                    put_back(image, scopes, events, values, buckets, ledger, spare);
-                    Stepped { outcome, ledger }
-                }
-            }
-        }
+    refusal_of(image, request)?;
+    let given = room.ledger;
+    let plan = call_transition_plan::plan_of(image, &given.modes, request);
+    save(image, room, spare);
+    // Stays: tried `room.ledger.modes = plan.modes`, and the check has no proof yet of an array that goes from one field straight into another.
+    let modes = plan.modes;
+    room.ledger.modes = modes;
+    let outcome = steps(image, room, plan);
+    if outcome.is_err() {
+        put_back(image, room, given, spare);
     }
+    outcome
 }

@@ -3,6 +3,8 @@ use mathlib.Core.Bool.{Bool, true, false, cond, not, ◌&&◌, ◌||◌}
 use mathlib.Core.Path.{◌≡◌, refl, ap, ◌∙◌, sym}
 use mathlib.Core.List.{List, [], ◌∷◌}
 use Prim.Native.Nat.{ℕ, ◌+◌, ◌≤◌, ◌<◌}
+use Rattle.std.specs.Prelude.{Ok, Err}
+use Rattle.std.specs.Prelude as code
 use native.Mathlib.Nat.{sub-zero}
 use native.Mathlib.Omega.{arith}
 use lib.Dec.{leb, eqb}
@@ -15,8 +17,6 @@ use Rattle.lists.specs.Every.{by_test}
 use Rattle.lists.specs.Walk.{done, refused, ◌>>=◌, walk}
 use Rattle.refusals.specs.declared.Refusal.{Refusal}
 use Rattle.refusals.specs.declared.Refusal.TheVariants as R
-use Rattle.refusals.specs.declared.Outcome.{Outcome}
-use Rattle.refusals.specs.declared.Outcome.TheVariants as O
 use Rattle.table_rows.specs.Bytes.{Image}
 use Rattle.table_rows.specs.Limits.{limits}
 use Rattle.table_rows.specs.Kinds as K
@@ -27,20 +27,14 @@ use Rattle.table.specs.Rules.{timer_tag}
 use Rattle.table.proofs.TableLaws.{startup_scope_lem, reset_scope_lem, timer_action_lem, action_scope_lem}
 use Rattle.machine_rules_kept.specs.Kept.{table_is}
 use Rattle.tags.specs.Tags.{Tag, Clock, MappedAnswer, delayed, to_global, tag_only, image_of}
-use Rattle.tags.specs.Views.{of_global, delayed_global, mapped_global}
+use Rattle.tags.specs.Views.{of_global}
 use Rattle.tags.specs.declared.GlobalTag.{GlobalTag}
-use Rattle.tags.specs.declared.DelayedGlobal.{DelayedGlobal}
-use Rattle.tags.specs.declared.DelayedGlobal.TheVariants as D
-use Rattle.tags.specs.declared.MappedGlobal.{MappedGlobal}
-use Rattle.tags.specs.declared.MappedGlobal.TheVariants as M
 use Rattle.key_set.specs.declared.KeySet.{KeySet}
 use Rattle.key_set.specs.Sets.{has}
 use Rattle.table_schedule.specs.Schedule.{startups_of, resets_of, triggers_of}
 use Rattle.store.specs.Store.{pushed}
 use Rattle.store_calls.specs.declared.Changed.{Changed}
 use Rattle.store_calls.specs.Lent.{store_of, Did}
-use Rattle.state_queues.specs.declared.Accepted.{Accepted}
-use Rattle.state_queues.specs.declared.Accepted.TheVariants as A
 use Rattle.state_queues.specs.Queue.{accepted_at, accepted_in}
 use Rattle.machine.specs.Table.{scopes}
 use Rattle.machine.specs.State.{Event, State, ordinary, ever_at, tally, accepted}
@@ -49,16 +43,15 @@ use Rattle.state_events.specs.Slots as slot
 use Rattle.state_events.specs.Slots.{events_of, room_for_events}
 use Rattle.state_room.specs.declared.Counts.{Counts}
 use Rattle.state_room.specs.PartRows.{Shows}
-use Rattle.state_room.specs.Holds.{Rows, Holds, Held, Steps, steps_refused, steps_same, shows}
+use Rattle.state_room.specs.Holds.{Rows, Holds, Held, Outcome, Steps, steps_refused, steps_same, shows}
 use Rattle.state_room.specs.Parts.{Good, queue_in, store_in, push_holds, push_step, more_waits, more_step, changed}
 use Rattle.state_room.proofs.Parts.{holds_good, steps_by}
 use Rattle.call_transition_plan.specs.declared.Plan.{Plan}
 use Rattle.call_transition_plan.specs.Plans.{plan_in, Marks}
 use Rattle.call_transition_plan.proofs.PlanLaws.{map_at, marks_in}
 use Rattle.call_transition_events.specs.declared.Chosen.{Chosen}
-use Rattle.call_transition_events.specs.declared.What.TheVariants as W
 use Rattle.call_transition_events.specs.Starting.{first_time, keys_of, row_in, some_row, startups_on, value_step, event_step}
-use Rattle.call_transition_events.specs.Starting.{timers_on, resets_on, timer_step, put_step, clock_in, image_in, all_rows, startups_at}
+use Rattle.call_transition_events.specs.Starting.{timers_on, resets_on, timer_step, put_step, clock_in, image_in, all_values, all_timers, startups_at}
 
 -- ---- a walk over those rows that are chosen
 
@@ -99,32 +92,32 @@ module _ (img : Image) (a : Rows) (k : Held img a) where
   work_fits = omega (arith, k.holds.queued.work, k.holds.counted, k.holds.few, count_shorter ordinary k.state.waiting)
 
   module _ (e : Event) (es : List ℕ) {limit : ℕ} (l : limit ≡ (limits img).waiting) (o : slot.Held es (accepted_in limit counts.waiting e (events_of a.events)))
-      {q : Accepted} (p : q ≡ accepted_at limit counts.waiting) where
-    pub accept_count : {m n : ℕ} → q ≡ A.Count m → n ≡ tally e counts.work →
-        Steps img (λ s. accepted img s e) a O.Done (changed a es a.values a.buckets (record { waiting = m; work = n }) a.ledger.held)
+      {q : code.Result ℕ Refusal} (p : q ≡ accepted_at limit counts.waiting) where
+    pub accept_count : {m n : ℕ} → q ≡ Ok m → n ≡ tally e counts.work →
+        Steps img (λ s. accepted img s e) a (Ok tt) (changed a es a.values a.buckets (record { waiting = m; work = n }) a.ledger.held)
     accept_count {m} {n} f h =
         by_test (leb limit counts.waiting)
-        (λ t. absurd (let r : A.Count m ≡ A.Refused R.Waiting = sym f ∙ p ∙ rw t in let z : ◌≡◌ {A = ℕ} 0 1 = cc in omega arith))
+        (λ t. absurd (let r : Ok m ≡ Err R.Waiting = sym f ∙ p ∙ rw t in let z : ◌≡◌ {A = ℕ} 0 1 = cc in omega arith))
         λ t.
-        let r : A.Count m ≡ A.Count (counts.waiting + 1) = sym f ∙ p ∙ rw t in
+        let r : Ok m ≡ Ok (counts.waiting + 1) = sym f ∙ p ∙ rw t in
         let i : m ≡ counts.waiting + 1 = cc in
         let g = held_good in
         let w : counts.waiting < (limits img).waiting = rw l at (leb-false limit counts.waiting t) in
         let last = rw t at o in
         let c : Counts = record { waiting = m; work = n } in
-        steps_by img (λ s. accepted img s e) a O.Done es a.values a.buckets c a.ledger.held
+        steps_by img (λ s. accepted img s e) a (Ok tt) es a.values a.buckets c a.ledger.held
         (record { waits = more_waits _ _ g.waits e es last img w c i h; keeps = g.keeps })
         (λ s v. more_step _ _ g.waits e es last img w c i h (store_in s a.values a.buckets a.ledger.held))
 
-    pub accept_refused : {x : Refusal} (b : Rows) → q ≡ A.Refused x → Steps img (λ s. accepted img s e) a (O.Refused x) b
+    pub accept_refused : {x : Refusal} (b : Rows) → q ≡ Err x → Steps img (λ s. accepted img s e) a (Err x) b
     unfolding accepted
     accept_refused {x} b f =
         by_test (leb limit counts.waiting)
         (λ t.
-        let r : A.Refused x ≡ A.Refused R.Waiting = sym f ∙ p ∙ rw t in
+        let r : Err x ≡ Err R.Waiting = sym f ∙ p ∙ rw t in
         let i : R.Waiting ≡ x = cc in
         steps_refused img (λ s. accepted img s e) a b λ s h. rw (← h.queued.waiting, ← l, t) (ap refused i))
-        (λ t. absurd (let r : A.Refused x ≡ A.Count (counts.waiting + 1) = sym f ∙ p ∙ rw t in let z : ◌≡◌ {A = ℕ} 0 1 = cc in omega arith))
+        (λ t. absurd (let r : Err x ≡ Ok (counts.waiting + 1) = sym f ∙ p ∙ rw t in let z : ◌≡◌ {A = ℕ} 0 1 = cc in omega arith))
 
 -- ---- lists of rows
 
@@ -157,7 +150,7 @@ module _ (img : Image) where
     there = of_global f.there
 
     module _ (j : ℕ) where
-      pub value_none : has chosen (startup_scope img j) ≡ false → Steps img (λ s. value_step img f s j) a O.Done a
+      pub value_none : has chosen (startup_scope img j) ≡ false → Steps img (λ s. value_step img f s j) a (Ok tt) a
       unfolding value_step
       value_none e s k = rw e (refl, k)
 
@@ -167,7 +160,7 @@ module _ (img : Image) where
       value_held o b e q h s k = rw (e, ← q) (h s k)
 
     module _ (i : ℕ) where
-      pub event_none : has chosen i ≡ false → Steps img (λ s. event_step img f s i) a O.Done a
+      pub event_none : has chosen i ≡ false → Steps img (λ s. event_step img f s i) a (Ok tt) a
       unfolding event_step
       event_none e s k = rw e (refl, k)
 
@@ -193,22 +186,22 @@ module _ (img : Image) where
     walk_startups x s =
         let f : Chosen = record { set = first; there = x } in
         rw (walk_keep (λ t j. held img (startup_action img j) (of_global x) t) asked rows s)
-        (bind_same (all_rows img W.Value f s) _ _ (walk_keep (λ u i. accepted img u (plain_event (of_global x) (startups_of img i))) (has first.words) (from 0 (scopes img))))
+        (bind_same (all_values img f s) _ _ (walk_keep (λ u i. accepted img u (plain_event (of_global x) (startups_of img i))) (has first.words) (from 0 (scopes img))))
 
     module _ (p : Plan) (a : Rows) where
-      pub startups_none : some_row img K.startup first.words ≡ false → Steps img (startups_on img p first.words) a O.Done a
+      pub startups_none : some_row img K.startup first.words ≡ false → Steps img (startups_on img p first.words) a (Ok tt) a
       unfolding step4
       startups_none e s k = rw (startup_rows_lem k.table, some_is asked _ _ rows, e) (refl, k)
 
-      module _ (e : some_row img K.startup first.words ≡ true) {d : DelayedGlobal} (h : delayed_global d ≡ delayed (of_global p.c)) (b : Rows) where
-        pub startups_refused : {x : Refusal} → d ≡ D.Refused x → Steps img (startups_on img p first.words) a (O.Refused x) b
+      module _ (e : some_row img K.startup first.words ≡ true) (b : Rows) where
+        pub startups_refused : {x : Refusal} → refused x ≡ delayed (of_global p.c) → Steps img (startups_on img p first.words) a (Err x) b
         unfolding step4
-        startups_refused q s k = rw (startup_rows_lem k.table, some_is asked _ _ rows, e, ← h, q) refl
+        startups_refused q s k = rw (startup_rows_lem k.table, some_is asked _ _ rows, e, ← q) refl
 
-        pub startups_all : {x : GlobalTag} (o : Outcome) → d ≡ D.Tag x → Steps img (startups_at img (record { set = first; there = x })) a o b →
+        pub startups_all : {x : GlobalTag} (o : Outcome) → done (of_global x) ≡ delayed (of_global p.c) → Steps img (startups_at img (record { set = first; there = x })) a o b →
             Steps img (startups_on img p first.words) a o b
         unfolding step4
-        startups_all {x} o q r s k = rw (startup_rows_lem k.table, some_is asked _ _ rows, e, ← h, q, walk_startups) (r s k)
+        startups_all {x} o q r s k = rw (startup_rows_lem k.table, some_is asked _ _ rows, e, ← q, walk_startups) (r s k)
 
   -- the machine's first-time scopes, where its marks are the rows'
   pub firsts_are : (p : Plan) (ws set : List ℕ) (s : State) → Marks (first_time p.now.words ws) (scopes img) set → Shows s ws →
@@ -234,7 +227,7 @@ module _ (img : Image) where
     timer_event_lem g e f k l = rw (k, l, f, e)
 
     module _ (set : List ℕ) (a : Rows) where
-      pub timer_none : has set (timer_scope img j) ≡ false → Steps img (λ s. timer_step img set s j) a O.Done a
+      pub timer_none : has set (timer_scope img j) ≡ false → Steps img (λ s. timer_step img set s j) a (Ok tt) a
       unfolding timer_step
       timer_none e s k = rw e (refl, k)
 
@@ -243,15 +236,15 @@ module _ (img : Image) where
       same_image s k =
           ap (λ x. image_of x.clock (timer_tag img j)) (sym (shows img s a k (timer_scope img j)))
 
-      module _ (e : has set (timer_scope img j) ≡ true) {m : MappedGlobal} (h : tag_only (mapped_global m) ≡ image_in img a.scopes j) (b : Rows) where
-        pub timer_refused : {x : Refusal} → m ≡ M.Refused x → Steps img (λ s. timer_step img set s j) a (O.Refused x) b
+      module _ (e : has set (timer_scope img j) ≡ true) (b : Rows) where
+        pub timer_refused : {x : Refusal} → refused x ≡ image_in img a.scopes j → Steps img (λ s. timer_step img set s j) a (Err x) b
         unfolding timer_step timer
-        timer_refused q s k = rw (e, same_image s k, ← h, q) refl
+        timer_refused q s k = rw (e, same_image s k, ← q) refl
 
-        pub timer_put : {g : GlobalTag} {held : Bool} {x : Event} (o : Outcome) → m ≡ M.Tag g held → x ≡ timer_event img j (of_global g) → Steps img (put_step img x) a o b →
+        pub timer_put : {g : GlobalTag} {x : Event} (o : Outcome) → done (of_global g) ≡ image_in img a.scopes j → x ≡ timer_event img j (of_global g) → Steps img (put_step img x) a o b →
             Steps img (λ s. timer_step img set s j) a o b
         unfolding timer_step timer put_step timer_event
-        timer_put o q f r s k = rw (e, same_image s k, ← h, q) (let z = r s k in rw f at z)
+        timer_put o q f r s k = rw (e, same_image s k, ← q) (let z = r s k in rw f at z)
 
   module _ (p : Plan) (a : Rows) where
     abbrev inside : List ℕ
@@ -260,7 +253,7 @@ module _ (img : Image) where
     at_row : (i : ℕ) → i < scopes img → get_or (plan_in img p).inside i false ≡ has inside i
     at_row i h = map_at (has inside) (scopes img) i false h
 
-    pub timers_are : (o : Outcome) (b : Rows) → Steps img (all_rows img W.Timer (record { set = p.inside; there = p.c })) a o b → Steps img (timers_on img p) a o b
+    pub timers_are : (o : Outcome) (b : Rows) → Steps img (all_timers img inside) a o b → Steps img (timers_on img p) a o b
     unfolding timer_rows timer_step
     timers_are o b h =
         let asked : ℕ → Bool = λ j. has inside (timer_scope img j) in
@@ -278,16 +271,16 @@ module _ (img : Image) where
     unfolding reset_rows
     reset_rows_lem t = keep_same _ marked (count img K.reset) λ j h. at_row (reset_scope img j) (reset_scope_lem img (table_is img t) j h)
 
-    pub resets_none : some_row img K.reset inside ≡ false → Steps img (resets_on img p) a O.Done a
+    pub resets_none : some_row img K.reset inside ≡ false → Steps img (resets_on img p) a (Ok tt) a
     unfolding reset_event
     resets_none e s k = rw (reset_rows_lem k.table, some_is marked _ _ (from 0 (count img K.reset)), e) (refl, k)
 
-    module _ (e : some_row img K.reset inside ≡ true) {d : DelayedGlobal} (h : delayed_global d ≡ delayed (of_global p.c)) (b : Rows) where
-      pub resets_refused : {x : Refusal} → d ≡ D.Refused x → Steps img (resets_on img p) a (O.Refused x) b
+    module _ (e : some_row img K.reset inside ≡ true) (b : Rows) where
+      pub resets_refused : {x : Refusal} → refused x ≡ delayed (of_global p.c) → Steps img (resets_on img p) a (Err x) b
       unfolding reset_event
-      resets_refused q s k = rw (reset_rows_lem k.table, some_is marked _ _ (from 0 (count img K.reset)), e, ← h, q) refl
+      resets_refused q s k = rw (reset_rows_lem k.table, some_is marked _ _ (from 0 (count img K.reset)), e, ← q) refl
 
-      pub resets_made : {x : GlobalTag} {ks : List ℕ} {v : Event} (o : Outcome) → d ≡ D.Tag x → ks ≡ resets_of img p.target → v ≡ plain_event (of_global x) ks →
+      pub resets_made : {x : GlobalTag} {ks : List ℕ} {v : Event} (o : Outcome) → done (of_global x) ≡ delayed (of_global p.c) → ks ≡ resets_of img p.target → v ≡ plain_event (of_global x) ks →
           Steps img (λ s. accepted img s v) a o b → Steps img (resets_on img p) a o b
       unfolding reset_event
-      resets_made o q f g r s k = rw (reset_rows_lem k.table, some_is marked _ _ (from 0 (count img K.reset)), e, ← h, q, ← f, ← g) (r s k)
+      resets_made o q f g r s k = rw (reset_rows_lem k.table, some_is marked _ _ (from 0 (count img K.reset)), e, ← q, ← f, ← g) (r s k)

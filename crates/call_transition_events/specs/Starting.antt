@@ -18,8 +18,6 @@ use Rattle.state_scopes.specs.Scopes.{scopes_of, blank}
 use Rattle.call_transition_plan.specs.declared.Plan.{Plan}
 use Rattle.call_transition_plan.specs.Plans.{plan_in}
 use Rattle.call_transition_events.specs.declared.Chosen.{Chosen}
-use Rattle.call_transition_events.specs.declared.What.{What}
-use Rattle.call_transition_events.specs.declared.What.TheVariants as W
 
 -- a scope is active now and never was before
 abbrev pub first_time : List ℕ → List ℕ → ℕ → Bool
@@ -77,20 +75,15 @@ image_in img ws j = image_of (clock_in ws (timer_scope img j)) (timer_tag img j)
 
 -- ---- row by row
 
--- the rows that start it, one row's part, all of them
-abbrev pub kind_over : What → ℕ
-kind_over W.Value = K.startup
-kind_over W.Event = K.scope
-kind_over W.Timer = K.timer
+abbrev pub all_values : Image → Chosen → State → Step
+all_values img f s = walk (value_step img f) s (from 0 (count img K.startup))
 
-abbrev pub row_step : Image → What → Chosen → State → ℕ → Step
-row_step img W.Value f = value_step img f
-row_step img W.Event f = event_step img f
-row_step img W.Timer f = timer_step img f.set.words
+abbrev pub all_events : Image → Chosen → State → Step
+all_events img f s = walk (event_step img f) s (from 0 (count img K.scope))
 
-abbrev pub all_rows : Image → What → Chosen → State → Step
-all_rows img w f s = walk (row_step img w f) s (from 0 (count img (kind_over w)))
+abbrev pub all_timers : Image → List ℕ → State → Step
+all_timers img set s = walk (timer_step img set) s (from 0 (count img K.timer))
 
 -- all values, then all events
 abbrev pub startups_at : Image → Chosen → State → Step
-startups_at img f s = all_rows img W.Value f s >>= all_rows img W.Event f
+startups_at img f s = all_values img f s >>= all_events img f

@@ -2,7 +2,7 @@
 // What the steps must know of the table and the modes comes in here, in `Plan` and `Planned`; they take it by value and work nothing out twice.
 #![tactic(auto)]
 
-ghost use Rattle.std.specs.Prelude.{◌≡◌, true, ◌&&◌, map, ◌≤◌, ◌<◌, length};
+ghost use Rattle.std.specs.Prelude.{◌≡◌, Bool, true, ◌&&◌, ℕ, map, ◌≤◌, ◌<◌, length};
 ghost use Rattle.lists.specs.Lists.{from};
 ghost use Rattle.table_rows.specs.Lineage.{in_subtree};
 ghost use Rattle.table_schedule.specs.Schedule.{is_active};
@@ -38,31 +38,29 @@ pub struct Request {
 
 // ---- sets of scopes
 
-// The target scope's subtree, itself included.
-fn subtree(image: &[u8], target: u16) -> KeySet
-    requires { is_table image.now ≡ true }
-    ensures { Marks (in_subtree image.now target) (scopes_in image.now) result.words }
+// The scopes of the table that pass.
+pub fn scopes_where<F: Fn(u16) -> bool>(image: &[u8], passes: F) -> KeySet
+    requires image_value { is_table image.now ≡ true }
+    requires passes_callable { F.IsAlwaysCallable passes }
+    ensures { (test : ℕ → Bool) → ((i : ℕ) (b : Bool) → F.post passes i b → b ≡ test i) → Marks test (scopes_in image.now) result.words }
 {
-    let n = table_rows::count(image, table_rows::SCOPE);
     let mut set = KeySet::empty();
-    let mut i: u16 = 0;
-    while i < n {
-        let test = table_rows::in_subtree(image, target, i);
-        set = set.insert_if(test, i as usize);
-        i += 1;
+    for i in 0..table_rows::count(image, table_rows::SCOPE) {
+        set = set.insert_if(passes(i), i as usize);
     }
     set
 }
 
-// None for a history transition.
+// The target scope's subtree, itself included; none for a history transition.
 fn subtree_if(image: &[u8], reset: bool, target: u16) -> KeySet
     requires { is_table image.now ≡ true }
     ensures { Marks (λ i. reset && in_subtree image.now target i) (scopes_in image.now) result.words }
 {
     if reset {
-        return subtree(image, target);
+        scopes_where(image, |i| table_rows::in_subtree(image, target, i))
+    } else {
+        KeySet::empty()
     }
-    KeySet::empty()
 }
 
 // The scopes that are active by the modes.
@@ -70,15 +68,7 @@ fn active_scopes(image: &[u8], modes: &[u16]) -> KeySet
     requires { is_table image.now ≡ true }
     ensures { Marks (is_active image.now modes.now) (scopes_in image.now) result.words }
 {
-    let n = table_rows::count(image, table_rows::SCOPE);
-    let mut set = KeySet::empty();
-    let mut i: u16 = 0;
-    while i < n {
-        let test = table_schedule::is_active(image, modes, i);
-        set = set.insert_if(test, i as usize);
-        i += 1;
-    }
-    set
+    scopes_where(image, |i| table_schedule::is_active(image, modes, i))
 }
 
 // ---- modes
@@ -91,17 +81,13 @@ fn mode_after(image: &[u8], modes: &[u16; MOST_REACTORS], request: Request, reac
     if reactor == request.reactor {
         return request.mode;
     }
-    let at = reactor as usize;
-    let current = modes[at];
-    if !request.reset {
-        return current;
-    }
     let target = table_rows::mode_scope(image, request.mode);
     let root = table_rows::root_scope(image, reactor);
-    if table_rows::under(image, target, root) {
-        return table_rows::initial_mode(image, reactor);
+    if request.reset && table_rows::under(image, target, root) {
+        table_rows::initial_mode(image, reactor)
+    } else {
+        modes[reactor as usize]
     }
-    current
 }
 
 // The modes of the first n reactors from now on, and zeros behind them.
@@ -115,12 +101,8 @@ fn new_modes(
     ensures { result ≡ padded 0 most_reactors (map (mode_after image.now modes.now request) (from 0 n)) }
 {
     let mut out = [0u16; MOST_REACTORS];
-    let mut i: u16 = 0;
-    while i < n {
-        let mode = mode_after(image, modes, request, i);
-        let at = i as usize;
-        out[at] = mode;
-        i += 1;
+    for i in 0..n {
+        out[i as usize] = mode_after(image, modes, request, i);
     }
     out
 }
@@ -137,11 +119,9 @@ pub fn plan_of(image: &[u8], modes: &[u16; MOST_REACTORS], request: Request) -> 
     let inside = subtree_if(image, request.reset, target);
     let n = table_rows::count(image, table_rows::REACTOR);
     let after = new_modes(image, modes, request, n);
-    let end = n as usize;
-    let now = active_scopes(image, &after[..end]);
-    let c = request.c;
+    let now = active_scopes(image, &after[..n as usize]);
     Plan {
-        c,
+        c: request.c,
         target,
         inside,
         now,

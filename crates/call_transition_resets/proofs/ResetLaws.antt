@@ -12,8 +12,7 @@ use lib.Seq.{ext_get_or}
 use borrow.Author.Tests.{lt-ltb, le-ltb, le-leb, lt-leb, eq-eqb}
 use Rattle.lists.specs.Held as H
 use Rattle.lists.specs.Tests.{below?, same?, apart, lt_eqb, gt_eqb, and_no, and_yes, or_no}
-use Rattle.lists.specs.Lists.{keep, lose, count, foldl, from, lose_shorter, over}
-use Rattle.lists.specs.Loops.{lose_done}
+use Rattle.lists.specs.Lists.{keep, lose, count, foldl, from, lose_shorter}
 use Rattle.lists.specs.Lay.{lay}
 use Rattle.lists.specs.Rows.{tab, tab_length, tab_at, tab_set}
 use Rattle.lists.specs.Every.{set_self}
@@ -24,7 +23,7 @@ use Rattle.table_rows.specs.Rows.{action_scope, is_logical}
 use Rattle.table.specs.Check.{is_table}
 use Rattle.key_set.specs.Sets.{has}
 use Rattle.store_words.specs.Entries.{Value, Bucket, room_for_entries, blank_value, blank_bucket}
-use Rattle.store_words.specs.Words.{values_of, buckets_of, HeldValues, HeldBuckets, decode_value, encode_value, value_words, long_value, decode_bucket, encode_bucket, bucket_words, long_bucket}
+use Rattle.store_words.specs.Words.{values_of, buckets_of, HeldValues, HeldBuckets}
 use Rattle.store.specs.Store as S
 use Rattle.store.specs.Store.{Store, of_action, bucket_of}
 use Rattle.store_calls.specs.declared.Counts as store
@@ -170,18 +169,12 @@ module _ (img : Image) (marks : List ℕ) (vs bs : List ℕ) (h : store.Counts) 
         room = k.fits.room;
       }
 
-  pub all_cleared : {m n : ℕ} (vs-mid vs-end bs-mid bs-end : List ℕ) →
-      m ≡ length new.values → HeldValues vs-mid (over new.values (values_of vs)) → HeldValues vs-end (lay blank_value (values_of vs-mid) (take m (values_of vs-mid)) h.values) →
-      n ≡ length new.buckets → HeldBuckets bs-mid (over new.buckets (buckets_of bs)) → HeldBuckets bs-end (lay blank_bucket (buckets_of bs-mid) (take n (buckets_of bs-mid)) h.buckets) →
+  pub all_cleared : {m n : ℕ} (vs-end bs-end : List ℕ) →
+      m ≡ length new.values → HeldValues vs-end (lay blank_value (values_of vs) new.values h.values) →
+      n ≡ length new.buckets → HeldBuckets bs-end (lay blank_bucket (buckets_of bs) new.buckets h.buckets) →
       Keeps (limits img).held vs-end bs-end (record { values = m; buckets = n }) × (store_of vs-end bs-end (record { values = m; buckets = n }) ≡ new)
-  all_cleared {m} {n} vs-mid vs-end bs-mid bs-end em mv ev en mb eb =
-      let laid : Laid vs bs h new vs-end bs-end (record { values = m; buckets = n }) =
-      record {
-        values = lose_done decode_value encode_value value_words room_for_entries long_value blank_value (clears_value img marks) vs h.values m vs-mid vs-end values_few em mv ev;
-        buckets = lose_done decode_bucket encode_bucket bucket_words room_for_entries long_bucket blank_bucket (clears_bucket img marks) bs h.buckets n bs-mid bs-end buckets_few en mb eb;
-        some_values = em;
-        some_buckets = en;
-      } in
+  all_cleared {m} {n} vs-end bs-end em ev en eb =
+      let laid : Laid vs bs h new vs-end bs-end (record { values = m; buckets = n }) = record { values = ev; buckets = eb; some_values = em; some_buckets = en } in
       (laid_holds vs bs h k new vs-end bs-end _ fits laid, laid_is vs bs h k new vs-end bs-end _ fits laid)
 
 -- ---- the set as the machine's list of marks

@@ -1,5 +1,5 @@
 -- `call_perform::ask` meets its contract: by the question. Assumes nothing.
-use mathlib.Core.Path.{◌∙◌, ap}
+use Rattle.std.proofs.Common.{◌∙◌, ap}
 use Rattle.machine.specs.Machine.{perform, number}
 use Rattle.call_pop.proofs.PopLaws.{queue_is}
 use Rattle.call_perform.proofs.ask.Goals as goal
@@ -10,15 +10,6 @@ returns-in-PeekTag c =
     let w = rw (queue_is s c.args.events.now c.args.counts c.requires.waiting_le_room_for_events q) at c.requires.headed in
     rw c.in-PeekTag.is (c.peek_answer.ensures ∙ c.peek_tag.ensures s w h)
 
-pub returns-in-ControlOnly : goal.returns-in-ControlOnly
-returns-in-ControlOnly c = λ s q h. rw c.in-ControlOnly.is (c.peek_is_control_only-only.ensures s q h)
-
 pub returns-in-OrdinaryWork : goal.returns-in-OrdinaryWork
 unfolding perform
 returns-in-OrdinaryWork c = λ s q h. rw c.in-OrdinaryWork.is (ap number q.work)
-
-pub returns-in-Active : goal.returns-in-Active
-returns-in-Active c = λ s q h. rw c.in-Active.is (c.scope_answer.ensures s h)
-
-pub returns-in-EverActive : goal.returns-in-EverActive
-returns-in-EverActive c = λ s q h. rw c.in-EverActive.is (c.scope_answer-in-EverActive.ensures s h)

@@ -1,28 +1,20 @@
--- `call_pop::all_controlled` meets its contract: the first events are controlled, one more a turn. Assumes nothing.
-use mathlib.Core.Path.{refl, sym, ◌∙◌}
-use native.Mathlib.Omega.{arith}
-use borrow.Author.Rules.{rules}
-use Rattle.state_events.specs.Slots.{events_of, event_of}
+-- `call_pop::all_controlled` meets its contract. Assumes nothing.
+use Rattle.std.specs.Prelude.{◌≡◌, true, false, get_or, refl}
+use Rattle.std.specs.List.{range_with_len}
+use Rattle.std.proofs.Common.{rules, ◌∙◌, arith}
+use Rattle.std.proofs.lemmas.Iterator.{cases_from_all, YieldsList-from_range}
+use Rattle.tags.specs.Views.{of_global}
+use Rattle.machine.specs.Heads.{controlled}
+use Rattle.state_events.specs.Slots.{blank, events_of}
 use Rattle.state_events.proofs.SlotLaws.{events_long}
-use Rattle.call_pop.proofs.PopLaws.{each_pass, each_fail, each_end}
+use Rattle.call_pop.proofs.PopLaws.{all_of, every_front}
 use Rattle.call_pop.proofs.all_controlled.Goals as goal
 
-pub loop-i-init : goal.loop-i-init
-loop-i-init c = (search rules, refl)
-
-pub loop-i-preserved : goal.loop-i-preserved
-loop-i-preserved c =
-    let l = events_long c.args.events.now in (
-      search rules,
-      each_pass _ (events_of c.args.events.now) c.args.waiting c.loop-i.i (event_of c.slot_at-s.result) (search rules) (omega (arith, c.requires))
-          c.slot_at-s.ensures (sym c.is_controlled.ensures ∙ c.if-is_controlled.true) c.loop-i.invariant.1,
-    )
-
-pub returns-else-is_controlled : goal.returns-else-is_controlled
-returns-else-is_controlled c =
-    let l = events_long c.args.events.now in
-    each_fail _ (events_of c.args.events.now) c.args.waiting c.loop-i.i (event_of c.slot_at-s.result) (search rules) (omega (arith, c.requires))
-    c.slot_at-s.ensures (sym c.is_controlled.ensures ∙ c.if-is_controlled.false) c.loop-i.invariant.1
-
 pub returns : goal.returns
-returns c = each_end _ (events_of c.args.events.now) c.args.waiting c.loop-i.i (search rules) c.loop-i.invariant.1
+returns c =
+    let l = events_of c.args.events.now in
+    let p = controlled (of_global c.args.t) in
+    all_of (λ i. p (get_or l i blank)) (range_with_len 0 c.args.waiting) _
+    (cases_from_all _ _ _ (λ i. p (get_or l i blank) ≡ true) (λ i. p (get_or l i blank) ≡ false) c.all.ensures.ran (YieldsList-from_range 0 c.args.waiting c.args.waiting refl (omega arith))
+    (λ x q k. search rules) (λ x q k. search rules)) ∙
+    every_front p l blank c.args.waiting (rw events_long c.requires)

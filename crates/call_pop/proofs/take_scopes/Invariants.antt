@@ -1,4 +1,5 @@
 -- `call_pop::take_scopes` meets its contract: what is left to take makes the whole, one turn less each time. Assumes nothing.
+use Prim.Native.Nat.{◌-◌}
 use lib.ListN.{take}
 use Rattle.tags.specs.Views.{of_global}
 use Rattle.machine.specs.Heads.{take_scopes}
@@ -10,9 +11,6 @@ use Rattle.call_pop.specs.Pops.{lent}
 use Rattle.call_pop.proofs.PopLaws.{Going}
 use Rattle.call_pop.proofs.take_scopes.Given as goal
 
-abbrev pub invariant-loop-turns : goal.invariant-loop-turns
-invariant-loop-turns l = Going l.image (scopes_of l.scopes) (of_global l.t) (take_scopes l.initial.turns l.image (scopes_of l.scopes) (of_global l.t) (lent l.initial.events l.initial.out.counts)) l.initial.out l.initial.keys l.turns l.events l.keys l.out (head_of l.local) ×
+abbrev pub invariant-loop-i : goal.invariant-loop-i
+invariant-loop-i l = Going l.image (scopes_of l.scopes) (of_global l.fn.turn.tag) (take_scopes l.fn.turn.turns l.image (scopes_of l.scopes) (of_global l.fn.turn.tag) (lent l.initial.events l.initial.out.counts)) l.initial.out l.initial.keys (l.fn.turn.turns - l._i) l.events l.keys l.out (head_of l.local) ×
     Held l.heads (heads_of (take l.out.counts.waiting (events_of l.events)))
-
-abbrev pub decreases-loop-turns : goal.decreases-loop-turns
-decreases-loop-turns l = l.turns

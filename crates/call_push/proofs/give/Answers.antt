@@ -1,27 +1,23 @@
 -- `call_push::give` meets its contract. Assumes nothing.
-use mathlib.Core.Path.{◌∙◌}
-use native.Mathlib.Omega.{arith}
+use Rattle.std.proofs.Common.{◌∙◌, ap, arith}
+use Rattle.std.proofs.lemmas.Result.{err_from_is_err_and}
+use Rattle.std.specs.Prelude.{◌+◌, cond}
 use Rattle.state_events.specs.Slots.{event_of}
-use Rattle.call_push.proofs.PushLaws.{work_small, give_refused, give_full, give_done}
+use Rattle.call_push.proofs.PushLaws.{work_small, give_full, give_done, one_more, byte_small}
 use Rattle.call_push.proofs.give.Goals as goal
 
-pub tallied-requires : goal.tallied-requires
-tallied-requires c =
-    omega (arith, work_small c.args.events.now c.args.counts c.requires)
+pub overflow_add-work : goal.overflow_add-work
+overflow_add-work c = omega (arith, work_small c.args.events.now c.args.counts c.requires, c.from.ensures, byte_small c.is_ordinary.result)
 
-pub returns-in-Refused : goal.returns-in-Refused
-returns-in-Refused c =
-    give_refused c.args.events.now c.args.counts c.requires c.args.image.now c.args.made.outcome (event_of c.args.made.slot) c.in-Refused.is
+pub returns-in_err-waiting : goal.returns-in_err-waiting
+returns-in_err-waiting c =
+    let p = err_from_is_err_and c.from_residual.result c.from_residual.ensures.1 in
+    rw (p.1, p.2)
+    (give_full c.args.events.now c.args.counts c.requires c.args.image.now (event_of c.args.slot) c.most_waiting-limit.result c.most_waiting-limit.ensures c.accept.result c.accept.ensures.value
+    c.accept.new.rows c.accept.ensures.held (c.in_err-waiting.was))
 
-pub returns-in-Refused-accept : goal.returns-in-Refused-accept
-returns-in-Refused-accept c =
-    give_full c.args.events.now c.args.counts c.requires c.args.image.now c.args.made.outcome (event_of c.args.made.slot) c.in-Done.is
-    c.most_waiting-limit.result c.most_waiting-limit.ensures c.accept.result c.accept.ensures.value
-    c.accept.new.rows c.accept.ensures.held c.in-Refused-accept.is
-
-pub returns-in-Count : goal.returns-in-Count
-returns-in-Count c =
-    give_done c.args.events.now c.args.counts c.requires c.args.image.now c.args.made.outcome (event_of c.args.made.slot) c.in-Done.is
-    c.most_waiting-limit.result c.most_waiting-limit.ensures c.accept.result c.accept.ensures.value
-    c.accept.new.rows c.accept.ensures.held c.tallied.result c.in-Count.is
-    (c.tallied.ensures ∙ rw c.is_ordinary-ordinary.ensures)
+pub returns : goal.returns
+returns c =
+    give_done c.args.events.now c.args.counts c.requires c.args.image.now (event_of c.args.slot) c.most_waiting-limit.result c.most_waiting-limit.ensures c.accept.result c.accept.ensures.value
+    c.accept.new.rows c.accept.ensures.held _ (c.in_ok-waiting.was)
+    (ap (λ n. c.args.counts.work + n) c.from.ensures ∙ (one_more _ _ ∙ ap (λ b. cond b (c.args.counts.work + 1) c.args.counts.work) c.is_ordinary.ensures))

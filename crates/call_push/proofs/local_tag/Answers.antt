@@ -1,26 +1,31 @@
 -- `call_push::local_tag` meets its contract. Assumes nothing.
-use mathlib.Core.Path.{sym, ◌∙◌}
+use Rattle.std.specs.Prelude.{◌≡◌, get_or}
+use Rattle.std.proofs.lemmas.Result.{err_from_is_err_and}
 use Rattle.tags.specs.Views.{of_global}
-use Rattle.state_scopes.specs.Scopes.{scopes_of, scope_of}
+use Rattle.state_scopes.specs.Scopes.{scopes_of, scope_of, blank}
 use Rattle.call_push.proofs.PushLaws.{local_over, local_idle, local_maps, local_image}
 use Rattle.call_push.proofs.local_tag.Goals as goal
+use Rattle.call_push.proofs.local_tag.Goals.{else-s-via-then-s+else-is_err, else-s-via-else-s, After-scope_at-s}
 
-pub returns-then-maps : goal.returns-then-maps
-returns-then-maps c =
-    local_maps (scopes_of c.args.scopes.now) c.args.i (of_global c.args.t) (scope_of c.scope_at-s.result) c.scope_at-s.ensures c.to_local.result
-    c.to_local.ensures _ c.in-Tag.is c.if-s.true (sym c.maps.ensures ∙ c.if-maps.true)
+-- the scope that was read
+scope_is : (c : After-scope_at-s) → scope_of c.scope_at-s.result ≡ get_or (scopes_of c.args.scopes.now) c.args.i blank
+scope_is c = rw c.from.ensures at c.scope_at-s.ensures
 
-pub returns-then-s : goal.returns-then-s
-returns-then-s c =
-    local_image (scopes_of c.args.scopes.now) c.args.i (of_global c.args.t) (scope_of c.scope_at-s.result) c.scope_at-s.ensures c.to_local.result
-    c.to_local.ensures _ c.in-Tag.is c.if-s.true (sym c.maps.ensures ∙ c.if-maps.false)
+pub returns-in_err-x : goal.returns-in_err-x
+returns-in_err-x c =
+    let p = err_from_is_err_and c.from_residual.result c.from_residual.ensures.1 in
+    rw (p.1, p.2) (local_over (scopes_of c.args.scopes.now) c.args.i (of_global c.args.t) _ (scope_is (goal.at.returns-in_err-x c).After-scope_at-s) c.in_err-x.ensures)
 
-pub returns-in-Refused : goal.returns-in-Refused
-returns-in-Refused c =
-    local_over (scopes_of c.args.scopes.now) c.args.i (of_global c.args.t) (scope_of c.scope_at-s.result) c.scope_at-s.ensures c.to_local.result
-    c.to_local.ensures c.in-Refused.is
+pub returns-then-is_err : goal.returns-then-is_err
+returns-then-is_err c =
+    local_image (scopes_of c.args.scopes.now) c.args.i (of_global c.args.t) _ (scope_is (goal.at.returns-then-is_err c).After-scope_at-s) _ c.in_ok-x.ensures
+    c.to_global.result c.to_global.ensures c.is_err.ensures.value c.if-s.true c.if-is_err.true
 
-pub returns-else-s : goal.returns-else-s
-returns-else-s c =
-    local_idle (scopes_of c.args.scopes.now) c.args.i (of_global c.args.t) (scope_of c.scope_at-s.result) c.scope_at-s.ensures c.to_local.result
-    c.to_local.ensures _ c.in-Tag.is c.if-s.false
+pub returns : goal.returns
+returns c =
+    elim c.else-s.branch [
+      | else-s-via-then-s+else-is_err w ↦
+          local_maps (scopes_of c.args.scopes.now) c.args.i (of_global c.args.t) _ (scope_is (goal.at.returns c).After-scope_at-s) _ c.in_ok-x.ensures
+          w.to_global.result w.to_global.ensures w.is_err.ensures.value w.if-s.true w.if-is_err.false
+      | else-s-via-else-s w ↦ local_idle (scopes_of c.args.scopes.now) c.args.i (of_global c.args.t) _ (scope_is (goal.at.returns c).After-scope_at-s) _ c.in_ok-x.ensures w.if-s.false
+    ]

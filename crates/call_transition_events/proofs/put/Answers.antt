@@ -1,5 +1,7 @@
 -- `call_transition_events::put` meets its contract. Assumes nothing.
-use Rattle.state_room.specs.Holds.{steps_held, steps_then, steps_end}
+use Rattle.std.proofs.Common.{refl}
+use Rattle.std.proofs.lemmas.Result.{err_from_is_err_and}
+use Rattle.state_room.specs.Holds.{steps_then, steps_end}
 use Rattle.tags.specs.Views.{of_global}
 use Rattle.state_events.specs.Slots.{event_of}
 use Rattle.machine.specs.State.{accepted}
@@ -7,25 +9,17 @@ use Rattle.machine.specs.Transition.{held}
 use Rattle.call_transition_events.specs.Starting.{put_step}
 use Rattle.call_transition_events.proofs.put.Goals as goal
 
-pub accept-requires : goal.accept-requires
-accept-requires c =
+pub returns-in_err-hold : goal.returns-in_err-hold
+unfolding put_step
+returns-in_err-hold c =
     let s = c.args.s in
     let img = c.args.image.now in
-    steps_held _ (held img s.action (of_global s.stored)) _ _ _ c.requires c.hold-h.ensures c.in-Done.is
+    let p = err_from_is_err_and c.from_residual.result c.from_residual.ensures.1 in
+    rw (p.1, p.2) (steps_end img (held img s.action (of_global s.stored)) (λ t. accepted img t (event_of s)) _ _ _ _ _ c.in_err-hold.ensures refl refl)
 
-pub returns-in-Done : goal.returns-in-Done
+pub returns : goal.returns
 unfolding put_step
-returns-in-Done c =
-    let a = c.args in
-    let s = a.s in
-    let img = a.image.now in
-    steps_then _ (held img s.action (of_global s.stored)) (λ t. accepted img t (event_of s)) _ _ _ _ _ c.hold-h.ensures c.in-Done.is c.accept.ensures
-
-pub returns-in-Refused : goal.returns-in-Refused
-unfolding put_step
-returns-in-Refused c =
-    let a = c.args in
-    let s = a.s in
-    let img = a.image.now in
-    let e = c.in-Refused.is in
-    steps_end _ (held img s.action (of_global s.stored)) (λ t. accepted img t (event_of s)) _ _ _ _ _ c.hold-h.ensures e e
+returns c =
+    let s = c.args.s in
+    let img = c.args.image.now in
+    steps_then img (held img s.action (of_global s.stored)) (λ t. accepted img t (event_of s)) _ _ _ _ _ c.in_ok-hold.ensures refl c.accept.ensures

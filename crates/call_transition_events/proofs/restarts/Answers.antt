@@ -1,22 +1,26 @@
--- `call_transition_events::restarts` meets its contract. Assumes nothing.
-use Rattle.state_room.specs.Holds.{steps_held, steps_then, steps_end}
+-- `call_transition_events::restarts` meets its contract: the timers, then the reset reactions. Assumes nothing.
+use Rattle.std.proofs.Common.{refl, arith}
+use Rattle.std.proofs.lemmas.Result.{err_from_is_err_and}
+use Rattle.state_room.specs.Holds.{steps_then, steps_end}
+use Rattle.state_room.specs.Walks.{walked_next, walked_refused, walked_end}
 use Rattle.machine.specs.Transition.{step5}
 use Rattle.call_transition_events.specs.Starting.{timers_on, resets_on}
 use Rattle.call_transition_events.proofs.StartLaws.{timers_are}
 use Rattle.call_transition_events.proofs.restarts.Goals as goal
 
-pub reset_reactions-requires : goal.reset_reactions-requires
-reset_reactions-requires c =
-    steps_held _ (timers_on _ c.args.plan) _ _ _ c.requires (timers_are _ c.args.plan _ _ _ c.take_rows-t.ensures) c.in-Done.is
+pub loop-j-preserved : goal.loop-j-preserved
+loop-j-preserved c = walked_next c.loop-j.invariant (omega (arith, c.count-j-end.ensures)) _ _ c.in_ok-start_timer.ensures refl
 
-pub returns-in-Done : goal.returns-in-Done
+pub returns-in_err-start_timer : goal.returns-in_err-start_timer
 unfolding step5
-returns-in-Done c =
-    let timers = timers_are _ c.args.plan _ _ _ c.take_rows-t.ensures in
-    steps_then _ (timers_on _ c.args.plan) (resets_on _ c.args.plan) _ _ _ _ _ timers c.in-Done.is c.reset_reactions.ensures
+returns-in_err-start_timer c =
+    let p = err_from_is_err_and c.from_residual.result c.from_residual.ensures.1 in
+    rw (p.1, p.2)
+    (steps_end _ (timers_on _ c.args.plan) (resets_on _ c.args.plan) _ _ _ _ _
+    (timers_are _ c.args.plan _ _ _ (walked_refused c.loop-j.invariant (omega (arith, c.count-j-end.ensures)) _ _ c.in_err-start_timer.ensures refl refl)) refl refl)
 
-pub returns-in-Refused : goal.returns-in-Refused
+pub returns : goal.returns
 unfolding step5
-returns-in-Refused c =
-    let e = c.in-Refused.is in
-    steps_end _ (timers_on _ c.args.plan) (resets_on _ c.args.plan) _ _ _ _ _ (timers_are _ c.args.plan _ _ _ c.take_rows-t.ensures) e e
+returns c =
+    steps_then _ (timers_on _ c.args.plan) (resets_on _ c.args.plan) _ _ _ _ _
+    (timers_are _ c.args.plan _ _ _ (walked_end c.loop-j.invariant (omega (arith, c.count-j-end.ensures)) refl)) refl c.reset_reactions.ensures

@@ -1,15 +1,11 @@
--- `call_transition_events::some_row` meets its contract: what is left of the rows decides. Assumes nothing.
-use mathlib.Core.Path.{sym, ◌∙◌}
-use native.Mathlib.Nat.{sub-zero}
+-- `call_transition_events::some_row` meets its contract: no row so far has a key of the set. Assumes nothing.
+use Rattle.std.proofs.Common.{sym, ◌∙◌}
 use Rattle.lists.specs.Steps.{any_next, any_found, any_none}
 use Rattle.lists.specs.Marks.{any_no}
 use Rattle.key_set.proofs.Laws.{empty_has}
 use Rattle.call_transition_plan.proofs.PlanLaws.{row_has}
 use Rattle.call_transition_events.specs.Starting.{row_in}
 use Rattle.call_transition_events.proofs.some_row.Goals as goal
-
-pub loop-j-init : goal.loop-j-init
-loop-j-init c = rw (sub-zero, c.count-n.ensures)
 
 pub returns-then-is_empty : goal.returns-then-is_empty
 returns-then-is_empty c =
@@ -19,16 +15,16 @@ returns-then-is_empty c =
 pub returns-then-contains : goal.returns-then-contains
 returns-then-contains c =
     let a = c.args in
-    let found = any_found (row_in a.image.now a.kind a.set.words) _ _ c.loop-j-test.true in
-    sym (c.loop-j.invariant ∙ found (row_has _ c.field16-scope.ensures c.contains.ensures c.if-contains.true))
+    let found = any_found (row_in a.image.now a.kind a.set.words) _ _ (rw c.count-j-end.ensures at c.loop-j-test.true) in
+    sym (c.loop-j.invariant ∙ found (row_has _ c.field16.ensures c.contains.ensures c.if-contains.true))
 
 pub loop-j-preserved : goal.loop-j-preserved
 loop-j-preserved c =
     let a = c.args in
-    let next = any_next (row_in a.image.now a.kind a.set.words) _ _ c.loop-j-test.true in
-    c.loop-j.invariant ∙ next (row_has _ c.field16-scope.ensures c.contains.ensures c.if-contains.false)
+    let next = any_next (row_in a.image.now a.kind a.set.words) _ _ (rw c.count-j-end.ensures at c.loop-j-test.true) in
+    c.loop-j.invariant ∙ next (row_has _ c.field16.ensures c.contains.ensures c.if-contains.false)
 
 pub returns : goal.returns
 returns c =
     let a = c.args in
-    sym (c.loop-j.invariant ∙ any_none (row_in a.image.now a.kind a.set.words) _ _ c.loop-j-test.false)
+    sym (c.loop-j.invariant ∙ any_none (row_in a.image.now a.kind a.set.words) _ _ (rw c.count-j-end.ensures at c.loop-j-test.false))

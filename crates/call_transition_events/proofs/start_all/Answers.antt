@@ -1,18 +1,32 @@
--- `call_transition_events::start_all` meets its contract. Assumes nothing.
-use Rattle.state_room.specs.Holds.{steps_held, steps_then, steps_end}
-use Rattle.call_transition_events.specs.declared.What.TheVariants as W
-use Rattle.call_transition_events.specs.Starting.{all_rows}
+-- `call_transition_events::start_all` meets its contract: all values, then all events. Assumes nothing.
+use Rattle.std.proofs.Common.{refl, arith}
+use Rattle.std.proofs.lemmas.Result.{err_from_is_err_and}
+use Rattle.state_room.specs.Holds.{steps_then, steps_end}
+use Rattle.state_room.specs.Walks.{walked_next, walked_refused, walked_end}
+use Rattle.call_transition_events.specs.Starting.{all_values, all_events}
 use Rattle.call_transition_events.proofs.start_all.Goals as goal
 
-pub take_rows-requires : goal.take_rows-requires
-take_rows-requires c =
-    steps_held _ (all_rows _ W.Value c.args.f) _ _ _ c.requires c.take_rows-h.ensures c.in-Done.is
+pub loop-j-preserved : goal.loop-j-preserved
+loop-j-preserved c = walked_next c.loop-j.invariant (omega (arith, c.count-j-end.ensures)) _ _ c.in_ok-hold_startup.ensures refl
 
-pub returns-in-Done : goal.returns-in-Done
-returns-in-Done c =
-    steps_then _ (all_rows _ W.Value c.args.f) (all_rows _ W.Event c.args.f) _ _ _ _ _ c.take_rows-h.ensures c.in-Done.is c.take_rows.ensures
+pub returns-in_err-hold_startup : goal.returns-in_err-hold_startup
+returns-in_err-hold_startup c =
+    let p = err_from_is_err_and c.from_residual.result c.from_residual.ensures.1 in
+    rw (p.1, p.2)
+    (steps_end _ (all_values _ c.args.f) (all_events _ c.args.f) _ _ _ _ _
+    (walked_refused c.loop-j.invariant (omega (arith, c.count-j-end.ensures)) _ _ c.in_err-hold_startup.ensures refl refl) refl refl)
 
-pub returns-in-Refused : goal.returns-in-Refused
-returns-in-Refused c =
-    let e = c.in-Refused.is in
-    steps_end _ (all_rows _ W.Value c.args.f) (all_rows _ W.Event c.args.f) _ _ _ _ _ c.take_rows-h.ensures e e
+pub loop-i-preserved : goal.loop-i-preserved
+loop-i-preserved c = walked_next c.loop-i.invariant (omega (arith, c.count-i-end.ensures)) _ _ c.in_ok-accept_startup.ensures refl
+
+pub returns-in_err-accept_startup : goal.returns-in_err-accept_startup
+returns-in_err-accept_startup c =
+    let p = err_from_is_err_and c.from_residual-in_err-accept_startup.result c.from_residual-in_err-accept_startup.ensures.1 in
+    rw (p.1, p.2)
+    (steps_then _ (all_values _ c.args.f) (all_events _ c.args.f) _ _ _ _ _ (walked_end c.loop-j.invariant (omega (arith, c.count-j-end.ensures)) refl) refl
+    (walked_refused c.loop-i.invariant (omega (arith, c.count-i-end.ensures)) _ _ c.in_err-accept_startup.ensures refl refl))
+
+pub returns : goal.returns
+returns c =
+    steps_then _ (all_values _ c.args.f) (all_events _ c.args.f) _ _ _ _ _ (walked_end c.loop-j.invariant (omega (arith, c.count-j-end.ensures)) refl) refl
+    (walked_end c.loop-i.invariant (omega (arith, c.count-i-end.ensures)) refl)

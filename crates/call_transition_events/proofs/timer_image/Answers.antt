@@ -5,4 +5,4 @@ use Rattle.call_transition_events.proofs.timer_image.Goals as goal
 
 pub returns : goal.returns
 returns c =
-    image_mapped _ _ _ c.timer_scope-i.ensures c.timer_tag-x.ensures (ap (λ x. x.clock) c.scope_at-s.ensures) c.to_global.ensures
+    image_mapped _ _ _ c.timer_scope.ensures c.timer_tag.ensures (ap (λ x. x.clock) c.scope_at-s.ensures) c.to_global.ensures

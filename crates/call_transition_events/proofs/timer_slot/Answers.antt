@@ -5,5 +5,5 @@ use Rattle.call_transition_events.proofs.timer_slot.Goals as goal
 
 pub returns : goal.returns
 returns c =
-    let tag = c.of_local-own.ensures ∙ c.timer_tag-x.ensures in
-    timer_event_lem _ _ _ c.timer_action-action.ensures c.timer_scope-queue.ensures tag c.triggers-reactions.ensures
+    let tag = c.of_local.ensures ∙ c.timer_tag.ensures in
+    timer_event_lem _ _ _ c.timer_action-action.ensures c.timer_scope.ensures tag c.triggers.ensures

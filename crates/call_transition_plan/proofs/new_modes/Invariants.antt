@@ -1,5 +1,4 @@
 -- `call_transition_plan::new_modes` meets its contract: the modes of the reactors before i stand. Assumes nothing.
-use Prim.Native.Nat.{◌-◌, ◌≤◌}
 use mathlib.Core.Path.{◌≡◌}
 use mathlib.Core.List.{map}
 use Rattle.lists.specs.Lists.{from}
@@ -9,7 +8,4 @@ use Rattle.state_room.specs.PartRows.{most_reactors}
 use Rattle.call_transition_plan.proofs.new_modes.Given as goal
 
 abbrev pub invariant-loop-i : goal.invariant-loop-i
-invariant-loop-i l = (l.i ≤ l.n) × (l.out ≡ padded 0 most_reactors (map (mode_after l.image l.modes l.request) (from 0 l.i)))
-
-abbrev pub decreases-loop-i : goal.decreases-loop-i
-decreases-loop-i l = l.n - l.i
+invariant-loop-i l = l.out ≡ padded 0 most_reactors (map (mode_after l.fn.image l.fn.modes l.fn.request) (from 0 l.i))

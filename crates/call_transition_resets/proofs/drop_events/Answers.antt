@@ -4,9 +4,9 @@ use Rattle.state_queues.specs.Queue.{goes_of}
 use Rattle.call_transition_resets.proofs.ResetLaws.{gone_fits, gone_waits, gone_step}
 use Rattle.call_transition_resets.proofs.drop_events.Goals as goal
 
-pub overflow_sub-work : goal.overflow_sub-work
+pub overflow_sub-result : goal.overflow_sub-result
 unfolding goes_of
-overflow_sub-work c =
+overflow_sub-result c =
     gone_fits (λ e. has c.args.inside.words e.queue) c.args.events.now c.args.counts c.requires c.remove-gone.ensures.ordinary_value
 
 pub returns : goal.returns
