@@ -2,13 +2,14 @@
 use mathlib.Core.Bool.{Bool}
 use mathlib.Core.Path.{◌≡◌, refl, ap, ◌∙◌, sym}
 use mathlib.Core.Logic.{⊎_elim}
-use mathlib.Core.List.{List, [], ◌∷◌, map}
-use Prim.Native.Nat.{ℕ, zero, suc, ◌+◌, ◌≤◌, ◌<◌, min}
+use mathlib.Core.List.{List, [], ◌∷◌, ◌++◌, append-nil, map}
+use Prim.Native.Nat.{ℕ, zero, suc, ◌+◌, ◌-◌, ◌≤◌, ◌<◌, min}
+use borrow.Rule.Slice.PartMut.{put_mid}
 use native.Mathlib.Nat.{min-eq_left, min-eq_right, min-le_right}
 use native.Mathlib.Numerals.{add-one}
 use native.Mathlib.Omega.{arith}
-use lib.ListN.{length, take, get_or, set, replicate, length-take, length-map, get_or-map}
-use lib.Seq.{take-suc, take-suc-set, take_all}
+use lib.ListN.{drop, length-drop, drop_of_length-le, length, take, get_or, set, replicate, length-take, length-map, get_or-map}
+use lib.Seq.{length-take-le, take-suc, take-suc-set, take_all}
 use Rattle.lists.specs.Tests.{below?}
 use Rattle.lists.specs.Rows.{map_set}
 use Rattle.lists.specs.Held.{things_of, things_length, Held}
@@ -184,15 +185,24 @@ pub end_few : (n N : ℕ) {e : ℕ} → e ≡ min n N → e ≤ N
 end_few n N q = rw q (min-le_right n N)
 
 -- numbers
-module _ (N : ℕ) (l : List ℕ) (full : length l ≡ N) where
-  pub numbers_none : replicate N 0 ≡ padded 0 N (take 0 l)
-  numbers_none = sym (padded_none 0 N)
+padded_back : (n : ℕ) (l : List ℕ) → length l ≤ n → padded 0 n l ≡ l ++ replicate (n - length l) 0
+unfolding padded
+padded_back zero [] h = refl
+padded_back zero (x ∷ l) h = absurd (omega arith)
+padded_back (suc n) [] h = let e : suc n - 0 ≡ suc n = omega arith in rw e (padded_none 0 (suc n))
+padded_back (suc n) (x ∷ l) h = let e : suc n - suc (length l) ≡ n - length l = omega arith in rw e (ap (x ∷◌) (padded_back n l (omega arith)))
 
-  pub numbers_next : (i e d : ℕ) (out : List ℕ) → i < e → e ≤ N → out ≡ padded 0 N (take i l) → set out i (get_or l i d) ≡ padded 0 N (take (i + 1) l)
-  numbers_next i e d out h g q = rw q (front_next 0 N l full i d (omega arith))
-
-  pub numbers_all : (i n e : ℕ) (out : List ℕ) → i ≤ e → e ≤ i → e ≡ min n N → out ≡ padded 0 N (take i l) → out ≡ padded 0 N (take n l)
-  numbers_all i n e out u v q h = h ∙ ap (padded 0 N) (front_end 0 N l full i n e u v q)
+-- what stands behind the first is zeros now
+pub zeros_behind : (l : List ℕ) (n e : ℕ) {ys : List ℕ} → e ≡ min n (length l) → ys ≡ replicate (length (take (length l - e) (drop e l))) 0
+    → put_mid e (length l - e) l ys ≡ padded 0 (length l) (take n l)
+zeros_behind l n e q z =
+    let low : e ≤ length l = omega (arith, q) in
+    let same : take e l ≡ take n l = front_end 0 (length l) l refl e n e (omega arith) (omega arith) q in
+    let long : length (take e l) ≡ e = length-take-le e l low in
+    let rest : length (take (length l - e) (drop e l)) ≡ length l - e = length-take-le (length l - e) (drop e l) (omega (arith, length-drop e l)) in
+    let last : drop (length l - e) (drop e l) ≡ [] = drop_of_length-le (drop e l) (omega (arith, length-drop e l)) in
+    let all = padded_back (length l) (take e l) (omega (arith, long, low)) in
+    rw (z, rest, last, append-nil, ← same) (sym (rw long at all))
 
 -- the parts of the scopes in rows
 module _ (ws : List ℕ) (i : ℕ) (h : i < most_scopes) (x : code.Scope) (e : scope_of x ≡ get_or (scopes_of ws) i scope.blank) where

@@ -11,8 +11,8 @@ use Rattle.lists.specs.Tests.{and_left, and_right}
 use Rattle.table_rows.specs.Bytes.{Image}
 use Rattle.table_rows.specs.Limits.{limits}
 use Rattle.table.specs.Check.{is_table, check}
-use Rattle.table.specs.declared.Checked.{Checked}
-use Rattle.table.specs.declared.Checked.TheVariants.{Accepted, Refused}
+use Rattle.std.specs.Prelude.{Ok, Err}
+use Rattle.table.specs.Check.{Checked}
 use Rattle.tags.specs.Views.{of_clock}
 use Rattle.store_words.specs.Entries.{room_for_entries, held_fits, blank_value, blank_bucket, of_value, of_bucket}
 use Rattle.store_words.specs.Words.{HeldValues, HeldBuckets}
@@ -159,21 +159,21 @@ module _ (img : Image) (a : Arrays) (u : Rows) (x : Unpacks img a u) where
 -- ---- a fresh manager
 
 module _ (img : Image) {k : Checked} (ek : k ≡ check img) where
-  module _ (y : k ≡ Accepted) where
+  module _ (y : k ≡ Ok tt) where
     pub fresh_table : is_table img ≡ true
     unfolding is_table
-    fresh_table = let c : check img ≡ Accepted = sym ek ∙ y in rw c
+    fresh_table = let c : check img ≡ Ok tt = sym ek ∙ y in rw c
 
     pub fresh_packs : (u : Rows) {m : Arrays} → Holds img (fresh img) u → m ≡ arrays_in u → m ≡ fresh_over img
     unfolding fresh_over
     fresh_packs u h q = let t = fresh_table in rw t (q ∙ holds_packs img (fresh img) u h)
 
   pub blank_packs :
-      (u : Rows) {x : _} {ss : List ℕ} {m : Arrays} → k ≡ Refused x → scope.Held ss (replicate most_scopes scope.blank) →
+      (u : Rows) {x : _} {ss : List ℕ} {m : Arrays} → k ≡ Err x → scope.Held ss (replicate most_scopes scope.blank) →
       Bare (replicate most_reactors 0) ss u → m ≡ arrays_in u → m ≡ fresh_over img
   unfolding fresh_over is_table
   blank_packs u y h b q =
-      let c : check img ≡ Refused _ = sym ek ∙ y in
+      let c : check img ≡ Err _ = sym ek ∙ y in
       rw c
       (q ∙
       packs no_state u (rw (b.ledger_is, padded_none {A = ℕ} 0 most_reactors)) (rw (b.scopes_are, padded_none scope.blank most_scopes) h) (bare_queued b) (bare_stored b))

@@ -1,5 +1,5 @@
 -- The code's manager and answers as the definitions', and the manager as rows of words. Assumes nothing.
-use Rattle.std.specs.Prelude.{ℕ, Bool, false, ◌≡◌, ◌⊎◌, List, [], ◌∷◌, map, ltb, length, take, replicate}
+use Rattle.std.specs.Prelude.{ℕ, Bool, ◌≡◌, ◌⊎◌, List, [], ◌∷◌, map, ltb, length, take, replicate, Result, Option, Ok, Err, Some, None}
 use Rattle.table_rows.specs.Bytes.{Image}
 use Rattle.tags.specs.Views.{of_global, of_clock}
 use Rattle.tags.specs.Tags.{Clock}
@@ -16,20 +16,20 @@ use Rattle.state_room.specs.PartRows.{most_reactors, Scoped}
 use Rattle.machine.specs.Machine as M
 use Rattle.machine.specs.Machine.{Reply}
 use Rattle.state_room.specs.Holds.{Rows}
-use Rattle.manager.specs.Arrays.{Arrays, Answered, answered, Shown, Popped, view_of}
+use Rattle.manager.specs.Arrays.{Arrays, Answered, answered, Shown, shown_ready, no_ready, Popped, view_of}
 use Rattle.machine.specs.Heads.{Ready}
+use Rattle.refusals.specs.declared.Refusal.{Refusal}
 use Rattle.refusals.specs.declared.Refusal.TheVariants.{StateRule}
 use Rattle.call_pop_ready.specs.Gathering.{ready_at, gathering_of}
 use Rattle.call_perform.specs.Calls.{answer_reply, reply_of, Tells}
-use Rattle.call_perform.specs.declared.Answer.TheVariants.{Refused}
+use Rattle.call_pop_ready.specs.declared.Gathered.{Gathered}
+use Rattle.tags.specs.declared.GlobalTag.{GlobalTag}
 use Rattle.call_perform.specs.declared.Call.{Call}
 use Rattle.call_perform.specs.declared.Performed.{Performed}
 use Rattle.manager.specs.declared.Answered as code
 use Rattle.manager.specs.declared.Called.{Called}
 use Rattle.manager.specs.declared.Popped as code-popped
 use Rattle.manager.specs.declared.Ready as R
-use Rattle.manager.specs.declared.Pop.{Pop}
-use Rattle.manager.specs.declared.Pop.TheVariants as Q
 use Rattle.manager.specs.declared.Manager.{Manager}
 
 -- three arrays read as one list of scopes; they are equally long by their types, so that the list tells all three
@@ -100,7 +100,7 @@ called_of r = answered (reply_of r.performed r.actions) (arrays_of r.manager)
 
 -- what is known of an answer by its call, unless it is 11
 abbrev pub TellsOrEleven : Call → Performed → Type 0
-TellsOrEleven c r = Tells c r ⊎ ((r.found ≡ false) × (r.answer ≡ Refused StateRule))
+TellsOrEleven c r = Tells c r ⊎ ((r.tag ≡ None) × (r.answer ≡ Err StateRule))
 
 -- the count as a yes or no
 abbrev pub work_reply : Reply → Reply
@@ -131,16 +131,22 @@ shown_of r =
     }
 
 -- the ready event that a pop found
-abbrev pub ready_from : Performed → List ℕ → Ready
-ready_from r keys = ready_at (of_global r.tag) (gathering_of r.gathered keys)
+abbrev pub ready_from : GlobalTag → Gathered → List ℕ → Ready
+ready_from t g keys = ready_at (of_global t) (gathering_of g keys)
 
 abbrev pub ready_in : Shown → Ready
 ready_in r = record { tag = r.tag; terminal = r.terminal; work = r.work; network = r.network; held = r.held; reactions = r.reactions; actions = take r.count r.actions }
 
-abbrev pub pop_reply_of : Pop → Shown → Reply
-pop_reply_of Q.Ready r = M.ready (ready_in r)
-pop_reply_of Q.Nothing r = M.nothing
-pop_reply_of (Q.Refused n) r = M.refusal n
+abbrev pub pop_reply_of : Result (Option R.Ready) Refusal → Reply
+pop_reply_of (Ok (Some r)) = M.ready (ready_in (shown_of r))
+pop_reply_of (Ok None) = M.nothing
+pop_reply_of (Err n) = M.refusal n
+
+-- blank where there is none
+abbrev pub pop_shown_of : Result (Option R.Ready) Refusal → Shown
+pop_shown_of (Ok (Some r)) = shown_of r
+pop_shown_of (Ok None) = shown_ready no_ready
+pop_shown_of (Err n) = shown_ready no_ready
 
 abbrev pub popped_of : code-popped.Popped → Popped
-popped_of r = record { answered = answered (pop_reply_of r.outcome (shown_of r.ready)) (arrays_of r.manager); ready = shown_of r.ready }
+popped_of r = record { answered = answered (pop_reply_of r.ready) (arrays_of r.manager); ready = pop_shown_of r.ready }

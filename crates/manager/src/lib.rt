@@ -11,8 +11,8 @@
 
 ghost use Rattle.std.specs.Prelude.{false, cond, ◌||◌, ◌≡◌, List, [], map, ℕ, ◌≤◌, min, length, take, replicate};
 ghost use Rattle.tags.specs.Views.{of_clock, of_global};
-ghost use Rattle.store_words.specs.Entries.{room_for_entries, blank_value, blank_bucket, of_value, of_bucket};
-ghost use Rattle.store_words.specs.Words.{HeldValues, HeldBuckets};
+ghost use Rattle.store_words.specs.Entries.{room_for_entries};
+ghost use Rattle.store.specs.Layout.{HeldIn};
 ghost use Rattle.state_events.specs.Slots.{event_of, events_of};
 ghost use Rattle.state_events.specs.Slots as slot;
 ghost use Rattle.state_scopes.specs.Scopes.{most_scopes, scopes_of};
@@ -20,8 +20,8 @@ ghost use Rattle.state_scopes.specs.Scopes as scope;
 ghost use Rattle.state_events.specs.Slots.{room_for_events};
 ghost use Rattle.state_room.specs.Padded.{padded};
 ghost use Rattle.state_room.specs.PartRows.{Scoped, most_reactors};
-ghost use Rattle.state_room.specs.Holds.{rows_of, rows};
-ghost use Rattle.manager.specs.Arrays.{asks, is_refusal, step_on, shown_ready, no_ready, popped, fresh_over};
+ghost use Rattle.state_room.specs.Holds.{rows_of};
+ghost use Rattle.manager.specs.Arrays.{asks, is_refusal, step_on, shown_ready, popped, fresh_over};
 ghost use Rattle.table.specs.Check.{check};
 ghost use Rattle.manager.specs.Views.{joined, arrays_of, arrays_in, Blank, Unpacks, answered_of, called_of, work_reply, some_work};
 ghost use Rattle.manager.specs.Views.{TellsOrEleven, shown_of, ready_from, ready_in, popped_of};
@@ -32,6 +32,7 @@ ghost use Rattle.machine.specs.Machine.{plain, network, control, action, transit
 ghost use Rattle.machine.specs.Machine.{push_value, next_step, take_value, clear_before, move_value, clear_action};
 
 use call_perform::{Answer, Call, Performed, Question};
+use call_pop_ready::Gathered;
 use call_push::{ActionPush, Push};
 use call_transition_plan::Request;
 use key_set::KeySet;
@@ -39,8 +40,9 @@ use refusals::Refusal;
 use state_events::{ROOM_FOR_EVENTS, Slot};
 use state_room::{Ledger, MOST_REACTORS, Room};
 use state_scopes::{MOST_SCOPES, Scope};
-use store_words::{Bucket, BucketRows, ROOM_FOR_ENTRIES, Value, ValueRows};
-use table::Checked;
+use store::Entry;
+use store_words::ROOM_FOR_ENTRIES;
+use table::ImageRefusal;
 use tags::{GlobalTag, ScopeClock};
 use value_store::Store;
 
@@ -59,27 +61,12 @@ pub struct Manager {
 
 // ---- to rows that are blank as they are lent: what is in use, so that blanks stand behind it
 
-fn at_most(n: usize, most: usize) -> usize
-    ensures { result ≡ min n most }
+// Zeros behind the first n.
+fn only_first(numbers: &mut [u16], n: usize)
+    ensures { numbers.new ≡ padded 0 (length numbers.old) (take n numbers.old) }
 {
-    if n < most {
-        return n;
-    }
-    most
-}
-
-fn mode_rows(modes: [u16; MOST_REACTORS], n: usize) -> [u16; MOST_REACTORS]
-    ensures value { result ≡ padded 0 most_reactors (take n modes) }
-    ensures modes_len { length modes ≡ most_reactors }
-{
-    let end = at_most(n, MOST_REACTORS);
-    let mut out = [0u16; MOST_REACTORS];
-    let mut i: usize = 0;
-    while i < end {
-        out[i] = modes[i];
-        i += 1;
-    }
-    out
+    let end = n.min(numbers.len());
+    numbers[end..].fill(0);
 }
 
 fn lay_scopes(
@@ -93,19 +80,13 @@ fn lay_scopes(
     ensures scoped { Scoped (take n (joined (map of_clock clocks) active ever)) rows.new }
     ensures clocks_len { (length clocks ≡ most_scopes) × (length active ≡ most_scopes) × (length ever ≡ most_scopes) }
 {
-    let end = at_most(n, MOST_SCOPES);
-    let mut i: usize = 0;
-    while i < end {
-        let clock = clocks[i];
-        let now = active[i];
-        let before = ever[i];
+    for i in 0..n.min(MOST_SCOPES) {
         let s = Scope {
-            clock,
-            active: now,
-            ever: before,
+            clock: clocks[i],
+            active: active[i],
+            ever: ever[i],
         };
         state_scopes::put_scope(rows, i, s);
-        i += 1;
     }
 }
 
@@ -114,186 +95,116 @@ fn lay_slots(rows: &mut [u64; state_events::ROOM], slots: [Slot; ROOM_FOR_EVENTS
     ensures held { slot.Held rows.new (padded slot.blank room_for_events (take n (map event_of slots))) }
     ensures slots_len { length slots ≡ room_for_events }
 {
-    let end = at_most(n, ROOM_FOR_EVENTS);
-    let mut i: usize = 0;
-    while i < end {
-        let s = slots[i];
-        state_events::put_slot(rows, i, s);
-        i += 1;
+    for i in 0..n.min(ROOM_FOR_EVENTS) {
+        state_events::put_slot(rows, i, slots[i]);
     }
 }
 
-fn lay_values(rows: &mut ValueRows, values: [Value; ROOM_FOR_ENTRIES], n: usize)
-    requires { HeldValues rows.old (replicate room_for_entries blank_value) }
-    ensures held_values { HeldValues rows.new (padded blank_value room_for_entries (take n (map of_value values))) }
-    ensures values_len { length values ≡ room_for_entries }
+fn lay_entries<E: Entry>(rows: &mut E::Rows, entries: &[E; ROOM_FOR_ENTRIES], n: usize)
+    requires { HeldIn E.layout (E.words rows.old) (replicate room_for_entries E.layout.blank) }
+    ensures held { HeldIn E.layout (E.words rows.new) (padded E.layout.blank room_for_entries (take n (map E.of entries.now))) }
+    ensures entries_len { length entries.now ≡ room_for_entries }
 {
-    let end = at_most(n, ROOM_FOR_ENTRIES);
-    let mut i: usize = 0;
-    while i < end {
-        let v = values[i];
-        store_words::put_value(rows, i, v);
-        i += 1;
+    for i in 0..n.min(ROOM_FOR_ENTRIES) {
+        entries[i].put(rows, i);
     }
 }
 
-fn lay_buckets(rows: &mut BucketRows, buckets: [Bucket; ROOM_FOR_ENTRIES], n: usize)
-    requires { HeldBuckets rows.old (replicate room_for_entries blank_bucket) }
-    ensures held_buckets { HeldBuckets rows.new (padded blank_bucket room_for_entries (take n (map of_bucket buckets))) }
-    ensures buckets_len { length buckets ≡ room_for_entries }
+fn unpack(image: &[u8], room: &mut Room, m: Manager)
+    requires { Blank room.old.scopes room.old.events room.old.values room.old.buckets }
+    ensures { Unpacks image.now (arrays_of m) (rows_of room.new) }
 {
-    let end = at_most(n, ROOM_FOR_ENTRIES);
-    let mut i: usize = 0;
-    while i < end {
-        let b = buckets[i];
-        store_words::put_bucket(rows, i, b);
-        i += 1;
-    }
-}
-
-fn unpack(
-    image: &[u8],
-    scopes: &mut [u64; state_scopes::ROOM],
-    events: &mut [u64; state_events::ROOM],
-    values: &mut ValueRows,
-    buckets: &mut BucketRows,
-    m: Manager,
-) -> Ledger
-    requires { Blank scopes.old events.old values.old buckets.old }
-    ensures { Unpacks image.now (arrays_of m) (rows scopes.new events.new values.new buckets.new result) }
-{
-    let scope_count = table_rows::count(image, table_rows::SCOPE);
-    let reactor_count = table_rows::count(image, table_rows::REACTOR);
-    let all_modes = m.modes;
-    let clocks = m.clocks;
-    let active = m.active;
-    let ever = m.ever;
-    let slots = m.slots;
-    let store = m.store;
-    let all_values = store.values;
-    let all_buckets = store.buckets;
-    let modes = mode_rows(all_modes, reactor_count as usize);
-    lay_scopes(scopes, clocks, active, ever, scope_count as usize);
-    lay_slots(events, slots, m.waiting);
-    lay_values(values, all_values, store.held);
-    lay_buckets(buckets, all_buckets, store.open);
-    let counts = state_room::Counts {
-        waiting: m.waiting,
-        work: m.work,
-    };
-    let held = store_calls::Counts {
-        values: store.held,
-        buckets: store.open,
-    };
-    Ledger {
+    let scopes_there = table_rows::count(image, table_rows::SCOPE) as usize;
+    let reactors_there = table_rows::count(image, table_rows::REACTOR) as usize;
+    lay_scopes(&mut room.scopes, m.clocks, m.active, m.ever, scopes_there);
+    lay_slots(&mut room.events, m.slots, m.waiting);
+    lay_entries(&mut room.values, &m.store.values, m.store.held);
+    lay_entries(&mut room.buckets, &m.store.buckets, m.store.open);
+    let mut modes = m.modes;
+    only_first(&mut modes, reactors_there);
+    room.ledger = Ledger {
         modes,
-        counts,
-        held,
-    }
+        counts: state_room::Counts {
+            waiting: m.waiting,
+            work: m.work,
+        },
+        held: store_calls::Counts {
+            values: m.store.held,
+            buckets: m.store.open,
+        },
+    };
 }
 
 // ---- and back
+// Stays: four loops of one form; `array::from_fn` was tried, and what it ensures of each call does not say that the closure still sees these rows.
 
 fn slots_of(rows: &[u64; state_events::ROOM]) -> [Slot; ROOM_FOR_EVENTS]
     ensures { map event_of result ≡ events_of rows.now }
 {
-    let blank = Slot::blank();
-    let mut out = [blank; ROOM_FOR_EVENTS];
-    let mut i: usize = 0;
-    while i < ROOM_FOR_EVENTS {
-        let s = state_events::slot_at(rows, i);
-        out[i] = s;
-        i += 1;
+    let mut slots = [Slot::blank(); ROOM_FOR_EVENTS];
+    for (i, slot) in slots.iter_mut().enumerate() {
+        *slot = state_events::slot_at(rows, i);
     }
-    out
+    slots
 }
 
 fn clocks_of(rows: &[u64; state_scopes::ROOM]) -> [ScopeClock; MOST_SCOPES]
     ensures { map of_clock result ≡ map (λ x. x.clock) (scopes_of rows.now) }
 {
-    let blank = ScopeClock::fresh(false);
-    let mut out = [blank; MOST_SCOPES];
-    let mut i: usize = 0;
-    while i < MOST_SCOPES {
-        let s = state_scopes::scope_at(rows, i);
-        let clock = s.clock;
-        out[i] = clock;
-        i += 1;
+    let mut clocks = [ScopeClock::fresh(false); MOST_SCOPES];
+    for (i, clock) in clocks.iter_mut().enumerate() {
+        *clock = state_scopes::scope_at(rows, i).clock;
     }
-    out
+    clocks
 }
 
 fn active_of(rows: &[u64; state_scopes::ROOM]) -> [bool; MOST_SCOPES]
     ensures { result ≡ map (λ x. x.active) (scopes_of rows.now) }
 {
-    let mut out = [false; MOST_SCOPES];
-    let mut i: usize = 0;
-    while i < MOST_SCOPES {
-        let s = state_scopes::scope_at(rows, i);
-        out[i] = s.active;
-        i += 1;
+    let mut flags = [false; MOST_SCOPES];
+    for (i, flag) in flags.iter_mut().enumerate() {
+        *flag = state_scopes::scope_at(rows, i).active;
     }
-    out
+    flags
 }
 
 fn ever_of(rows: &[u64; state_scopes::ROOM]) -> [bool; MOST_SCOPES]
     ensures { result ≡ map (λ x. x.ever) (scopes_of rows.now) }
 {
-    let mut out = [false; MOST_SCOPES];
-    let mut i: usize = 0;
-    while i < MOST_SCOPES {
-        let s = state_scopes::scope_at(rows, i);
-        out[i] = s.ever;
-        i += 1;
+    let mut flags = [false; MOST_SCOPES];
+    for (i, flag) in flags.iter_mut().enumerate() {
+        *flag = state_scopes::scope_at(rows, i).ever;
     }
-    out
+    flags
 }
 
-fn pack(
-    scopes: &[u64; state_scopes::ROOM],
-    events: &[u64; state_events::ROOM],
-    values: &ValueRows,
-    buckets: &BucketRows,
-    ledger: Ledger,
-) -> Manager
-    ensures { arrays_of result ≡ arrays_in (rows scopes.now events.now values.now buckets.now ledger) }
+fn pack(room: &Room) -> Manager
+    ensures { arrays_of result ≡ arrays_in (rows_of room.now) }
 {
-    let modes = ledger.modes;
-    let clocks = clocks_of(scopes);
-    let active = active_of(scopes);
-    let ever = ever_of(scopes);
-    let slots = slots_of(events);
-    let store = value_store::store_of(values, buckets, ledger.held);
+    let clocks = clocks_of(&room.scopes);
+    let active = active_of(&room.scopes);
+    let ever = ever_of(&room.scopes);
+    let modes = room.ledger.modes;
+    let slots = slots_of(&room.events);
     Manager {
         clocks,
         active,
         ever,
         modes,
         slots,
-        waiting: ledger.counts.waiting,
-        work: ledger.counts.work,
-        store,
+        waiting: room.ledger.counts.waiting,
+        work: room.ledger.counts.work,
+        store: value_store::store_of(&room.values, &room.buckets, room.ledger.held),
     }
-}
-
-// A room by value.
-fn pack_room(u: Room) -> Manager
-    ensures { arrays_of result ≡ arrays_in (rows_of u) }
-{
-    let scopes = u.scopes;
-    let events = u.events;
-    let values = u.values;
-    let buckets = u.buckets;
-    let ledger = u.ledger;
-    pack(&scopes, &events, &values, &buckets, ledger)
 }
 
 // ---- a fresh manager
 
 // What the table check answers, and over an accepted table the fresh manager, else a blank one.
+// Stays: `fresh` promises the blank manager of a refused image too (`manager_value`), which a `Result` would not hold.
 #[derive(Clone, Copy)]
 pub struct Fresh {
-    pub checked: Checked,
+    pub checked: Result<(), ImageRefusal>,
     pub manager: Manager,
 }
 
@@ -302,7 +213,7 @@ pub struct Fresh {
 // The answer, and the manager after the call.
 #[derive(Clone, Copy)]
 pub struct Answered {
-    pub answer: Answer,
+    pub answer: Result<Answer, Refusal>,
     pub manager: Manager,
 }
 
@@ -319,71 +230,27 @@ pub struct Ready {
     pub count: usize,
 }
 
-// Whether a pop found a ready event.
-#[derive(Clone, Copy)]
-pub enum Pop {
-    Ready,
-    Nothing,
-    Refused(Refusal),
-}
-
-// The ready event is blank where there is none.
+// The ready event that a pop found, or none, or the refusal.
 #[derive(Clone, Copy)]
 pub struct Popped {
-    pub outcome: Pop,
-    pub ready: Ready,
+    pub ready: Result<Option<Ready>, Refusal>,
     pub manager: Manager,
 }
 
-fn no_ready() -> Ready
-    ensures { shown_of result ≡ shown_ready no_ready }
+fn ready_of(tag: GlobalTag, g: Gathered, mut actions: [u16; ROOM_FOR_EVENTS]) -> Ready
+    requires { g.actions ≤ room_for_events }
+    ensures { (shown_of result ≡ shown_ready (ready_from tag g actions)) × (ready_in (shown_of result) ≡ ready_from tag g actions) }
 {
-    let none = KeySet::empty();
-    Ready {
-        tag: GlobalTag(0, 0),
-        terminal: false,
-        work: false,
-        network: false,
-        held: false,
-        reactions: none,
-        actions: [0u16; ROOM_FOR_EVENTS],
-        count: 0,
-    }
-}
-
-// The first n keys, and zeros behind them.
-fn own_keys(keys: [u16; ROOM_FOR_EVENTS], n: usize) -> [u16; ROOM_FOR_EVENTS]
-    ensures value { result ≡ padded 0 room_for_events (take n keys) }
-    ensures keys_len { length keys ≡ room_for_events }
-{
-    let end = at_most(n, ROOM_FOR_EVENTS);
-    let mut out = [0u16; ROOM_FOR_EVENTS];
-    let mut i: usize = 0;
-    while i < end {
-        out[i] = keys[i];
-        i += 1;
-    }
-    out
-}
-
-fn ready_of(p: Performed, keys: [u16; ROOM_FOR_EVENTS]) -> Ready
-    requires { p.gathered.actions ≤ room_for_events }
-    ensures { (shown_of result ≡ shown_ready (ready_from p keys)) × (ready_in (shown_of result) ≡ ready_from p keys) }
-{
-    let g = p.gathered;
-    let count = g.actions;
-    let actions = own_keys(keys, count);
-    let tag = p.tag;
-    let reactions = g.reactions;
+    only_first(&mut actions, g.actions);
     Ready {
         tag,
         terminal: g.terminal,
         work: g.work,
         network: g.network,
         held: g.held,
-        reactions,
+        reactions: g.reactions,
         actions,
-        count,
+        count: g.actions,
     }
 }
 
@@ -393,14 +260,7 @@ fn ready_of(p: Performed, keys: [u16; ROOM_FOR_EVENTS]) -> Ready
 fn only_reads(call: value_store::Call) -> bool
     ensures { result ≡ asks (value_call (store_call call)) }
 {
-    match call {
-        value_store::Call::NextMicrostep(_, _, _) => true,
-        value_store::Call::Push(_, _, _) => false,
-        value_store::Call::Take(_, _) => false,
-        value_store::Call::ClearOlderThan(_, _) => false,
-        value_store::Call::Clear(_) => false,
-        value_store::Call::MoveValue(_, _, _) => false,
-    }
+    matches!(call, value_store::Call::NextMicrostep(_, _, _))
 }
 
 // A call that only asks.
@@ -408,52 +268,22 @@ fn only_asks(call: Call) -> bool
     ensures { (ks : List ℕ) → result ≡ asks (call_of call ks) }
 {
     match call {
-        Call::Push(_) => false,
-        Call::Transition(_) => false,
-        Call::Pop => false,
+        Call::Push(_) | Call::Transition(_) | Call::Pop => false,
         Call::Ask(_) => true,
         Call::Value(c) => only_reads(c),
     }
 }
 
-fn is_refused(answer: Answer) -> bool
-    ensures { result ≡ is_refusal (answer_reply answer) }
-{
-    match answer {
-        Answer::Done => false,
-        Answer::Nothing => false,
-        Answer::Tag(_) => false,
-        Answer::Flag(_) => false,
-        Answer::Number(_) => false,
-        Answer::Refused(_) => true,
-    }
-}
-
 // The manager as it was handed in where a call only asks or is refused, else the one of the rows after it.
-fn left_by(
-    m: Manager,
-    scopes: &[u64; state_scopes::ROOM],
-    events: &[u64; state_events::ROOM],
-    values: &ValueRows,
-    buckets: &BucketRows,
-    call: Call,
-    p: Performed,
-) -> Manager
+fn left_by(m: Manager, room: &Room, call: Call, p: Performed) -> Manager
     ensures { (ks keys : List ℕ) → arrays_of result ≡
-        cond (asks (call_of call ks) || is_refusal (reply_of p keys)) (arrays_of m) (arrays_in (rows scopes.now events.now values.now buckets.now p.ledger)) }
+        cond (asks (call_of call ks) || is_refusal (reply_of p keys)) (arrays_of m) (arrays_in (rows_of room.now)) }
 {
-    let answer = p.answer;
-    let ledger = p.ledger;
-    if only_asks(call) {
-        return m;
+    if only_asks(call) || p.tag.is_none() && p.answer.is_err() {
+        m
+    } else {
+        pack(room)
     }
-    if p.found {
-        return pack(scopes, events, values, buckets, ledger);
-    }
-    if is_refused(answer) {
-        return m;
-    }
-    pack(scopes, events, values, buckets, ledger)
 }
 
 // What a call answers, a ready event's action keys in an array, and the manager after it.
@@ -469,45 +299,28 @@ fn step_on(m: Manager, image: &[u8], call: Call, keys: &[u16]) -> Called
     ensures result_value { called_of result ≡ step_on image.now (arrays_of m) (call_of call keys.now) }
     ensures actions_le_room_for_events { (result.performed.gathered.actions ≤ room_for_events) × TellsOrEleven call result.performed }
 {
-    let mut scopes = state_scopes::blank_rows();
-    let mut events = state_events::blank_rows();
-    let mut values: ValueRows = [0; store_words::ROOM_FOR_ENTRIES * store_words::VALUE_WORDS];
-    let mut buckets: BucketRows = [0; store_words::ROOM_FOR_ENTRIES * store_words::BUCKET_WORDS];
-    let given = unpack(
-        image,
-        &mut scopes,
-        &mut events,
-        &mut values,
-        &mut buckets,
-        m,
-    );
+    let mut room = state_fresh::bare([0; MOST_REACTORS], state_scopes::blank_rows());
+    unpack(image, &mut room, m);
     let mut actions = [0u16; ROOM_FOR_EVENTS];
-    let sound = state_rules::keeps_rules(image, &scopes, &events, &values, &buckets, given);
-    if !sound {
-        let performed = call_perform::told(Answer::Refused(Refusal::StateRule), given);
+    if !state_rules::keeps_rules(image, &room) {
         return Called {
-            performed,
+            performed: call_perform::told(Err(Refusal::StateRule)),
             actions,
             manager: m,
         };
     }
-    let counts = given.counts;
-    let mut heads = state_queues::heads(&events, counts.waiting);
+    let mut heads = state_queues::heads(&room.events, room.ledger.counts.waiting);
     let mut spare = [0u64; state_room::SPARE];
     let performed = call_perform::perform(
         image,
-        &mut scopes,
-        &mut events,
-        &mut values,
-        &mut buckets,
+        &mut room,
         &mut heads,
         &mut actions,
         &mut spare,
-        given,
         call,
         keys,
     );
-    let manager = left_by(m, &scopes, &events, &values, &buckets, call, performed);
+    let manager = left_by(m, &room, call, performed);
     Called {
         performed,
         actions,
@@ -521,10 +334,10 @@ fn answer_to(m: Manager, image: &[u8], call: Call, keys: &[u16]) -> Answered
     ensures { answered_of result ≡ step_on image.now (arrays_of m) (call_of call keys.now) }
 {
     let c = step_on(m, image, call, keys);
-    let p = c.performed;
-    let answer = p.answer;
-    let manager = c.manager;
-    Answered { answer, manager }
+    Answered {
+        answer: c.performed.answer,
+        manager: c.manager,
+    }
 }
 
 // One with no reaction keys.
@@ -536,17 +349,13 @@ fn ask_of(m: Manager, image: &[u8], call: Call) -> Answered
 }
 
 // A number as a yes or no.
-fn some_work(answer: Answer) -> Answer
+fn some_work(answer: Result<Answer, Refusal>) -> Result<Answer, Refusal>
     ensures { answer_reply result ≡ work_reply (answer_reply answer) }
 {
-    match answer {
-        Answer::Done => Answer::Done,
-        Answer::Nothing => Answer::Nothing,
-        Answer::Tag(t) => Answer::Tag(t),
-        Answer::Flag(b) => Answer::Flag(b),
+    Ok(match answer? {
         Answer::Number(n) => Answer::Flag(0 < n),
-        Answer::Refused(n) => Answer::Refused(n),
-    }
+        other => other,
+    })
 }
 
 // What a pop answers: the ready event, "nothing", or 11.
@@ -554,30 +363,15 @@ fn popped_of(c: Called) -> Popped
     requires { (c.performed.gathered.actions ≤ room_for_events) × TellsOrEleven K.Pop c.performed }
     ensures { popped_of result ≡ popped (called_of c) }
 {
-    let manager = c.manager;
     let p = c.performed;
-    let keys = c.actions;
-    let answer = p.answer;
-    if p.found {
-        let ready = ready_of(p, keys);
-        return Popped {
-            outcome: Pop::Ready,
-            ready,
-            manager,
-        };
-    }
-    let none = no_ready();
-    if is_refused(answer) {
-        return Popped {
-            outcome: Pop::Refused(Refusal::StateRule),
-            ready: none,
-            manager,
-        };
-    }
+    let ready = match (p.tag, p.answer) {
+        (Some(tag), _) => Ok(Some(ready_of(tag, p.gathered, c.actions))),
+        (None, Ok(_)) => Ok(None),
+        (None, Err(n)) => Err(n),
+    };
     Popped {
-        outcome: Pop::Nothing,
-        ready: none,
-        manager,
+        ready,
+        manager: c.manager,
     }
 }
 
@@ -588,19 +382,11 @@ impl Manager {
         ensures manager_value { arrays_of result.manager ≡ fresh_over image.now }
     {
         let checked = table::check(image);
-        match checked {
-            Checked::Refused(_) => {
-                let none = state_scopes::blank_rows();
-                let room = state_fresh::bare([0u16; MOST_REACTORS], none);
-                let manager = pack_room(room);
-                Fresh { checked, manager }
-            }
-            Checked::Accepted => {
-                let room = state_fresh::room(image);
-                let manager = pack_room(room);
-                Fresh { checked, manager }
-            }
-        }
+        let manager = match checked {
+            Ok(()) => pack(&state_fresh::room(image)),
+            Err(_) => pack(&state_fresh::bare([0; MOST_REACTORS], state_scopes::blank_rows())),
+        };
+        Fresh { checked, manager }
     }
 
     // ---- pushes
@@ -670,10 +456,10 @@ impl Manager {
         ensures { answered_of result ≡ some_work (step_on image.now (arrays_of self) ordinary_work) }
     {
         let r = ask_of(self, image, Call::Ask(Question::OrdinaryWork));
-        let said = r.answer;
-        let answer = some_work(said);
-        let manager = r.manager;
-        Answered { answer, manager }
+        Answered {
+            answer: some_work(r.answer),
+            manager: r.manager,
+        }
     }
 
     // The scope is active now.
@@ -766,7 +552,6 @@ impl Manager {
     pub fn pop_next_event(self, image: &[u8]) -> Popped
         ensures { popped_of result ≡ popped (step_on image.now (arrays_of self) pop) }
     {
-        let c = step_on(self, image, Call::Pop, &[]);
-        popped_of(c)
+        popped_of(step_on(self, image, Call::Pop, &[]))
     }
 }

@@ -1,5 +1,5 @@
 -- The state rules from their parts on rows. Assumes nothing.
-use mathlib.Core.Bool.{Bool, true, false, not, ◌&&◌}
+use mathlib.Core.Bool.{Bool, true, false, ◌&&◌}
 use mathlib.Core.Path.{◌≡◌, refl, ◌∙◌, sym}
 use mathlib.Core.List.{List, [], ◌∷◌}
 use Prim.Native.Nat.{ℕ, zero, suc, ◌+◌, ◌≤◌, ◌<◌}
@@ -8,8 +8,8 @@ use native.Mathlib.Omega.{arith}
 use lib.Dec.{ltb, leb, eqb}
 use lib.ListN.{length, take, length-take}
 use lib.Seq.{get_or-take}
-use borrow.Author.Tests.{lt-leb, le-leb, eq-eqb, ltb-true, not-true, not-false}
-use Rattle.lists.specs.Tests.{flag_no, flag_yes, and_left, and_yes, and_no}
+use borrow.Author.Tests.{lt-leb, le-leb, eq-eqb, ltb-true}
+use Rattle.lists.specs.Tests.{flag, and_left, and_yes, and_no}
 use Rattle.lists.specs.Lists.{every, count, from}
 use Rattle.lists.specs.Every.{by_test}
 use Rattle.lists.specs.Held as H
@@ -35,15 +35,12 @@ use Rattle.state_rules.specs.Sound.{state_of, event_keeps, scopes_sound, queue_s
 
 -- ---- what a table's counts allow
 
-module _ (img : Image) {t : Bool} (et : t ≡ is_table img) (y : not t ≡ false) {k : ℕ} where
+module _ (img : Image) {t : Bool} (et : t ≡ is_table img) (y : t ≡ true) {k : ℕ} where
   pub few_scopes : k ≡ scopes img → k ≤ most_scopes
-  few_scopes e = rw e (most_scopes_lem img (flag_yes et y))
+  few_scopes e = rw e (most_scopes_lem img (flag et y))
 
   pub few_reactors : (modes : List ℕ) → length modes ≡ most_reactors → k ≡ reactors img → k ≤ length modes
-  few_reactors modes m e = rw (e, m) (most_reactors_lem img (flag_yes et y))
-
-  pub own_long : (modes : List ℕ) → length modes ≡ most_reactors → k ≡ reactors img → k ≡ length (take k modes)
-  own_long modes m e = let f = few_reactors modes m e in sym (length-take k modes ∙ min-eq_left f)
+  few_reactors modes m e = rw (e, m) (most_reactors_lem img (flag et y))
 
 -- no more wait than there is room for
 pub few_waiting : (img : Image) {limit n : ℕ} → limit ≡ (limits img).waiting → n ≤ limit → n ≤ room_for_events
@@ -149,23 +146,23 @@ module _ (img : Image) (modes sws ews : List ℕ) (n work : ℕ) (m : length mod
     few : leb n (limits img).waiting ≡ true
     few = rw (← el) (le-leb n limit h)
 
-    pub rules_table : not t ≡ true → false ≡ queue
+    pub rules_table : t ≡ false → false ≡ queue
     unfolding rules
-    rules_table y = simp (few, flag_no et y)
+    rules_table y = simp (few, flag et y)
 
-    module _ (yt : not t ≡ false) (k : ℕ) (ek : k ≡ scopes img) (own : List ℕ) (eo : own ≡ take (reactors img) modes) (a : Bool) (ea : a ≡ scopes_sound img own (scopes_of sws) k) where
+    module _ (yt : t ≡ true) (k : ℕ) (ek : k ≡ scopes img) (own : List ℕ) (eo : own ≡ take (reactors img) modes) (a : Bool) (ea : a ≡ scopes_sound img own (scopes_of sws) k) where
       queue_is : queue ≡ (a && queue_sound img (scopes_of sws) (take n (events_of ews)) work)
       queue_is =
-          let all : scopes img ≤ length (scopes_of sws) = rw (H.things_length scope.decode scope.encode scope.scope_words most_scopes scope.encode_long sws) (most_scopes_lem img (flag_yes et yt)) in
+          let all : scopes img ≤ length (scopes_of sws) = rw (H.things_length scope.decode scope.encode scope.scope_words most_scopes scope.encode_long sws) (most_scopes_lem img (flag et yt)) in
           let w : length (take n (events_of ews)) ≤ (limits img).waiting =
           rw (front_long slot.decode slot.encode slot.slot_words room_for_events slot.encode_long ews n (few_waiting img el h), ← el) h in
-          rw (few, rules_are img modes (scopes_of sws) (take n (events_of ews)) work all (flag_yes et yt) m w, ea, eo, ek)
+          rw (few, rules_are img modes (scopes_of sws) (take n (events_of ews)) work all (flag et yt) m w, ea, eo, ek)
 
-      pub rules_scopes : not a ≡ true → false ≡ queue
-      rules_scopes y = sym (queue_is ∙ simp (not-true a y))
+      pub rules_scopes : a ≡ false → a ≡ queue
+      rules_scopes y = sym (queue_is ∙ simp y)
 
-      pub rules_queue : {r : Bool} → not a ≡ false → r ≡ queue_sound img (scopes_of sws) (take n (events_of ews)) work → r ≡ queue
-      rules_queue y q = q ∙ sym (queue_is ∙ simp (not-false a y))
+      pub rules_queue : {r : Bool} → a ≡ true → r ≡ queue_sound img (scopes_of sws) (take n (events_of ews)) work → r ≡ queue
+      rules_queue y q = q ∙ sym (queue_is ∙ simp y)
 
 -- the modes that the table has
 pub own_is : (img : Image) (modes : List ℕ) {k : ℕ} {own : List ℕ} → k ≡ reactors img → own ≡ take k modes → own ≡ take (reactors img) modes
@@ -199,10 +196,10 @@ module _ (img : Image) (n held opened : ℕ) (s : State) where
   whole_is = rw (rules_store img s) (apart (leb n (limits img).waiting) (leb held (limits img).held) (leb opened (limits img).held) _ _)
 
   module _ (a : Bool) (ea : a ≡ (leb n (limits img).waiting && rules img (emptied s))) where
-    pub sound_queue : not a ≡ true → false ≡ whole
-    sound_queue y = rw (whole_is, ← ea, not-true a y)
+    pub sound_queue : a ≡ false → a ≡ whole
+    sound_queue y = rw (whole_is, ← ea, y)
 
-    pub sound_store : {l k : ℕ} {r : Bool} → not a ≡ false → l ≡ (limits img).held → k ≡ actions img → r ≡ counted_rules l k held opened s.store → r ≡ whole
-    sound_store y el ek q = q ∙ (rw (whole_is, ← ea, not-false a y, el, ek))
+    pub sound_store : {l k : ℕ} {r : Bool} → a ≡ true → l ≡ (limits img).held → k ≡ actions img → r ≡ counted_rules l k held opened s.store → r ≡ whole
+    sound_store y el ek q = q ∙ (rw (whole_is, ← ea, y, el, ek))
 
 pub ruleset sound_cases = (sound_queue, sound_store)

@@ -5,14 +5,13 @@ use Rattle.table_rows.specs.Bytes.{Image}
 use Rattle.table_rows.specs.Limits.{limits}
 use Rattle.tags.specs.Tags.{within_clock}
 use Rattle.key_set.specs.Sets.{has, word_count}
-use Rattle.machine.specs.Table.{scopes, reactors, reactions, actions}
+use Rattle.machine.specs.Table.{scopes, reactors}
 use Rattle.machine.specs.State.{Event, Scope, State, ordinary, no_state, with_modes, with_scopes, with_queue}
 use Rattle.machine.specs.Machine.{mode_rules, scope_rules, event_rules, queue_rules, image_rules, rules}
 use Rattle.state_events.specs.Slots.{events_of}
 use Rattle.state_scopes.specs.Scopes.{scopes_of}
 use Rattle.state_room.specs.declared.Counts.{Counts}
 use Rattle.state_room.specs.Holds.{Rows, state_in}
-use Rattle.state_rules.specs.declared.Sizes.{Sizes}
 
 -- no more are counted than may be, and the state that is counted keeps the rules
 unfoldable pub sound : Image → ℕ → ℕ → ℕ → State → Bool
@@ -28,9 +27,6 @@ sound_in img r = sound img r.ledger.counts.waiting r.ledger.held.values r.ledger
 -- a state of these parts, with nothing held: of modes and scopes as many as the table has
 abbrev pub state_of : Image → List ℕ → List Scope → List Event → ℕ → State
 state_of img modes ss es work = with_queue (with_scopes (with_modes no_state (take (reactors img) modes)) (take (scopes img) ss)) es work
-
-abbrev pub sizes_of : Image → Sizes
-sizes_of img = record { scopes = scopes img; reactions = reactions img; actions = actions img }
 
 -- all keys of a set are below n
 abbrev pub keys_below : List ℕ → ℕ → Bool

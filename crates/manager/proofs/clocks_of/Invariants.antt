@@ -1,6 +1,6 @@
 -- `manager::clocks_of` meets its contract: invariant: the first i are those of the rows. Assumes nothing.
 use mathlib.Core.Path.{◌≡◌}
-use Prim.Native.Nat.{◌-◌, ◌≤◌}
+use Prim.Native.Nat.{◌≤◌}
 use mathlib.Core.List.{map}
 use lib.ListN.{take, length}
 use Rattle.tags.specs.Views.{of_clock}
@@ -8,7 +8,4 @@ use Rattle.state_scopes.specs.Scopes.{most_scopes, scopes_of}
 use Rattle.manager.proofs.clocks_of.Given as goal
 
 abbrev pub invariant-loop-i : goal.invariant-loop-i
-invariant-loop-i l = (l.i ≤ most_scopes) × (length l.out ≡ most_scopes) × (take l.i (map of_clock l.out) ≡ take l.i (map (λ x. x.clock) (scopes_of l.rows)))
-
-abbrev pub decreases-loop-i : goal.decreases-loop-i
-decreases-loop-i l = most_scopes - l.i
+invariant-loop-i l = (l.i ≤ most_scopes) × (length l.clock-items ≡ most_scopes) × (take l.i (map of_clock l.clock-items) ≡ take l.i (map (λ x. x.clock) (scopes_of l.rows)))

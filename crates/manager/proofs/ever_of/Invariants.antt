@@ -1,13 +1,10 @@
 -- `manager::ever_of` meets its contract: invariant: the first i are those of the rows. Assumes nothing.
 use mathlib.Core.Path.{◌≡◌}
-use Prim.Native.Nat.{◌-◌, ◌≤◌}
+use Prim.Native.Nat.{◌≤◌}
 use mathlib.Core.List.{map}
 use lib.ListN.{take, length}
 use Rattle.state_scopes.specs.Scopes.{most_scopes, scopes_of}
 use Rattle.manager.proofs.ever_of.Given as goal
 
 abbrev pub invariant-loop-i : goal.invariant-loop-i
-invariant-loop-i l = (l.i ≤ most_scopes) × (length l.out ≡ most_scopes) × (take l.i (l.out) ≡ take l.i (map (λ x. x.ever) (scopes_of l.rows)))
-
-abbrev pub decreases-loop-i : goal.decreases-loop-i
-decreases-loop-i l = most_scopes - l.i
+invariant-loop-i l = (l.i ≤ most_scopes) × (length l.flag-items ≡ most_scopes) × (take l.i (l.flag-items) ≡ take l.i (map (λ x. x.ever) (scopes_of l.rows)))

@@ -4,4 +4,4 @@ use Rattle.manager.proofs.pack.Goals as goal
 
 pub returns : goal.returns
 returns c =
-    rw (c.clocks_of-clocks.ensures, c.active_of-active.ensures, c.ever_of-ever.ensures, joined_back _, c.slots_of-slots.ensures, c.store_of-store.ensures)
+    rw (c.clocks_of-clocks.ensures, c.active_of-active.ensures, c.ever_of-ever.ensures, joined_back _, c.slots_of-slots.ensures, c.store_of.ensures)

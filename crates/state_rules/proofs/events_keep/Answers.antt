@@ -1,17 +1,20 @@
--- `state_rules::events_keep` meets its contract: invariant: all keep the rules if those from i on do. Assumes nothing.
-use borrow.Author.Rules.{rules}
-use Rattle.state_rules.proofs.Parts.{event_on, event_fails, event_all}
-use mathlib.Core.Path.{refl}
+-- `state_rules::events_keep` meets its contract. Assumes nothing.
+use Rattle.std.specs.Prelude.{◌≡◌, true, false, get_or, refl}
+use Rattle.std.proofs.Common.{rules, ◌∙◌, arith}
+use Rattle.std.proofs.lemmas.Iterator.{cases_from_all, YieldsList-from_range}
+use Rattle.std.specs.List.{range_with_len}
+use Rattle.state_events.specs.Slots.{blank, events_of}
+use Rattle.state_events.proofs.SlotLaws.{events_long}
+use Rattle.state_scopes.specs.Scopes.{scopes_of}
+use Rattle.state_rules.specs.Sound.{event_keeps}
+use Rattle.state_rules.proofs.Ranges.{all_of, every_front}
 use Rattle.state_rules.proofs.events_keep.Goals as goal
 
-pub loop-i-init : goal.loop-i-init
-loop-i-init c = (search rules, refl)
-
-pub loop-i-preserved : goal.loop-i-preserved
-loop-i-preserved c = (search rules, search event_on)
-
-pub returns-else-event_keeps : goal.returns-else-event_keeps
-returns-else-event_keeps c = search event_fails
-
 pub returns : goal.returns
-returns c = search event_all
+returns c =
+    let l = events_of c.args.events.now in
+    let keeps = event_keeps c.args.image.now (scopes_of c.args.scopes.now) in
+    all_of (λ i. keeps (get_or l i blank)) (range_with_len 0 c.args.n) _
+    (cases_from_all _ _ _ (λ i. keeps (get_or l i blank) ≡ true) (λ i. keeps (get_or l i blank) ≡ false) c.all.ensures.ran (YieldsList-from_range 0 c.args.n c.args.n refl (omega arith))
+    (λ x q k. search rules) (λ x q k. search rules)) ∙
+    every_front keeps l blank c.args.n (rw events_long c.requires)

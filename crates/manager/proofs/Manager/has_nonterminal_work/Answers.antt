@@ -7,4 +7,4 @@ use Rattle.manager.proofs.Manager.has_nonterminal_work.Goals as goal
 pub returns : goal.returns
 returns c =
     let r = c.ask_of-r in
-    ap (λ x. answered x (arrays_of r.result.manager)) c.some_work-answer.ensures ∙ ap some_work r.ensures
+    ap (λ x. answered x (arrays_of r.result.manager)) c.some_work.ensures ∙ ap some_work r.ensures

@@ -4,4 +4,4 @@ use Rattle.manager.specs.Arrays.{popped}
 use Rattle.manager.proofs.Manager.pop_next_event.Goals as goal
 
 pub returns : goal.returns
-returns c = c.popped_of.ensures ∙ ap popped c.step_on-c.ensures.result_value
+returns c = c.popped_of.ensures ∙ ap popped c.step_on.ensures.result_value
