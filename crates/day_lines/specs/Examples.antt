@@ -1,5 +1,5 @@
 -- Document 01's worked lines, and some more, to the byte. Assumes nothing.
-use Rattle.std.specs.Prelude.{◌≡◌, refl, true, false, [], ◌∷◌}
+use Rattle.std.specs.Prelude.{◌≡◌, refl, true, false, [], ◌∷◌, Ok}
 use Rattle.lists.specs.Lists.{keep, from}
 use Rattle.lists.specs.Ranges.{those}
 use Rattle.key_set.specs.Sets.{has, bit, keys_from}
@@ -8,11 +8,10 @@ use Rattle.table_rows.specs.Kinds.{kinds, kind_of, count_place, count, place}
 use Rattle.table_rows.specs.Rows.{row_place, field}
 use Rattle.tags.specs.Tags.{at}
 use Rattle.machine.specs.Machine.{ready}
-use Rattle.table.specs.declared.Checked.TheVariants.{Accepted}
 use Rattle.day_lines.specs.Text.{text, decimal, decimal_in, joined, listed}
 use Rattle.day_lines.specs.Lines.{by_level, entry_of, reaction_list, action_list, tag_text, head_text, ready_line, line_of, table_line}
 
-pub accepted : table_line Accepted ≡ 116 ∷ 97 ∷ 98 ∷ 108 ∷ 101 ∷ 32 ∷ 111 ∷ 107 ∷ 10 ∷ []
+pub accepted : table_line (Ok tt) ≡ 116 ∷ 97 ∷ 98 ∷ 108 ∷ 101 ∷ 32 ∷ 111 ∷ 107 ∷ 10 ∷ []
 accepted = refl
 
 -- no image here: a reaction that the table lacks reads as level 0

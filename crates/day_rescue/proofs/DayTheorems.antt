@@ -17,7 +17,7 @@ use Rattle.refusals.specs.Refusals.{number_of}
 use Rattle.refusals.specs.declared.Refusal.{Refusal}
 use Rattle.refusals.specs.declared.Refusal.TheVariants.{Key, ArgumentTag, MappedTag, Waiting, Held, TargetMode, StateRule}
 use Rattle.table.specs.Check.{check, accepts}
-use Rattle.table.specs.declared.Checked.TheVariants.{Accepted, Refused}
+use Rattle.std.specs.Prelude.{Ok, Err}
 use Rattle.table.specs.declared.ImageRefusal.{ImageRefusal}
 use Rattle.machine.specs.State.{State, fresh}
 use Rattle.machine.specs.Machine as M
@@ -35,13 +35,13 @@ use Rattle.day_rescue.proofs.AgainLaws.{Unchanged, all_formed, unchanged}
 
 -- ---- "An image that is refused rescues nothing."
 
-pub none_rescued : (day : List ℕ) {why : ImageRefusal} → opened day ≡ Refused why → day_rescue day ≡ nothing
+pub none_rescued : (day : List ℕ) {why : ImageRefusal} → opened day ≡ Err why → day_rescue day ≡ nothing
 unfolding day_rescue
 none_rescued day e = ap (λ c. rescue_by c day) e
 
 -- ---- a day whose image is accepted
 
-module _ (day : List ℕ) (t : opened day ≡ Accepted) where
+module _ (day : List ℕ) (t : opened day ≡ Ok tt) where
   abbrev End : ℕ
   End = image_end day
 
@@ -116,18 +116,18 @@ module _ (day : List ℕ) (t : opened day ≡ Accepted) where
   end_few : End ≤ largest
   end_few = ⊎_elim (λ h. absurd (yes_no (ap accepts t) (sym (ap accepts (open_large day End refl h))))) (λ h. h) (below? largest End)
 
-  pub opened_again : opened Out ≡ Accepted
+  pub opened_again : opened Out ≡ Ok tt
   opened_again =
       let a = ap length out_is ∙ length-append (image_in day) Rest.kept in
       let l = image_long in
-      let c : check (image_in day) ≡ Accepted = open_checked day End refl (open_fits day t) end_few refl ∙ t in
+      let c : check (image_in day) ≡ Ok tt = open_checked day End refl (open_fits day t) end_few refl ∙ t in
       sym (open_checked Out End (sym same_end) (omega (arith, a, l)) end_few (sym (ap check front_is ∙ c)))
 
   pub out_formed : AllFormed (record_bytes Out)
   out_formed = rw same_records (all_formed (image_end day) (record_bytes day))
 
 -- rescuing a rescued day changes nothing
-pub day_again : (day : List ℕ) → opened day ≡ Accepted → Unchanged (day_rescue day).kept (day_rescue (day_rescue day).kept)
+pub day_again : (day : List ℕ) → opened day ≡ Ok tt → Unchanged (day_rescue day).kept (day_rescue (day_rescue day).kept)
 day_again day t = day_unchanged (day_rescue day).kept (opened_again day t) (out_formed day t)
 
 -- ---- the lines of its run: none is "refused 1"
@@ -169,7 +169,7 @@ answers_other img st (malformed ∷ rs) h = absurd (yes_no h refl)
 answers_other img st (cut ∷ rs) h = absurd (yes_no h refl)
 answers_other img st (over ∷ rs) h = absurd (yes_no h refl)
 
-pub out_answers : (day : List ℕ) → opened day ≡ Accepted → Each Other (day_answers (day_rescue day).kept)
+pub out_answers : (day : List ℕ) → opened day ≡ Ok tt → Each Other (day_answers (day_rescue day).kept)
 unfolding day_answers refused_line
 out_answers day t =
     let o = (day_rescue day).kept in

@@ -1,5 +1,5 @@
 -- What the code's tests say of a place. Assumes nothing.
-use Prim.Native.Nat.{ℕ, suc, ◌+◌, ◌-◌, ◌≤◌, ◌<◌}
+use Prim.Native.Nat.{ℕ, suc, ◌+◌, ◌-◌, ◌≤◌, ◌<◌, min}
 use mathlib.Core.Bool.{Bool, true, false}
 use mathlib.Core.Path.{◌≡◌, refl, sym, ap, ◌∙◌}
 use mathlib.Core.Logic.{⊎_elim}
@@ -9,15 +9,15 @@ use lib.Dec.{ltb}
 use lib.ListN.{length, get_or, take, drop, length-take, length-drop}
 use lib.Seq.{drop-cons}
 use borrow.Author.Tests.{ltb-true}
-use Rattle.lists.specs.Tests.{which, below?}
+use Rattle.lists.specs.Tests.{which, below?, yes_no}
 use Rattle.table_rows.specs.Bytes.{be}
-use Rattle.day_records.specs.Records.{is_formed, body_of, op_of, pop_of, length_of, length_at, record_at, behind, counts, broken, missing}
+use Rattle.day_records.specs.Records.{is_formed, body_of, op_of, pop_of, Length, length_of, length_at, record_at, behind, counts, broken, missing}
 use Rattle.day_records.proofs.Laws.{length_counts}
 use Rattle.day_records.proofs.DayLaws.{record_there, record_short, record_broken, record_over}
 use Rattle.day_records.proofs.FormedLaws.{formed_at, at_first, at_second, at_version, at_op, at_end, two_bytes, next_due, four_are, head_byte}
-use Rattle.day_records.specs.Views.{of_head}
-use Rattle.day_records.specs.declared.Head.{Head}
-use Rattle.day_rescue.specs.Places.{Stands, None, size_at, Barren, Passed, RoomyEnd, Skipped}
+use Rattle.std.specs.Prelude.{Option, Some, is_some}
+use Rattle.std.specs.Prelude as code
+use Rattle.day_rescue.specs.Places.{Stands, None, size_at, Sized, Barren, Passed, RoomyEnd, Skipped}
 
 none_by : (s : List ℕ) (i : ℕ) → (Stands s i → ⊥) → None s i
 none_by s i n = ⊎_elim (λ e. absurd (n e)) (λ e. e) (which (is_formed (record_at s i)))
@@ -91,52 +91,59 @@ module _ (s : List ℕ) (i : ℕ) where
       none_by s i λ h. let f = formed_at s i h in let e = at_end s i f in let t = two_bytes s i f in omega (arith, l, e, t)
 
   -- by the length and the body
-  module _ {h g : Head} (t : h ≡ g) (e : of_head h ≡ length_of (take (i + 4 - i) (drop i s))) where
-    pub at_length : of_head g ≡ length_at s i
-    unfolding length_at
-    at_length = let z : i + 4 - i ≡ 4 = omega arith in ap of_head (sym t) ∙ (rw z at e)
+  pub at_length : {l : Length} → l ≡ length_of (take (i + 4 - i) (drop i s)) → l ≡ length_at s i
+  unfolding length_at
+  at_length e = let z : i + 4 - i ≡ 4 = omega arith in rw z at e
 
-  pub size_formed : {n : ℕ} → counts n ≡ length_at s i → n ≤ length (drop (i + 4) s) → is_formed (body_of (take n (drop (i + 4) s))) ≡ true → 4 + n ≡ size_at s i
+  pub size_formed : {n : ℕ} → counts n ≡ length_at s i → n ≤ length (drop (i + 4) s) → is_formed (body_of (take n (drop (i + 4) s))) ≡ true → Sized s i (Some (4 + n))
   size_formed {n} e l f =
-      let g = size_stands (ap is_formed (record_there s i e l) ∙ f) in
+      let h = ap is_formed (record_there s i e l) ∙ f in
+      let g = size_stands h in
       let b : behind i (length_at s i) ≡ i + 4 + n = ap (behind i) (sym e) in
-      omega (arith, g, b)
-
-  pub size_malformed : {n : ℕ} → counts n ≡ length_at s i → n ≤ length (drop (i + 4) s) → is_formed (body_of (take n (drop (i + 4) s))) ≡ false → 0 ≡ size_at s i
-  size_malformed e l f = sym (size_none (ap is_formed (record_there s i e l) ∙ f))
+      (h, omega (arith, g, b))
 
   -- as the code has the body
-  module _ {n : ℕ} (e : counts n ≡ length_at s i) (l : n ≤ length s - i - 4) {b : Bool} (f : b ≡ is_formed (body_of (take (i + 4 + n - (i + 4)) (drop (i + 4) s)))) where
-    room : n ≤ length (drop (i + 4) s)
-    room = omega (arith, l, length-drop (i + 4) s)
+  module _ {n : ℕ} (e : counts n ≡ length_at s i) where
+    module _ (l : n ≤ length s - i - 4) {b : Bool} (f : b ≡ is_formed (body_of (take (i + 4 + n - (i + 4)) (drop (i + 4) s)))) where
+      room : n ≤ length (drop (i + 4) s)
+      room = omega (arith, l, length-drop (i + 4) s)
 
-    body_is : b ≡ is_formed (body_of (take n (drop (i + 4) s)))
-    body_is = let z : i + 4 + n - (i + 4) ≡ n = omega arith in rw z at f
+      body_is : b ≡ is_formed (body_of (take n (drop (i + 4) s)))
+      body_is = let z : i + 4 + n - (i + 4) ≡ n = omega arith in rw z at f
 
-    pub body_yes : b ≡ true → 4 + n ≡ size_at s i
-    body_yes t = size_formed e room (sym body_is ∙ t)
+      pub body_yes : b ≡ true → Sized s i (Some (4 + n))
+      body_yes t = size_formed e room (sym body_is ∙ t)
 
-    pub body_no : b ≡ false → 0 ≡ size_at s i
-    body_no t = size_malformed e room (sym body_is ∙ t)
+      pub body_no : b ≡ false → None s i
+      body_no t = ap is_formed (record_there s i e room) ∙ (sym body_is ∙ t)
 
-  pub size_short : {n : ℕ} → counts n ≡ length_at s i → length s - i - 4 < n → 0 ≡ size_at s i
-  size_short e l = sym (size_none (ap is_formed (record_short s i e (omega (arith, l, length-drop (i + 4) s)))))
+    pub size_short : length s - i - 4 < n → None s i
+    size_short l = ap is_formed (record_short s i e (omega (arith, l, length-drop (i + 4) s)))
 
-  pub size_few : length s - i < 4 → 0 ≡ size_at s i
-  size_few l = sym (size_none (few_none (omega (arith, l))))
+  pub size_few : length s - i < 4 → None s i
+  size_few l = few_none (omega (arith, l))
 
-  pub size_broken : broken ≡ length_at s i → 0 ≡ size_at s i
-  size_broken e = sym (size_none (ap is_formed (record_broken s i e)))
+  pub size_broken : broken ≡ length_at s i → None s i
+  size_broken e = ap is_formed (record_broken s i e)
 
-  pub size_over : missing ≡ length_at s i → 0 ≡ size_at s i
-  size_over e = sym (size_none (ap is_formed (record_over s i e)))
+  pub size_over : missing ≡ length_at s i → None s i
+  size_over e = ap is_formed (record_over s i e)
+
+  -- whether one stands
+  pub sized_stands : (o : Option ℕ) → Sized s i o → is_some o ≡ true → Stands s i
+  sized_stands (Some n) h e = h.0
+  sized_stands code.None h e = absurd (yes_no e refl)
+
+  pub sized_none : (o : Option ℕ) → Sized s i o → is_some o ≡ false → None s i
+  sized_none (Some n) h e = absurd (yes_no refl e)
+  sized_none code.None h e = h
 
   -- a pop by its bytes
-  pub pop_size : i + 6 ≤ length s → get_or s i 0 ≡ 0 → get_or s (i + 1) 0 ≡ 0 → get_or s (i + 2) 0 ≡ 0 → get_or s (i + 3) 0 ≡ 2 → get_or s (i + 4) 0 ≡ 1 → get_or s (i + 5) 0 ≡ 6 → size_at s i ≡ 6
+  pub pop_size : i + 6 ≤ length s → get_or s i 0 ≡ 0 → get_or s (i + 1) 0 ≡ 0 → get_or s (i + 2) 0 ≡ 0 → get_or s (i + 3) 0 ≡ 2 → get_or s (i + 4) 0 ≡ 1 → get_or s (i + 5) 0 ≡ 6 → Sized s i (Some 6)
   unfolding length_at length_of body_of op_of pop_of be
   pop_size l b₀ b₁ b₂ b₃ b₄ b₅ =
       let d = length-drop (i + 4) s in
-      sym (size_formed pop_counts (omega (arith, d, l)) pop_body)
+      size_formed pop_counts (omega (arith, d, l)) pop_body
     where
       pop_bytes : take 2 (drop (i + 4) s) ≡ 1 ∷ (6 ∷ [])
       pop_bytes =
@@ -162,11 +169,5 @@ module _ (s : List ℕ) (i : ℕ) where
 
 -- ---- the places that have six bytes from them on
 
-pub roomy_few : (s : List ℕ) (end : ℕ) → length s < 6 → RoomyEnd s end 0
-roomy_few s end h = record { inside = omega arith; room = λ l. absurd (omega (arith, l)); none = λ k a b. few_none s k (omega (arith, h)) }
-
-pub roomy_low : (s : List ℕ) (end : ℕ) → 6 ≤ length s → end < length s - 5 → RoomyEnd s end end
-roomy_low s end h l = record { inside = omega arith; room = λ g. omega (arith, l); none = λ k a b. absurd (omega (arith, a, b)) }
-
-pub roomy_most : (s : List ℕ) (end : ℕ) → 6 ≤ length s → length s - 5 ≤ end → RoomyEnd s end (length s - 5)
-roomy_most s end h l = record { inside = l; room = λ g. omega (arith, h); none = λ k a b. few_none s k (omega (arith, a, h)) }
+pub roomy_ends : (s : List ℕ) (end : ℕ) → RoomyEnd s end (min end (length s - 5))
+roomy_ends s end = record { inside = omega arith; room = λ l. omega (arith, l); none = λ k a b. few_none s k (omega (arith, a, b)) }

@@ -13,10 +13,11 @@ use borrow.Author.Tests.{le-leb, lt-leb}
 use Rattle.lists.specs.Tests.{below?, which, yes_no}
 use Rattle.day_records.specs.Records.{is_formed, length_at, record_at, behind}
 use Rattle.day_records.proofs.FormedLaws.{formed_at, at_end, two_bytes, next_due}
+use Rattle.std.specs.Prelude.{Some}
 use Rattle.day_rescue.specs.declared.Run.{Run}
 use Rattle.day_rescue.specs.Rescue.{run, past, longer, listed, Walk, stopped, before, between, walk_in, walk}
-use Rattle.day_rescue.specs.Places.{Stands, None, size_at, Passed, Stretched}
-use Rattle.day_rescue.proofs.PlaceLaws.{size_some, size_stands, none_size}
+use Rattle.day_rescue.specs.Places.{Stands, None, Sized, Passed, Stretched}
+use Rattle.day_rescue.proofs.PlaceLaws.{size_stands}
 
 -- a record ends behind its place, and inside the bytes
 module _ (s : List ℕ) (i : ℕ) (h : Stands s i) where
@@ -142,16 +143,18 @@ module _ (s : List ℕ) (end : ℕ) (inside : end ≤ length s) where
           ap (λ p. before (between s from j) (n + 1) (listed r) (walk s end j (run p 0))) e))))
 
   -- by the size that the code finds
-  module _ {from i n k : ℕ} (t : Stretched s end from i n) (e : k ≡ size_at s i) (z : k ≡ 0 → ⊥) where
+  module _ {from i n k : ℕ} (t : Stretched s end from i n) (z : Sized s i (Some k)) where
     pub size_ends : i + k ≡ behind i (length_at s i)
-    size_ends = let f = size_some s i e z in let g = size_stands s i f in let b = ends_behind s i f in omega (arith, e, g, b)
+    size_ends = let e = z.1 in let g = size_stands s i z.0 in let b = ends_behind s i z.0 in omega (arith, e, g, b)
+
+    pub size_some : 6 ≤ k
+    size_some = let b = ends_behind s i z.0 in omega (arith, size_ends, b)
 
     pub size_inside : i + k ≤ length s
-    size_inside = let g = ends_inside s i (size_some s i e z) in omega (arith, g, size_ends)
+    size_inside = let g = ends_inside s i z.0 in omega (arith, g, size_ends)
 
     pub stretch_next : i < end → Stretched s end from (i + k) (n + 1)
-    stretch_next l = rw size_ends (stretch_more from i n l (size_some s i e z) t)
+    stretch_next l = rw size_ends (stretch_more from i n l z.0 t)
 
-  pub stretch_goes : {from i n : ℕ} → Stretched s end from i n → size_at s i ≡ 0 → Stands s from → from < i
-  stretch_goes {from} {i} t z f =
-      ⊎_elim (λ h. h) (λ h. let e : from ≡ i = omega (arith, h, t.forward) in absurd (yes_no (rw e at f) (none_size s i z))) (below? from i)
+  pub stretch_goes : {from i n : ℕ} → Stretched s end from i n → None s i → Stands s from → from < i
+  stretch_goes {from} {i} t z f = ⊎_elim (λ h. h) (λ h. let e : from ≡ i = omega (arith, h, t.forward) in absurd (yes_no (rw e at f) z)) (below? from i)

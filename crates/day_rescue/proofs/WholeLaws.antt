@@ -8,8 +8,8 @@ use native.Mathlib.Omega.{arith}
 use lib.ListN.{length, take, drop, length-drop, length-append}
 use lib.Seq.{sets, drop-length, length-take-le}
 use borrow.Author.Tests.{le-leb}
-use Rattle.table.specs.declared.Checked.{Checked}
-use Rattle.table.specs.declared.Checked.TheVariants.{Accepted, Refused}
+use Rattle.table.specs.Check.{Checked}
+use Rattle.std.specs.Prelude.{Ok, Err}
 use Rattle.table.specs.declared.ImageRefusal.{ImageRefusal}
 use Rattle.day_run.specs.Days.{image_end, opened}
 use Rattle.day_run.proofs.WholeLaws.{rest_is, sets_behind, open_fits}
@@ -17,7 +17,7 @@ use Rattle.byte_writer.specs.Written.{Written}
 use Rattle.byte_writer.proofs.WrittenLaws.{sets_append, written_long}
 use Rattle.day_rescue.specs.declared.Run.{Run}
 use Rattle.day_rescue.specs.declared.Piece.{Piece}
-use Rattle.day_rescue.specs.declared.Rescued.TheVariants as answers
+use Rattle.day_rescue.specs.declared.RescueRefusal.TheVariants.{Image, NoRoom}
 use Rattle.day_rescue.specs.Rescue.{run, past, before, rescue_from, day_rescue, list_room, most_place, roomy, answered, told, piecing, saved, saved_by, rescue_by}
 use Rattle.day_rescue.proofs.PieceLaws.{Room, room_there}
 use Rattle.day_rescue.proofs.BoundLaws.{walk_within}
@@ -28,21 +28,21 @@ roomy_yes n r out list a b c = rw (le-leb n out a, le-leb (list_room n) list b, 
 
 -- the image is accepted, and there is room for the whole day
 pub record Begun (day out list : List ℕ) : Type 0 where
-  pub accepted : opened day ≡ Accepted
+  pub accepted : opened day ≡ Ok tt
   pub room : roomy (length day) (run 0 0) (length out) (length list) ≡ true
 
-saved_is : (day out list : List ℕ) → opened day ≡ Accepted → saved_by Accepted day out list ≡ saved day out list
+saved_is : (day out list : List ℕ) → opened day ≡ Ok tt → saved_by (Ok tt) day out list ≡ saved day out list
 unfolding saved
 saved_is day out list e = ap (λ c. saved_by c day out list) (sym e)
 
 -- by the tests that the code makes
 module _ (day out list : List ℕ) {checked : Checked} (o : checked ≡ opened day) where
-  pub saved_refused : {why : ImageRefusal} → checked ≡ Refused why → answered (answers.Refused why) out list ≡ saved day out list
+  pub saved_refused : {why : ImageRefusal} → checked ≡ Err why → answered (Err (Image why)) out list ≡ saved day out list
   unfolding saved
   saved_refused e = sym (ap (λ c. saved_by c day out list) (sym o ∙ e))
 
-  module _ (e : checked ≡ Accepted) {b : Bool} (t : b ≡ roomy (length day) (run 0 0) (length out) (length list)) where
-    pub saved_no_room : b ≡ false → answered answers.NoRoom out list ≡ saved day out list
+  module _ (e : checked ≡ Ok tt) {b : Bool} (t : b ≡ roomy (length day) (run 0 0) (length out) (length list)) where
+    pub saved_no_room : b ≡ false → answered (Err NoRoom) out list ≡ saved day out list
     saved_no_room h = rw (sym t ∙ h) at (saved_is day out list (sym o ∙ e))
 
     pub begun : b ≡ true → Begun day out list
@@ -85,7 +85,7 @@ module _ {day out list : List ℕ} (s : Begun day out list) {end : ℕ} (g : end
           omega (arith, f, d, a, k.kept, k.inside, room.places)
 
       pub saved_all :
-          answered (answers.Saved (record { written = end + p.written; listed = p.listed; records = p.records }))
+          answered (Ok (record { written = end + p.written; listed = p.listed; records = p.records }))
           (take end mid ++ (new ++ drop (length mid - end) (drop end mid))) after ≡ saved day out list
       unfolding day_rescue
       saved_all =

@@ -1,5 +1,6 @@
 -- What the parts of the rescue do, by places of the bytes. Assumes nothing.
-use Rattle.std.specs.Prelude.{ℕ, ◌+◌, ◌-◌, ◌≤◌, ◌<◌, true, false, cond, ◌≡◌, List, length}
+use Rattle.std.specs.Prelude.{ℕ, ◌+◌, ◌-◌, ◌≤◌, ◌<◌, true, false, cond, ◌≡◌, List, length, Option, Some}
+use Rattle.std.specs.Prelude as code
 use Rattle.day_records.specs.Records.{is_formed, length_at, record_at, behind}
 use Rattle.day_rescue.specs.declared.Run.{Run}
 use Rattle.day_rescue.specs.Rescue.{run, past, listed, before, between, walk}
@@ -14,6 +15,11 @@ None s i = is_formed (record_at s i) ≡ false
 -- how many bytes it has; 0 where none stands
 unfoldable pub size_at : List ℕ → ℕ → ℕ
 size_at s i = cond (is_formed (record_at s i)) (behind i (length_at s i) - i) 0
+
+-- as the code has it: its size, or none
+abbrev pub Sized : List ℕ → ℕ → Option ℕ → Type 0
+Sized s i (Some n) = Stands s i × (n ≡ size_at s i)
+Sized s i code.None = None s i
 
 -- none stands here and at the next place
 pub record Barren (s : List ℕ) (i : ℕ) : Type 0 where

@@ -1,16 +1,15 @@
 -- Document 02, C-23: what is kept of a damaged gate day and what is dropped, and what is told of it in lent bytes. Assumes nothing.
-use Rattle.std.specs.Prelude.{ℕ, zero, suc, ◌+◌, ◌-◌, ◌*◌, Bool, true, false, cond, ◌&&◌, List, [], ◌∷◌, ◌++◌, leb, eqb, length, take, drop}
+use Rattle.std.specs.Prelude.{ℕ, zero, suc, ◌+◌, ◌-◌, ◌*◌, Bool, true, false, cond, ◌&&◌, List, [], ◌∷◌, ◌++◌, leb, eqb, length, take, drop, Result, Ok, Err}
 use Rattle.std.proofs.lemmas.List.Edits.{sets}
 use Rattle.table_rows.specs.Bytes.{be_bytes}
-use Rattle.table.specs.declared.Checked.{Checked}
-use Rattle.table.specs.declared.Checked.TheVariants.{Accepted, Refused}
+use Rattle.table.specs.Check.{Checked}
 use Rattle.day_records.specs.Records.{most_bytes, is_formed, length_at, record_at, behind}
 use Rattle.day_run.specs.Days.{image_end, image_in, record_bytes, opened}
 use Rattle.day_rescue.specs.declared.Run.{Run}
 use Rattle.day_rescue.specs.declared.Piece.{Piece}
 use Rattle.day_rescue.specs.declared.Totals.{Totals}
-use Rattle.day_rescue.specs.declared.Rescued.{Rescued}
-use Rattle.day_rescue.specs.declared.Rescued.TheVariants as answers
+use Rattle.day_rescue.specs.declared.RescueRefusal.{RescueRefusal}
+use Rattle.day_rescue.specs.declared.RescueRefusal.TheVariants.{Image, NoRoom}
 
 -- ---- "each run of dropped bytes by place and length": the place from the file's first byte
 
@@ -76,8 +75,8 @@ abbrev pub nothing : Walk
 nothing = stopped 0 (run 0 0)
 
 abbrev pub rescue_by : Checked → List ℕ → Walk
-rescue_by Accepted day = before (image_in day) 0 [] (rescue_from (image_end day) (record_bytes day))
-rescue_by (Refused why) day = nothing
+rescue_by (Ok u) day = before (image_in day) 0 [] (rescue_from (image_end day) (record_bytes day))
+rescue_by (Err why) day = nothing
 
 unfoldable pub day_rescue : List ℕ → Walk
 day_rescue day = rescue_by (opened day) day
@@ -134,12 +133,15 @@ abbrev pub totals : Piece → Totals
 totals p = record { written = p.written; listed = p.listed; records = p.records }
 
 -- "Refusals: 1 to 4 as for the image", and then too little room; the lent bytes then stay as they were
+abbrev pub Rescued : Type 0
+Rescued = Result Totals RescueRefusal
+
 abbrev pub saved_by : Checked → List ℕ → List ℕ → List ℕ → Answered Rescued
-saved_by Accepted day out list =
+saved_by (Ok u) day out list =
     let p = told (day_rescue day) out list in
-    cond (roomy (length day) (run 0 0) (length out) (length list)) (answered (answers.Saved (totals p.answer)) p.out p.list)
-    (answered answers.NoRoom out list)
-saved_by (Refused why) day out list = answered (answers.Refused why) out list
+    cond (roomy (length day) (run 0 0) (length out) (length list)) (answered (Ok (totals p.answer)) p.out p.list)
+    (answered (Err NoRoom) out list)
+saved_by (Err why) day out list = answered (Err (Image why)) out list
 
 unfoldable pub saved : List ℕ → List ℕ → List ℕ → Answered Rescued
 saved day out list = saved_by (opened day) day out list

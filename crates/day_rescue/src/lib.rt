@@ -3,27 +3,29 @@
 // is said in crate day_records alone. A byte is looked at from at most twelve places, each tried at most twice; a kept byte is copied once.
 #![tactic(auto)]
 
-ghost use Rattle.std.specs.Prelude.{◌≡◌, true, ◌+◌, ◌≤◌, ◌<◌, length};
+ghost use Rattle.std.specs.Prelude.{◌≡◌, true, ◌+◌, ◌≤◌, ◌<◌, length, Some};
 ghost use Rattle.byte_writer.specs.Written.{Written};
 ghost use Rattle.day_rescue.specs.Rescue as rules;
-ghost use Rattle.day_rescue.specs.Rescue.{run, listed, run_bytes, last_place, answered, piecing, saved};
-ghost use Rattle.day_rescue.specs.Places.{size_at, Barren, Passed, RoomyEnd, Stands, Skipped, Stretched};
+ghost use Rattle.day_rescue.specs.declared.RescueRefusal.TheVariants.{Image};
+ghost use Rattle.day_rescue.specs.Rescue.{listed, run_bytes, last_place, answered, piecing, saved};
+ghost use Rattle.day_rescue.specs.Places.{size_at, Sized, Barren, RoomyEnd, Stands, Skipped, Stretched};
 
-use day_records::Head;
-use table::{Checked, ImageRefusal};
+use day_records::Malformed;
+use table::ImageRefusal;
 
 // The bytes of a length, and of the shortest record.
 const LENGTH: usize = day_records::LENGTH_BYTES;
 
 const SHORTEST: usize = 6;
 
+// The last op.
+const LAST_OP: u8 = 6;
+
 // So many bytes behind a place may be its record's; `last_place` of specs/ says the same.
 const AHEAD: usize = day_records::MOST_BYTES + 3;
 
 // Place and length of a run in the list.
 pub const RUN_BYTES: usize = 16;
-
-const MOST_PLACE: u64 = 18446744073709551615;
 
 // A run of dropped bytes: where it begins, counted from the file's first byte, and how many they are.
 #[derive(Clone, Copy)]
@@ -51,69 +53,60 @@ pub struct Totals {
     pub records: usize,
 }
 
-// What a whole day comes to.
-#[derive(Clone, Copy)]
-pub enum Rescued {
-    // image and kept records stand in the output, the runs in the list
-    Saved(Totals),
-    // the image is refused: nothing is rescued
-    Refused(ImageRefusal),
+// Why nothing of a day is rescued.
+#[derive(Clone, Copy, PartialEq, Eq)]
+pub enum RescueRefusal {
+    // the image is refused
+    Image(ImageRefusal),
     // the output has fewer bytes than the day, or the list fewer than 16 and 3 for each byte of it
     NoRoom,
 }
 
+impl From<ImageRefusal> for RescueRefusal {
+    ghost from_gives = { λ why r. r ≡ Image why };
+
+    fn from(why: ImageRefusal) -> RescueRefusal {
+        RescueRefusal::Image(why)
+    }
+}
+
 // ---- one place
 
-// How many bytes the well-formed record at a place has, the four of its length with them; 0 where none stands there.
-fn size_at(bytes: &[u8], at: usize) -> usize
+// How many bytes the well-formed record at a place has, the four of its length with them; none where none stands there.
+fn size_at(bytes: &[u8], at: usize) -> Option<usize>
     requires { at ≤ length bytes.now }
-    ensures { result ≡ size_at bytes.now at }
+    ensures { Sized bytes.now at result }
 {
     let left = bytes.len() - at;
     if left < LENGTH {
-        return 0;
+        return None;
     }
     let start = at + LENGTH;
     match day_records::length_of(&bytes[at..start]) {
-        Head::Counts(n) => {
-            if left - LENGTH < n {
-                return 0;
+        Ok(Some(n)) => {
+            if n <= left - LENGTH && day_records::is_formed(&bytes[start..start + n]) {
+                Some(LENGTH + n)
+            } else {
+                None
             }
-            let end = start + n;
-            if day_records::is_formed(&bytes[start..end]) {
-                return LENGTH + n;
-            }
-            0
         }
-        Head::Broken => 0,
-        Head::Missing => 0,
+        Ok(None) => None,
+        Err(Malformed) => None,
     }
 }
 
 // A pop is the same six bytes always.
 fn is_pop(bytes: &[u8], at: usize) -> bool
     requires { at ≤ length bytes.now }
-    ensures { result ≡ true → size_at bytes.now at ≡ 6 }
+    ensures { result ≡ true → Sized bytes.now at (Some 6) }
 {
-    if bytes.len() - at < SHORTEST {
-        return false;
-    }
-    if bytes[at + 5] != 6 {
-        return false;
-    }
-    if bytes[at + 4] != 1 {
-        return false;
-    }
-    if bytes[at + 3] != 2 {
-        return false;
-    }
-    if bytes[at + 2] != 0 {
-        return false;
-    }
-    if bytes[at + 1] != 0 {
-        return false;
-    }
-    bytes[at] == 0
+    SHORTEST <= bytes.len() - at
+        && bytes[at + 5] == 6
+        && bytes[at + 4] == 1
+        && bytes[at + 3] == 2
+        && bytes[at + 2] == 0
+        && bytes[at + 1] == 0
+        && bytes[at] == 0
 }
 
 // Neither here nor at the next place can a record stand: a length begins with two zeros, and behind it stand a version and an op, 1 to 6.
@@ -121,56 +114,28 @@ fn is_barren(bytes: &[u8], at: usize) -> bool
     requires { at + 6 ≤ length bytes.now }
     ensures { result ≡ true → Barren bytes.now at }
 {
-    if bytes[at + 1] != 0 {
-        return true;
-    }
-    let op = bytes[at + 5];
-    if op == 0 {
-        return true;
-    }
-    6 < op
+    bytes[at + 1] != 0 || bytes[at + 5] == 0 || LAST_OP < bytes[at + 5]
 }
 
 // As size_at, pops first.
-fn next_size(bytes: &[u8], at: usize) -> usize
+fn next_size(bytes: &[u8], at: usize) -> Option<usize>
     requires { at ≤ length bytes.now }
-    ensures { result ≡ size_at bytes.now at }
+    ensures { Sized bytes.now at result }
 {
     if is_pop(bytes, at) {
-        return SHORTEST;
+        Some(SHORTEST)
+    } else {
+        size_at(bytes, at)
     }
-    size_at(bytes, at)
 }
 
 // ---- many places
 
-// Over such pairs of places: the first place that is not passed over, or one behind `end`.
-fn hop(bytes: &[u8], from: usize, end: usize) -> usize
-    requires { end + 5 ≤ length bytes.now }
-    ensures { Passed bytes.now from result }
-{
-    let mut at = from;
-    while at < end {
-        if !is_barren(bytes, at) {
-            break;
-        }
-        at += 2;
-    }
-    at
-}
-
-// The places from here on have six bytes behind them.
+// The places from here on have no six bytes behind them.
 fn roomy_end(bytes: &[u8], end: usize) -> usize
     ensures { RoomyEnd bytes.now end result }
 {
-    if bytes.len() < SHORTEST {
-        return 0;
-    }
-    let most = bytes.len() - 5;
-    if end < most {
-        return end;
-    }
-    most
+    end.min(bytes.len().saturating_sub(SHORTEST - 1))
 }
 
 // The first place from `from` on where a well-formed record stands, or `end`.
@@ -181,11 +146,11 @@ fn skip(bytes: &[u8], from: usize, end: usize) -> usize
     let stop = roomy_end(bytes, end);
     let mut at = from;
     while at < stop {
-        at = hop(bytes, at, stop);
-        if at < stop {
-            if 0 < size_at(bytes, at) {
-                return at;
-            }
+        if is_barren(bytes, at) {
+            at += 2;
+        } else if size_at(bytes, at).is_some() {
+            return at;
+        } else {
             at += 1;
         }
     }
@@ -205,12 +170,11 @@ fn stretch(bytes: &[u8], from: usize, end: usize) -> Span
     ensures from_lt_end { from < end → Stands bytes.now from → from < result.end }
 {
     let mut at = from;
-    let mut records: usize = 0;
+    let mut records = 0;
     while at < end {
-        let n = next_size(bytes, at);
-        if n == 0 {
+        let Some(n) = next_size(bytes, at) else {
             break;
-        }
+        };
         at += n;
         records += 1;
     }
@@ -218,15 +182,15 @@ fn stretch(bytes: &[u8], from: usize, end: usize) -> Span
 }
 
 // A run behind those of the list; nothing, where it has no byte.
-fn put_run(list: &mut [u8], at: usize, place: u64, many: u64) -> usize
+fn put_run(list: &mut [u8], at: usize, run: Run) -> usize
     requires { at ≤ length list.old }
-    ensures { Written list.old at (run_bytes (listed (run place many))) list.new result }
+    ensures { Written list.old at (run_bytes (listed run)) list.new result }
 {
-    if many == 0 {
+    if run.length == 0 {
         return at;
     }
-    let next = byte_writer::put_number(list, at, 8, place);
-    byte_writer::put_number(list, next, 8, many)
+    let next = byte_writer::put_number(list, at, 8, run.place);
+    byte_writer::put_number(list, next, 8, run.length)
 }
 
 // ---- a piece
@@ -234,32 +198,18 @@ fn put_run(list: &mut [u8], at: usize, place: u64, many: u64) -> usize
 fn roomy(n: usize, pending: Run, out: usize, list: usize) -> bool
     ensures { result ≡ rules.roomy n pending out list }
 {
-    if out < n {
-        return false;
-    }
-    if list < RUN_BYTES {
-        return false;
-    }
-    if (list - RUN_BYTES) / 3 < n {
-        return false;
-    }
-    if MOST_PLACE - pending.place < pending.length {
-        return false;
-    }
-    (n as u64) <= MOST_PLACE - pending.place - pending.length
+    n <= out
+        && RUN_BYTES <= list
+        && n <= (list - RUN_BYTES) / 3
+        && pending.length <= u64::MAX - pending.place
+        && n as u64 <= u64::MAX - pending.place - pending.length
 }
 
 // The places before it may be tried.
 fn last_place(last: bool, n: usize) -> usize
     ensures { result ≡ last_place last n }
 {
-    if last {
-        return n;
-    }
-    if n < AHEAD {
-        return 0;
-    }
-    n - AHEAD
+    if last { n } else { n.saturating_sub(AHEAD) }
 }
 
 // Nothing of a piece is done.
@@ -290,70 +240,62 @@ pub fn rescue_piece(
         return untouched(pending);
     }
     let end = last_place(last, bytes.len());
-    let mut at: usize = 0;
-    let mut written: usize = 0;
-    let mut listed: usize = 0;
-    let mut records: usize = 0;
-    let mut place = pending.place;
-    let mut many = pending.length;
+    let mut at = 0;
+    let mut written = 0;
+    let mut listed = 0;
+    let mut records = 0;
+    let mut run = pending;
     while at < end {
         let next = skip(bytes, at, end);
-        many += (next - at) as u64;
+        run.length += (next - at) as u64;
         let kept = stretch(bytes, next, end);
         at = kept.end;
         if next < at {
-            listed = put_run(list, listed, place, many);
+            listed = put_run(list, listed, run);
             written = byte_writer::write_text(out, written, &bytes[next..at]);
             records += kept.records;
-            place = place + many + (at - next) as u64;
-            many = 0;
+            run.place = run.place + run.length + (at - next) as u64;
+            run.length = 0;
         }
     }
     if last {
-        listed = put_run(list, listed, place, many);
-        place += many;
-        many = 0;
+        listed = put_run(list, listed, run);
+        run.place += run.length;
+        run.length = 0;
     }
     Piece {
         used: at,
         written,
         listed,
         records,
-        pending: Run {
-            place,
-            length: many,
-        },
+        pending: run,
     }
 }
 
 // ---- a whole day
 
 // Image and kept records over the front of the output, the dropped runs over the front of the list.
-pub fn rescue(day: &[u8], out: &mut [u8], list: &mut [u8]) -> Rescued
+pub fn rescue(day: &[u8], out: &mut [u8], list: &mut [u8]) -> Result<Totals, RescueRefusal>
     ensures { answered result out.new list.new ≡ saved day.now out.old list.old }
 {
-    match day_run::open(day) {
-        Checked::Refused(why) => Rescued::Refused(why),
-        Checked::Accepted => {
-            let none = Run {
-                place: 0,
-                length: 0,
-            };
-            if !roomy(day.len(), none, out.len(), list.len()) {
-                return Rescued::NoRoom;
-            }
-            let end = day_run::image_end(day);
-            let pending = Run {
-                place: end as u64,
-                length: 0,
-            };
-            byte_writer::write_text(out, 0, &day[..end]);
-            let piece = rescue_piece(&day[end..], true, pending, &mut out[end..], list);
-            Rescued::Saved(Totals {
-                written: end + piece.written,
-                listed: piece.listed,
-                records: piece.records,
-            })
-        }
+    day_run::open(day)?;
+    let none = Run {
+        place: 0,
+        length: 0,
+    };
+    if !roomy(day.len(), none, out.len(), list.len()) {
+        return Err(RescueRefusal::NoRoom);
     }
+    let end = day_run::image_end(day);
+    let pending = Run {
+        place: end as u64,
+        length: 0,
+    };
+    byte_writer::write_text(out, 0, &day[..end]);
+    let piece = rescue_piece(&day[end..], true, pending, &mut out[end..], list);
+    Ok(Totals {
+        written: end + piece.written,
+        listed: piece.listed,
+        records: piece.records,
+    })
 }

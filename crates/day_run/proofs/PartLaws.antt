@@ -8,6 +8,8 @@ use borrow.Author.Tests.{lt-ltb, le-ltb}
 use Rattle.table_rows.specs.Bytes.{be}
 use Rattle.day_records.specs.Records.{most_bytes, body_of}
 use Rattle.day_records.specs.Views.{Parses}
+use Rattle.std.specs.Prelude.{Result}
+use Rattle.day_records.specs.declared.Malformed.{Malformed}
 use Rattle.day_records.specs.declared.Parsed.{Parsed}
 use Rattle.day_run.specs.Days.{pending, broken, whole, next_at, bytes_left, body_at}
 
@@ -37,6 +39,6 @@ module _ (bytes : List ℕ) (i : ℕ) (h : i ≤ length bytes) where
 
 -- ---- a record's bytes
 
-pub body_there : (bytes : List ℕ) (i n : ℕ) {r : Parsed} {before after : List ℕ} →
+pub body_there : (bytes : List ℕ) (i n : ℕ) {r : Result Parsed Malformed} {before after : List ℕ} →
     Parses r before after (body_of (take (i + 4 + n - (i + 4)) (drop (i + 4) bytes))) → Parses r before after (body_at bytes i n)
 body_there bytes i n p = let e : i + 4 + n - (i + 4) ≡ n = omega arith in rw e at p

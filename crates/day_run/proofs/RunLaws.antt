@@ -1,6 +1,6 @@
 -- What the loop over a piece's records knows: the state that the arrays hold, the lines written, and what is left of the run. Assumes nothing.
 use mathlib.Core.Bool.{Bool, true, false, cond}
-use mathlib.Core.Path.{◌≡◌, refl, ap, ◌∙◌, sym}
+use mathlib.Core.Path.{◌≡◌, refl, ap, ◌∙◌}
 use mathlib.Core.List.{List, [], ◌++◌, append_assoc, append-nil}
 use Prim.Native.Nat.{ℕ, zero, suc, ◌+◌, ◌-◌, ◌≤◌, ◌<◌}
 use native.Mathlib.Omega.{arith}
@@ -15,12 +15,13 @@ use Rattle.state_room.specs.Holds.{Rows, Holds, state_in}
 use Rattle.state_room.proofs.Holds.{state_is}
 use Rattle.day_records.specs.Records.{Record, call, malformed, cut, over, most_bytes}
 use Rattle.day_records.specs.Views.{of_parsed, Parses}
+use Rattle.std.specs.Prelude.{Result}
+use Rattle.day_records.specs.declared.Malformed.{Malformed}
 use Rattle.day_records.specs.declared.Parsed.{Parsed}
 use Rattle.byte_writer.specs.Written.{Written}
 use Rattle.byte_writer.proofs.WrittenLaws.{written_none, written_then, written_as, written_long, written_room}
 use Rattle.day_run.specs.Days.{Next, pending, broken, whole, next_at, bytes_left, body_at, Ran, stopped, ended_at, behind, longest, malformed_line, line_at, state_at, ran_in, ran_on, ran}
-use Rattle.day_run.specs.Views.{of_next, Kept, Takes, RunOn}
-use Rattle.day_run.specs.declared.Next as code
+use Rattle.day_run.specs.Views.{Kept, Takes, RunOn}
 
 -- ---- what stands at a place
 
@@ -40,10 +41,6 @@ next_there bytes i = go (ltb (bytes_left bytes i) 4) refl (ltb most_bytes (be 4 
     go false e true c f = ltb-false (bytes_left bytes i) 4 e
     go false e false true f = omega arith
     go false e false false f = ltb-false (bytes_left bytes i) (4 + be 4 bytes i) f
-
--- by what the code found there
-pub told : {x y : code.Next} {z : Next} → x ≡ y → of_next x ≡ z → of_next y ≡ z
-told e f = ap of_next (sym e) ∙ f
 
 module _ (bytes : List ℕ) (i : ℕ) (h : i ≤ length bytes) where
   pub whole_fits : {m : ℕ} → whole m ≡ next_at bytes i → i + 4 + m ≤ length bytes
@@ -153,7 +150,7 @@ module _ {img : Image} {bytes : List ℕ} {first : Rows} {old : List ℕ} {d : R
       pub fits : used + 4 + m ≤ length bytes
       fits = whole_fits bytes used g.inside w
 
-      pub runs_on : {parsed : Parsed} {before after : List ℕ} → Parses parsed before after (body_at bytes used m) → {line : List ℕ} {d-end : Rows} {written-end : ℕ} {out-end : List ℕ} →
+      pub runs_on : {parsed : Result Parsed Malformed} {before after : List ℕ} → Parses parsed before after (body_at bytes used m) → {line : List ℕ} {d-end : Rows} {written-end : ℕ} {out-end : List ℕ} →
           ((s : State) → rules img s ≡ true → Holds img s d → Takes img s (of_parsed parsed after) line d-end) → Written out written line out-end written-end → {next : ℕ} → next ≡ used + 4 + m →
           Running img bytes first old d-end next written-end out-end
       runs_on p {line} {d-end} {written-end} {out-end} t x q =

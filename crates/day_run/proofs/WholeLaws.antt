@@ -13,8 +13,8 @@ use Rattle.lists.specs.Tests.{same?, or_neither}
 use Rattle.lists.specs.Every.{no_way, or_left, or_right, not_both, either_is}
 use Rattle.table_rows.specs.Bytes.{Image, be}
 use Rattle.table.specs.Check.{check, accepts, is_table}
-use Rattle.table.specs.declared.Checked.{Checked}
-use Rattle.table.specs.declared.Checked.TheVariants.{Accepted, Refused}
+use Rattle.std.specs.Prelude.{Ok, Err}
+use Rattle.table.specs.Check.{Checked}
 use Rattle.table.specs.declared.ImageRefusal.{ImageRefusal}
 use Rattle.table.specs.declared.ImageRefusal.TheVariants.{Length}
 use Rattle.machine.specs.State.{State, fresh}
@@ -415,25 +415,25 @@ module _ (img : Image) (a old : List ℕ) {new : List ℕ} (d : Rows) {p : Piece
 -- ---- the image
 
 module _ (day : List ℕ) where
-  refused_open : (ltb (length day) (image_end day) || ltb largest (image_end day)) ≡ true → Refused Length ≡ opened day
+  refused_open : (ltb (length day) (image_end day) || ltb largest (image_end day)) ≡ true → Err Length ≡ opened day
   unfolding opened
-  refused_open e = sym (ap (λ t. cond t (Refused Length) (check (image_in day))) e)
+  refused_open e = sym (ap (λ t. cond t (Err Length) (check (image_in day))) e)
 
   module _ (end : ℕ) (e : end ≡ image_end day) where
-    pub open_short : length day < end → Refused Length ≡ opened day
+    pub open_short : length day < end → Err Length ≡ opened day
     open_short h = refused_open (or_left _ (lt-ltb (length day) (image_end day) (rw e at h)))
 
-    pub open_large : largest < end → Refused Length ≡ opened day
+    pub open_large : largest < end → Err Length ≡ opened day
     open_large h = refused_open (or_right (ltb (length day) (image_end day)) (lt-ltb largest (image_end day) (rw e at h)))
 
     pub open_checked : end ≤ length day → end ≤ largest → {r : Checked} → r ≡ check (take end day) → r ≡ opened day
     unfolding opened
     open_checked h l c =
         c ∙ (ap (λ n. check (take n day)) e ∙
-        sym (ap (λ t. cond t (Refused Length) (check (image_in day))) (or_neither _ _ (le-ltb (length day) (image_end day) (rw e at h)) (le-ltb largest (image_end day) (rw e at l)))))
+        sym (ap (λ t. cond t (Err Length) (check (image_in day))) (or_neither _ _ (le-ltb (length day) (image_end day) (rw e at h)) (le-ltb largest (image_end day) (rw e at l)))))
 
-  module _ (t : opened day ≡ Accepted) where
-    table_there : ((ltb (length day) (image_end day) || ltb largest (image_end day)) ≡ false) × (check (image_in day) ≡ Accepted)
+  module _ (t : opened day ≡ Ok tt) where
+    table_there : ((ltb (length day) (image_end day) || ltb largest (image_end day)) ≡ false) × (check (image_in day) ≡ Ok tt)
     unfolding opened
     table_there = either_is (ltb (length day) (image_end day) || ltb largest (image_end day)) t (λ u v. no_way (ap accepts v)) (λ u v. (u, v))
 
@@ -474,15 +474,15 @@ module _ (day old : List ℕ) where
   told_none h = written_as (written_none old 0 (omega arith)) (sym (fitting_full (length old) (day_answers day) h))
 
   module _ (room : longest ≤ length old) {mid : List ℕ} {m : ℕ} {checked : Checked} (o : checked ≡ opened day) (w : Written old 0 (table_line checked) mid m) where
-    pub told_refused : {r : ImageRefusal} → checked ≡ Refused r → Told mid m
+    pub told_refused : {r : ImageRefusal} → checked ≡ Err r → Told mid m
     unfolding day_answers
     told_refused {r} e =
         written_as w
         (ap table_line e ∙ sym
         (ap (λ t. fitting (length old) (answers_by t day)) (sym o ∙ e) ∙
-        (fitting_more (length old) (table_line (Refused r)) [] room ∙ (ap (λ x. table_line (Refused r) ++ x) (fitting_none _) ∙ append-nil (table_line (Refused r))))))
+        (fitting_more (length old) (table_line (Err r)) [] room ∙ (ap (λ x. table_line (Err r) ++ x) (fitting_none _) ∙ append-nil (table_line (Err r))))))
 
-    pub told_accepted : checked ≡ Accepted → {end : ℕ} → end ≡ image_end day → {new : List ℕ} {n : ℕ} →
+    pub told_accepted : checked ≡ Ok tt → {end : ℕ} → end ≡ image_end day → {new : List ℕ} {n : ℕ} →
         Written (take (length mid - m) (drop m mid)) 0
         (fitting (length (take (length mid - m) (drop m mid))) (answers_of (take end day) (fresh (take end day)) (records_from (take (length day - end) (drop end day)) 0))) new n →
         Told (take m mid ++ (new ++ drop (length mid - m) (drop m mid))) (m + n)
@@ -490,7 +490,7 @@ module _ (day old : List ℕ) where
     told_accepted e {end} k {new} {n} x =
         let part = take (length mid - m) (drop m mid) in
         let q : part ≡ drop m mid = rest_is mid m in
-        let first = table_line Accepted in
+        let first = table_line (Ok tt) in
         let v : Written old 0 first mid m = written_as w (ap table_line e) in
         let inside : m ≤ length mid = written_room v in
         let d = length-drop m mid in

@@ -1,10 +1,8 @@
 -- Document 01, "The bench program": the lines of a gate day, an image and its records. Assumes nothing.
-use Rattle.std.specs.Prelude.{ℕ, zero, suc, ◌+◌, ◌-◌, Bool, true, false, cond, ◌||◌, List, [], ◌∷◌, ◌++◌, ltb, length, take, drop}
+use Rattle.std.specs.Prelude.{ℕ, zero, suc, ◌+◌, ◌-◌, Bool, true, false, cond, ◌||◌, List, [], ◌∷◌, ◌++◌, ltb, length, take, drop, Ok, Err}
 use Rattle.table_rows.specs.Bytes.{Image, be}
 use Rattle.table_rows.specs.Kinds.{largest}
-use Rattle.table.specs.Check.{check}
-use Rattle.table.specs.declared.Checked.{Checked}
-use Rattle.table.specs.declared.Checked.TheVariants.{Accepted, Refused}
+use Rattle.table.specs.Check.{Checked, check}
 use Rattle.table.specs.declared.ImageRefusal.TheVariants.{Length}
 use Rattle.machine.specs.State.{State, fresh}
 use Rattle.machine.specs.Machine.{Call, step}
@@ -129,12 +127,12 @@ record_bytes day = drop (image_end day) day
 
 -- "An image cut short or longer than the largest is "table refused 1 0"."
 unfoldable pub opened : List ℕ → Checked
-opened day = cond (ltb (length day) (image_end day) || ltb largest (image_end day)) (Refused Length) (check (image_in day))
+opened day = cond (ltb (length day) (image_end day) || ltb largest (image_end day)) (Err Length) (check (image_in day))
 
 -- "table ok", and a line for each record; or "table refused N PLACE", "and the run ends"
 abbrev pub answers_by : Checked → List ℕ → List (List ℕ)
-answers_by Accepted day = table_line Accepted ∷ answers_of (image_in day) (fresh (image_in day)) (records_from (record_bytes day) 0)
-answers_by (Refused r) day = table_line (Refused r) ∷ []
+answers_by (Ok u) day = table_line (Ok u) ∷ answers_of (image_in day) (fresh (image_in day)) (records_from (record_bytes day) 0)
+answers_by (Err r) day = table_line (Err r) ∷ []
 
 unfoldable pub day_answers : List ℕ → List (List ℕ)
 day_answers day = answers_by (opened day) day

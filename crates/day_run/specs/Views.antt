@@ -1,44 +1,42 @@
 -- The code's answers as the definitions', and what its parts do. Assumes nothing.
-use Rattle.std.specs.Prelude.{Bool, true, cond, ◌≡◌, List, ℕ, ◌≤◌, length}
+use Rattle.std.specs.Prelude.{Bool, true, ◌≡◌, List, ℕ, ◌≤◌, length, Result, Option, Ok, Err, Some, None}
 use Rattle.table_rows.specs.Bytes.{Image}
 use Rattle.machine.specs.State.{State}
 use Rattle.machine.specs.Machine.{rules}
 pub use Rattle.state_room.specs.Holds.{Kept}
-use Rattle.state_room.specs.Holds.{Rows, Holds, rows_of, state_in}
+use Rattle.state_room.specs.Holds.{Rows, Holds, rows_of}
 use Rattle.byte_writer.specs.Written.{Written}
 use Rattle.day_lines.specs.Lines.{line_of}
 use Rattle.call_push.specs.declared.Push.TheVariants as P
 use Rattle.call_perform.specs.Calls.{reply_of}
+use Rattle.call_perform.specs.declared.Call.{Call}
 use Rattle.call_perform.specs.declared.Call.TheVariants as K
+use Rattle.call_perform.specs.declared.Performed.{Performed}
 use Rattle.day_records.specs.Records.{Record}
+use Rattle.day_records.specs.declared.Malformed.{Malformed}
 use Rattle.day_records.specs.declared.Parsed.{Parsed}
-use Rattle.day_records.specs.declared.Parsed.TheVariants.{Plain, Network, Control, Action, Transition, Pop, Malformed}
+use Rattle.day_records.specs.declared.Parsed.TheVariants.{Plain, Network, Control, Action, Transition, Pop}
 use Rattle.day_run.specs.Days as D
-use Rattle.day_run.specs.declared.Taken.{Taken}
 use Rattle.day_run.specs.declared.Pieces.{Pieces}
-use Rattle.day_run.specs.declared.Op.{Op}
-use Rattle.day_run.specs.declared.Op.TheVariants as A
-use Rattle.day_run.specs.declared.Next.{Next}
-use Rattle.day_run.specs.declared.Next.TheVariants.{Pending, Broken, Whole}
 
-abbrev pub of_next : Next → D.Next
-of_next Pending = D.pending
-of_next Broken = D.broken
-of_next (Whole n) = D.whole n
+abbrev pub of_next : Result (Option ℕ) Malformed → D.Next
+of_next (Ok None) = D.pending
+of_next (Ok (Some n)) = D.whole n
+of_next (Err e) = D.broken
 
 -- what a record asks for
-abbrev pub op_of : Parsed → Op
-op_of (Plain t terminal n) = A.Call (K.Push (P.Plain t terminal))
-op_of (Network t n) = A.Call (K.Push (P.Network t))
-op_of (Control t) = A.Call (K.Push (P.Control t))
-op_of (Action a t terminal n) = A.Call (K.Push (P.Action (record { action = a; tag = t; terminal = terminal })))
-op_of (Transition r m reset t) = A.Call (K.Transition (record { reactor = r; mode = m; reset = reset; c = t }))
-op_of Pop = A.Call K.Pop
-op_of Malformed = A.Malformed
+abbrev pub call_of : Parsed → Call
+call_of (Plain t terminal n) = K.Push (P.Plain t terminal)
+call_of (Network t n) = K.Push (P.Network t)
+call_of (Control t) = K.Push (P.Control t)
+call_of (Action a t terminal n) = K.Push (P.Action (record { action = a; tag = t; terminal = terminal }))
+call_of (Transition r m reset t) = K.Transition (record { reactor = r; mode = m; reset = reset; c = t })
+call_of Pop = K.Pop
 
--- the line of a record that was taken, a pop's action keys in the array
-abbrev pub line_from : Image → Taken → List ℕ → List ℕ
-line_from img t keys = cond t.malformed D.malformed_line (line_of img (reply_of t.performed keys))
+-- the line of a record that was taken, a pop's action keys in the array; what is malformed has one too
+abbrev pub line_from : Image → Result Performed Malformed → List ℕ → List ℕ
+line_from img (Ok p) keys = line_of img (reply_of p keys)
+line_from img (Err e) keys = D.malformed_line
 
 -- ---- a day's state, in its rows
 
@@ -59,9 +57,6 @@ pub record RunOn (img : Image) (r : D.Ran) (after : Rows) (took wrote : ℕ) (cl
   pub ended : closed ≡ r.ended
   pub lines : Written old 0 r.lines new wrote
 
--- by value, and on rows: from the state that they hold, in as much room as the buffer has
+-- by value
 abbrev pub Pieced : Image → D.Ran → Pieces → List ℕ → List ℕ → List ℕ → Type 0
 Pieced img r p = RunOn img r (rows_of p.day) p.used p.written p.ended
-
-abbrev pub RunRows : Image → Rows → Rows → ℕ → ℕ → Bool → List ℕ → List ℕ → List ℕ → Type 0
-RunRows img before after took wrote closed bytes old = RunOn img (D.ran img bytes (state_in img before) (length old)) after took wrote closed bytes old

@@ -1,5 +1,5 @@
 -- What a day's tale is told from, as lists of numbers. Assumes nothing.
-use Rattle.std.specs.Prelude.{ℕ, ◌/◌, ◌%◌, cond, List, [], ◌∷◌, ◌++◌, ltb, eqb, get_or}
+use Rattle.std.specs.Prelude.{ℕ, ◌/◌, ◌%◌, cond, List, [], ◌∷◌, ◌++◌, ltb, eqb, get_or, Result, Ok, Err}
 use Rattle.lists.specs.Tests.{bit_of}
 use Rattle.lists.specs.Walk.{done, refused}
 use Rattle.table_rows.specs.Bytes.{Image}
@@ -8,8 +8,9 @@ use Rattle.tags.specs.Tags.{Tag, Answer, to_local, to_global, tag_only, held_in}
 use Rattle.machine.specs.State.{root}
 use Rattle.state_scopes.specs.Scopes.{Scope, blank}
 use Rattle.day_lines.specs.Text.{text, decimal}
+use Rattle.day_records.specs.declared.Malformed.{Malformed}
 use Rattle.day_records.specs.declared.Parsed.{Parsed}
-use Rattle.day_records.specs.declared.Parsed.TheVariants.{Plain, Network, Control, Action, Transition, Pop, Malformed}
+use Rattle.day_records.specs.declared.Parsed.TheVariants.{Plain, Network, Control, Action, Transition, Pop}
 
 -- ---- time: hours, minutes, seconds and nanoseconds
 
@@ -67,14 +68,14 @@ local_words i s g = let l = to_local s.clock g in i ∷ found l ∷ offset_in l 
 -- ---- calls
 
 -- op, action or reactor, mode, terminal or reset, tag
-abbrev pub call_words : Parsed → List ℕ
-call_words (Plain t terminal n) = 1 ∷ 0 ∷ 0 ∷ bit_of terminal ∷ t.0 ∷ t.1 ∷ []
-call_words (Network t n) = 2 ∷ 0 ∷ 0 ∷ 0 ∷ t.0 ∷ t.1 ∷ []
-call_words (Control t) = 3 ∷ 0 ∷ 0 ∷ 0 ∷ t.0 ∷ t.1 ∷ []
-call_words (Action a t terminal n) = 4 ∷ a ∷ 0 ∷ bit_of terminal ∷ t.0 ∷ t.1 ∷ []
-call_words (Transition r m reset t) = 5 ∷ r ∷ m ∷ bit_of reset ∷ t.0 ∷ t.1 ∷ []
-call_words Pop = 6 ∷ 0 ∷ 0 ∷ 0 ∷ 0 ∷ 0 ∷ []
-call_words Malformed = 0 ∷ 0 ∷ 0 ∷ 0 ∷ 0 ∷ 0 ∷ []
+abbrev pub call_words : Result Parsed Malformed → List ℕ
+call_words (Ok (Plain t terminal n)) = 1 ∷ 0 ∷ 0 ∷ bit_of terminal ∷ t.0 ∷ t.1 ∷ []
+call_words (Ok (Network t n)) = 2 ∷ 0 ∷ 0 ∷ 0 ∷ t.0 ∷ t.1 ∷ []
+call_words (Ok (Control t)) = 3 ∷ 0 ∷ 0 ∷ 0 ∷ t.0 ∷ t.1 ∷ []
+call_words (Ok (Action a t terminal n)) = 4 ∷ a ∷ 0 ∷ bit_of terminal ∷ t.0 ∷ t.1 ∷ []
+call_words (Ok (Transition r m reset t)) = 5 ∷ r ∷ m ∷ bit_of reset ∷ t.0 ∷ t.1 ∷ []
+call_words (Ok Pop) = 6 ∷ 0 ∷ 0 ∷ 0 ∷ 0 ∷ 0 ∷ []
+call_words (Err e) = 0 ∷ 0 ∷ 0 ∷ 0 ∷ 0 ∷ 0 ∷ []
 
 -- "a key the table lacks": its kind and the key
 abbrev pub lack : ℕ → ℕ → List ℕ
@@ -89,15 +90,15 @@ lacking_reaction n [] = no_lack
 lacking_reaction n (k ∷ ks) = cond (ltb k n) (lacking_reaction n ks) (lack reaction k)
 
 -- the action before the reactions, the reactor before the mode
-abbrev pub lacking_of : Image → Parsed → List ℕ → List ℕ
-lacking_of s (Plain t terminal n) ks = lacking_reaction (count s reaction) ks
-lacking_of s (Network t n) ks = lacking_reaction (count s reaction) ks
-lacking_of s (Control t) ks = no_lack
-lacking_of s (Action a t terminal n) ks = cond (ltb a (count s action)) (lacking_reaction (count s reaction) ks) (lack action a)
-lacking_of s (Transition r m reset t) ks =
+abbrev pub lacking_of : Image → Result Parsed Malformed → List ℕ → List ℕ
+lacking_of s (Ok (Plain t terminal n)) ks = lacking_reaction (count s reaction) ks
+lacking_of s (Ok (Network t n)) ks = lacking_reaction (count s reaction) ks
+lacking_of s (Ok (Control t)) ks = no_lack
+lacking_of s (Ok (Action a t terminal n)) ks = cond (ltb a (count s action)) (lacking_reaction (count s reaction) ks) (lack action a)
+lacking_of s (Ok (Transition r m reset t)) ks =
     cond (ltb r (count s reactor)) (cond (ltb m (count s mode)) no_lack (lack mode m)) (lack reactor r)
-lacking_of s Pop ks = no_lack
-lacking_of s Malformed ks = no_lack
+lacking_of s (Ok Pop) ks = no_lack
+lacking_of s (Err e) ks = no_lack
 
 -- ---- a line: a name, and a space before each number
 

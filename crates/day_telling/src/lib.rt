@@ -5,15 +5,16 @@
 ghost use Rattle.std.specs.Prelude.{◌≡◌, ◌≤◌, length, get_or};
 ghost use Rattle.table_rows.specs.Kinds.{count, reaction};
 ghost use Rattle.tags.specs.Tags.{tag_only};
-ghost use Rattle.tags.specs.Views.{of_global, of_local, of_queue, of_clock, mapped_global, mapped_local};
+ghost use Rattle.tags.specs.Views.{of_global, of_local, of_queue, mapped_global, answered};
 ghost use Rattle.state_scopes.specs.Scopes.{scopes_of, scope_of, blank};
 ghost use Rattle.byte_writer.specs.Written.{Written};
 ghost use Rattle.day_telling.specs.Facts.{time_words, found, offset_in, microstep_in, scope_place, place_words};
 ghost use Rattle.day_telling.specs.Facts.{scope_words, local_words, call_words, lacking_reaction, lacking_of, words_text, fact_text};
 
-use day_records::Parsed;
+use day_records::{Malformed, Parsed};
+use refusals::Refusal;
 use state_scopes::Scope;
-use tags::{GlobalTag, LocalTag, MappedGlobal, MappedLocal, QueueTag};
+use tags::{GlobalTag, LocalTag, Mapped, QueueTag, Scale};
 
 // Nanoseconds.
 const SECOND: u64 = 1000000000;
@@ -23,12 +24,6 @@ const MINUTE: u64 = 60000000000;
 const HOUR: u64 = 3600000000000;
 
 const DAY: u64 = 86400000000000;
-
-fn wide(key: u16) -> u64
-    ensures { result ≡ key }
-{
-    key as u64
-}
 
 // ---- time
 
@@ -46,24 +41,24 @@ pub fn time_words(offset: u64) -> [u64; 6]
 
 // ---- tags on the two scales
 
-// A tag, or none.
+// A tag of either scale, or none.
 #[derive(Clone, Copy)]
-struct Mapped {
+struct Words {
     found: u64,
     offset: u64,
     microstep: u64,
 }
 
-fn of_global(m: MappedGlobal) -> Mapped
-    ensures { (result.found ≡ found (tag_only (mapped_global m))) × ((result.offset ≡ offset_in (tag_only (mapped_global m))) × (result.microstep ≡ microstep_in (tag_only (mapped_global m)))) }
+fn words_of<T: Scale>(image: Result<T, Refusal>) -> Words
+    ensures { (result.found ≡ found (answered T.tag image)) × ((result.offset ≡ offset_in (answered T.tag image)) × (result.microstep ≡ microstep_in (answered T.tag image))) }
 {
-    match m {
-        MappedGlobal::Tag(t, _) => Mapped {
+    match image {
+        Ok(t) => Words {
             found: 1,
-            offset: t.0,
-            microstep: t.1 as u64,
+            offset: t.offset(),
+            microstep: t.microstep() as u64,
         },
-        MappedGlobal::Refused(_) => Mapped {
+        Err(_) => Words {
             found: 0,
             offset: 0,
             microstep: 0,
@@ -71,32 +66,21 @@ fn of_global(m: MappedGlobal) -> Mapped
     }
 }
 
-fn of_local(m: MappedLocal) -> Mapped
-    ensures { (result.found ≡ found (mapped_local m)) × ((result.offset ≡ offset_in (mapped_local m)) × (result.microstep ≡ microstep_in (mapped_local m))) }
+// Whether it was held back left out.
+fn tag_of(image: Result<Mapped, Refusal>) -> Result<GlobalTag, Refusal>
+    ensures { answered of_global result ≡ tag_only (mapped_global image) }
 {
-    match m {
-        MappedLocal::Tag(t) => Mapped {
-            found: 1,
-            offset: t.0,
-            microstep: t.1 as u64,
-        },
-        MappedLocal::Refused(_) => Mapped {
-            found: 0,
-            offset: 0,
-            microstep: 0,
-        },
-    }
+    Ok(image?.tag)
 }
 
 // A scope's local tag: the queue, the tag, whether the scope is active, the tag's image, and whether it is held back.
 fn scope_place(s: Scope, queue: u16, x: LocalTag) -> [u64; 8]
     ensures { result ≡ scope_place (scope_of s) queue (of_local x) }
 {
-    let clock = s.clock;
-    let image = clock.to_global(x);
-    let m = of_global(image);
+    let image = s.clock.to_global(x);
+    let m = words_of(tag_of(image));
     let active = lists::bit(s.active);
-    let held = lists::bit(image.is_held());
+    let held = lists::bit(tags::is_held(image));
     [
         queue as u64,
         x.0,
@@ -119,8 +103,7 @@ pub fn place_words(scopes: &[u64; state_scopes::ROOM], queue: u16, tag: QueueTag
         return [queue as u64, g.0, step, 1, 1, g.0, step, 0];
     }
     let s = state_scopes::scope_at(scopes, queue as usize);
-    let local = tag.as_local();
-    scope_place(s, queue, local)
+    scope_place(s, queue, tag.as_local())
 }
 
 // A scope: active, ever active, allowed, and its clock's G, L and S.
@@ -145,35 +128,29 @@ pub fn local_words(scopes: &[u64; state_scopes::ROOM], i: u16, tag: GlobalTag) -
     ensures { result ≡ local_words i (get_or (scopes_of scopes.now) i blank) (of_global tag) }
 {
     let s = state_scopes::scope_at(scopes, i as usize);
-    let c = s.clock;
-    let image = c.to_local(tag);
-    let m = of_local(image);
+    let m = words_of(s.clock.to_local(tag));
     [i as u64, m.found, m.offset, m.microstep]
 }
 
 // ---- calls
 
 // A record: its op, or 0 if malformed; the action or the reactor; the mode; terminal or reset; the tag.
-pub fn call_words(parsed: Parsed) -> [u64; 6]
+pub fn call_words(parsed: Result<Parsed, Malformed>) -> [u64; 6]
     ensures { result ≡ call_words parsed }
 {
     match parsed {
-        Parsed::Plain(t, terminal, _) => {
-            let flag = lists::bit(terminal);
-            [1, 0, 0, flag, t.0, t.1 as u64]
+        Ok(Parsed::Plain(t, terminal, _)) => [1, 0, 0, lists::bit(terminal), t.0, t.1 as u64],
+        Ok(Parsed::Network(t, _)) => [2, 0, 0, 0, t.0, t.1 as u64],
+        Ok(Parsed::Control(t)) => [3, 0, 0, 0, t.0, t.1 as u64],
+        Ok(Parsed::Action(action, t, terminal, _)) => {
+            [4, action as u64, 0, lists::bit(terminal), t.0, t.1 as u64]
         }
-        Parsed::Network(t, _) => [2, 0, 0, 0, t.0, t.1 as u64],
-        Parsed::Control(t) => [3, 0, 0, 0, t.0, t.1 as u64],
-        Parsed::Action(action, t, terminal, _) => {
-            let flag = lists::bit(terminal);
-            [4, action as u64, 0, flag, t.0, t.1 as u64]
-        }
-        Parsed::Transition(reactor, mode, reset, t) => {
+        Ok(Parsed::Transition(reactor, mode, reset, t)) => {
             let flag = lists::bit(reset);
             [5, reactor as u64, mode as u64, flag, t.0, t.1 as u64]
         }
-        Parsed::Pop => [6, 0, 0, 0, 0, 0],
-        Parsed::Malformed => [0, 0, 0, 0, 0, 0],
+        Ok(Parsed::Pop) => [6, 0, 0, 0, 0, 0],
+        Err(_) => [0, 0, 0, 0, 0, 0],
     }
 }
 
@@ -182,49 +159,37 @@ fn lacking_reaction(image: &[u8], keys: &[u16]) -> [u64; 3]
     ensures { result ≡ lacking_reaction (count image.now reaction) keys.now }
 {
     let total = table_rows::count(image, table_rows::REACTION);
-    let mut i: usize = 0;
-    while i < keys.len() {
-        let key = keys[i];
-        if key < total {
-            i += 1;
-        } else {
-            return [1, table_rows::REACTION as u64, wide(key)];
+    for key in keys {
+        if total <= *key {
+            return [1, table_rows::REACTION as u64, *key as u64];
         }
     }
     [0, 0, 0]
 }
 
 // The first key of a call that the table lacks, in the order in which 5 looks at them.
-pub fn lacking(image: &[u8], parsed: Parsed, keys: &[u16]) -> [u64; 3]
+pub fn lacking(image: &[u8], parsed: Result<Parsed, Malformed>, keys: &[u16]) -> [u64; 3]
     ensures { result ≡ lacking_of image.now parsed keys.now }
 {
     match parsed {
-        Parsed::Plain(_, _, _) => lacking_reaction(image, keys),
-        Parsed::Network(_, _) => lacking_reaction(image, keys),
-        Parsed::Control(_) => [0, 0, 0],
-        Parsed::Action(action, _, _, _) => {
-            let total = table_rows::count(image, table_rows::ACTION);
-            if action < total {
+        Ok(Parsed::Plain(_, _, _) | Parsed::Network(_, _)) => lacking_reaction(image, keys),
+        Ok(Parsed::Action(action, _, _, _)) => {
+            if action < table_rows::count(image, table_rows::ACTION) {
                 lacking_reaction(image, keys)
             } else {
                 [1, table_rows::ACTION as u64, action as u64]
             }
         }
-        Parsed::Transition(reactor, mode, _, _) => {
-            let reactors = table_rows::count(image, table_rows::REACTOR);
-            if reactor < reactors {
-                let modes = table_rows::count(image, table_rows::MODE);
-                if mode < modes {
-                    [0, 0, 0]
-                } else {
-                    [1, table_rows::MODE as u64, mode as u64]
-                }
-            } else {
+        Ok(Parsed::Transition(reactor, mode, _, _)) => {
+            if table_rows::count(image, table_rows::REACTOR) <= reactor {
                 [1, table_rows::REACTOR as u64, reactor as u64]
+            } else if table_rows::count(image, table_rows::MODE) <= mode {
+                [1, table_rows::MODE as u64, mode as u64]
+            } else {
+                [0, 0, 0]
             }
         }
-        Parsed::Pop => [0, 0, 0],
-        Parsed::Malformed => [0, 0, 0],
+        Ok(Parsed::Control(_) | Parsed::Pop) | Err(_) => [0, 0, 0],
     }
 }
 
@@ -235,12 +200,9 @@ fn write_words(buffer: &mut [u8], at: usize, words: &[u64]) -> usize
     ensures { Written buffer.old at (words_text words.now) buffer.new result }
 {
     let mut end = at;
-    let mut i: usize = 0;
-    while i < words.len() {
-        let word = words[i];
+    for word in words {
         let space = byte_writer::put(buffer, end, b' ');
-        end = day_lines::write_decimal(buffer, space, word);
-        i += 1;
+        end = day_lines::write_decimal(buffer, space, *word);
     }
     end
 }

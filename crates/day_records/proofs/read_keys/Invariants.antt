@@ -1,5 +1,4 @@
 -- `day_records::read_keys` meets its contract: one key more a turn, over the front of the array. Assumes nothing.
-use Prim.Native.Nat.{◌-◌, ◌≤◌}
 use mathlib.Core.Path.{◌≡◌}
 use Rattle.lists.specs.Lists.{over}
 use Rattle.lists.specs.Rows.{tab}
@@ -7,7 +6,4 @@ use Rattle.day_records.specs.Records.{key_at}
 use Rattle.day_records.proofs.read_keys.Given as goal
 
 abbrev pub invariant-loop-k : goal.invariant-loop-k
-invariant-loop-k l = (l.k ≤ l.n) × (l.keys ≡ over (tab (key_at l.body l.at) 0 l.k) l.initial.keys)
-
-abbrev pub decreases-loop-k : goal.decreases-loop-k
-decreases-loop-k l = l.n - l.k
+invariant-loop-k l = l.keys ≡ over (tab (key_at l.body l.at) 0 l.k) l.initial.keys

@@ -3,9 +3,9 @@ use Rattle.byte_writer.proofs.WrittenLaws.{written_none, written_then, written_a
 use Rattle.day_rescue.proofs.ListLaws.{run_none, run_some}
 use Rattle.day_rescue.proofs.put_run.Goals as goal
 
-pub returns-then-many-eq0 : goal.returns-then-many-eq0
-returns-then-many-eq0 c = written_as (written_none _ _ c.requires) (run_none _ _ c.if-many-eq0.true)
+pub returns-then-run-eq0 : goal.returns-then-run-eq0
+returns-then-run-eq0 c = written_as (written_none _ _ c.requires) (run_none _ _ c.if-run-eq0.true)
 
 pub returns : goal.returns
 returns c =
-    written_as (written_then c.put_number-next.ensures c.put_number.ensures) (run_some _ _ c.if-many-eq0.false)
+    written_as (written_then c.put_number-next.ensures c.put_number.ensures) (run_some _ _ c.if-run-eq0.false)

@@ -21,11 +21,11 @@ loop-at-init c =
 pub skip-next-requires : goal.skip-next-requires
 skip-next-requires c = (omega (arith, c.loop-at-test.true), c.loop-at.invariant.1)
 
-pub overflow_sub-many : goal.overflow_sub-many
-overflow_sub-many c = c.skip-next.ensures.passed.forward
+pub overflow_sub-run : goal.overflow_sub-run
+overflow_sub-run c = c.skip-next.ensures.passed.forward
 
-pub overflow_add-many : goal.overflow_add-many
-overflow_add-many c =
+pub overflow_add-run : goal.overflow_add-run
+overflow_add-run c =
     let w = c.loop-at.invariant in
     let a = c.skip-next.ensures.passed.forward in
     let d = c.skip-next.ensures.inside in
@@ -56,8 +56,8 @@ pub overflow_add-records : goal.overflow_add-records
 overflow_add-records c =
     let w = c.loop-at.invariant.2 in let f = c.skip-next.ensures.passed.forward in let t = c.stretch-kept.ensures.stretched in let a = w.records_few in let d = t.few in let g = t.inside in search rules
 
-pub overflow_add-place : goal.overflow_add-place
-overflow_add-place c =
+pub overflow_add-run-then-next-at : goal.overflow_add-run-then-next-at
+overflow_add-run-then-next-at c =
     let w = c.loop-at.invariant in
     let f = c.skip-next.ensures.passed.forward in
     let t = c.stretch-kept.ensures.stretched in
@@ -67,11 +67,11 @@ overflow_add-place c =
     let l = t.forward in
     search rules
 
-pub overflow_sub-place : goal.overflow_sub-place
-overflow_sub-place c = c.stretch-kept.ensures.stretched.forward
+pub overflow_sub-run-then-next-at : goal.overflow_sub-run-then-next-at
+overflow_sub-run-then-next-at c = c.stretch-kept.ensures.stretched.forward
 
-pub overflow_add-place-then-next-at : goal.overflow_add-place-then-next-at
-overflow_add-place-then-next-at c =
+pub overflow_add-run-then-next-at-2 : goal.overflow_add-run-then-next-at-2
+overflow_add-run-then-next-at-2 c =
     let w = c.loop-at.invariant in
     let f = c.skip-next.ensures.passed.forward in
     let t = c.stretch-kept.ensures.stretched in
@@ -101,8 +101,8 @@ loop-at-preserved c =
 pub put_run-listed-requires-then-last : goal.put_run-listed-requires-then-last
 put_run-listed-requires-then-last c = written_room c.loop-at.invariant.2.listing
 
-pub overflow_add-place-then-last : goal.overflow_add-place-then-last
-overflow_add-place-then-last c = let w = c.loop-at.invariant in let a = w.2.places in let g = w.0.places in let d = w.2.inside in search rules
+pub overflow_add-run-then-last : goal.overflow_add-run-then-last
+overflow_add-run-then-last c = let w = c.loop-at.invariant in let a = w.2.places in let g = w.0.places in let d = w.2.inside in search rules
 
 pub shape_of-out-then-last : goal.shape_of-out-then-last
 shape_of-out-then-last c = written_long c.loop-at.invariant.2.output

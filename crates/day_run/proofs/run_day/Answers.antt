@@ -8,25 +8,25 @@ returns-then-out-lt-LONGEST c = told_none c.args.day.now c.args.out.now c.if-out
 
 pub slice_bounds-run_whole-end : goal.slice_bounds-run_whole-end
 slice_bounds-run_whole-end c =
-    sym (length-take-le _ _ (rw c.image_end-end.ensures (open_fits c.args.day.now (sym c.open-checked.ensures ∙ c.in-Accepted.is))))
+    sym (length-take-le _ _ (rw c.image_end-end.ensures (open_fits c.args.day.now (sym c.open-opened.ensures ∙ c.in-Ok.is))))
 
 pub slice_bounds-run_whole-count : goal.slice_bounds-run_whole-count
 slice_bounds-run_whole-count c =
-    rw c.image_end-end.ensures (open_fits c.args.day.now (sym c.open-checked.ensures ∙ c.in-Accepted.is))
+    rw c.image_end-end.ensures (open_fits c.args.day.now (sym c.open-opened.ensures ∙ c.in-Ok.is))
 
 pub slice_bounds-run_whole-start : goal.slice_bounds-run_whole-start
 slice_bounds-run_whole-start c =
-    rw c.image_end-end.ensures (open_fits c.args.day.now (sym c.open-checked.ensures ∙ c.in-Accepted.is))
+    rw c.image_end-end.ensures (open_fits c.args.day.now (sym c.open-opened.ensures ∙ c.in-Ok.is))
 
-pub run_whole-more-requires : goal.run_whole-more-requires
-run_whole-more-requires c =
-    rw c.image_end-end.ensures (open_table c.args.day.now (sym c.open-checked.ensures ∙ c.in-Accepted.is))
+pub run_whole-requires : goal.run_whole-requires
+run_whole-requires c =
+    rw c.image_end-end.ensures (open_table c.args.day.now (sym c.open-opened.ensures ∙ c.in-Ok.is))
 
-pub returns-in-Accepted : goal.returns-in-Accepted
-returns-in-Accepted c =
-    told_accepted c.args.day.now c.args.out.now c.if-out-lt-LONGEST.false c.open-checked.ensures c.write_table-first.ensures c.in-Accepted.is c.image_end-end.ensures
-    c.run_whole-more.ensures
+pub returns-in-Ok : goal.returns-in-Ok
+returns-in-Ok c =
+    told_accepted c.args.day.now c.args.out.now c.if-out-lt-LONGEST.false c.open-opened.ensures c.write_table-first.ensures c.in-Ok.is c.image_end-end.ensures
+    c.run_whole.ensures
 
-pub returns-in-Refused : goal.returns-in-Refused
-returns-in-Refused c =
-    told_refused c.args.day.now c.args.out.now c.if-out-lt-LONGEST.false c.open-checked.ensures c.write_table-first.ensures c.in-Refused.is
+pub returns-in-Err : goal.returns-in-Err
+returns-in-Err c =
+    told_refused c.args.day.now c.args.out.now c.if-out-lt-LONGEST.false c.open-opened.ensures c.write_table-first.ensures c.in-Err.is

@@ -8,4 +8,4 @@ pub returns-then-queue-eq-NONE : goal.returns-then-queue-eq-NONE
 returns-then-queue-eq-NONE c = place_root _ _ _ c.if-queue-eq-NONE.true ∙ ap (place_words _ _) c.as_global-g.ensures
 
 pub returns : goal.returns
-returns c = place_scope _ _ _ c.if-queue-eq-NONE.false c.scope_at-s.ensures (c.scope_place.ensures ∙ ap (scope_place _ _) c.as_local-local.ensures)
+returns c = place_scope _ _ _ c.if-queue-eq-NONE.false c.scope_at-s.ensures (c.scope_place.ensures ∙ ap (scope_place _ _) c.as_local.ensures)

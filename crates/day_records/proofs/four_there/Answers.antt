@@ -1,6 +1,0 @@
--- `day_records::four_there` meets its contract. Assumes nothing.
-use Rattle.day_records.proofs.Laws.{sums}
-use Rattle.day_records.proofs.four_there.Goals as goal
-
-pub returns : goal.returns
-returns c = search sums
