@@ -5,15 +5,15 @@ use Prim.Native.Nat.{ℕ, ◌+◌, ◌*◌, ◌≤◌, ◌<◌}
 use lib.ListN.{length, take, drop}
 use Rattle.table_rows.specs.Kinds.{largest}
 use Rattle.table.specs.Check.{number_of}
-use Rattle.table.specs.declared.Checked.{Checked}
-use Rattle.table.specs.declared.Checked.TheVariants.{Accepted, Refused}
+use Rattle.std.specs.Prelude.{Ok, Err}
+use Rattle.table.specs.Check.{Checked}
 use Rattle.table.specs.declared.ImageRefusal.{ImageRefusal}
 use Rattle.byte_writer.specs.Written.{Written}
 use Rattle.day_run.specs.Days.{image_end, opened}
 use Rattle.state_room.specs.Holds.{Rows, state_in}
 use Rattle.table_writer.specs.Writer as writer
 use Rattle.table_writer.specs.Writer.{wrote, writing, place_of}
-use Rattle.table_writer.specs.declared.Wrote.{Wrote}
+use Rattle.table_writer.specs.Writer.{Wrote}
 use Rattle.table_writer.proofs.SmallLaws.{small}
 use Rattle.exports.proofs.ToldLaws.{no_room_lem, in_room}
 use Rattle.table_rows.specs.Bytes.{be_bytes}
@@ -38,11 +38,11 @@ unfolding state_told
 short_state day state h = no_room_lem state_length state _ h
 
 module _ (day : List ℕ) {state : List ℕ} (room : state_length ≤ length state) {c : Checked} (e : c ≡ opened day) where
-  pub image_refused : {r : ImageRefusal} → c ≡ Refused r → {n : ℕ} → n ≡ number_of r → told n state ≡ state_told day state
+  pub image_refused : {r : ImageRefusal} → c ≡ Err r → {n : ℕ} → n ≡ number_of r → told n state ≡ state_told day state
   unfolding state_told
   image_refused q m = in_room state_length state _ room (ap (λ n. told n state) m ∙ ap (λ x. state_by x day state) (sym q ∙ e))
 
-  pub all_told : c ≡ Accepted → {end : ℕ} → end ≡ image_end day → {records : List ℕ} → records ≡ drop end day →
+  pub all_told : c ≡ Ok tt → {end : ℕ} → end ≡ image_end day → {records : List ℕ} → records ≡ drop end day →
       (d : Rows) → state_in (take end day) d ≡ after_all (take end day) records →
       {new : List ℕ} {at : ℕ} → Written state 0 (state_bytes (take end day) (state_in (take end day) d)) new at → told 0 new ≡ state_told day state
   unfolding state_told

@@ -5,14 +5,13 @@ use Rattle.refusals.specs.declared.Refusal.{Refusal}
 use Rattle.refusals.specs.Refusals.{number_of}
 use Rattle.refusals.specs.declared.Refusal.TheVariants.{StateRule}
 use Rattle.table.specs.Check as table
-use Rattle.table.specs.declared.Checked.{Checked}
-use Rattle.table.specs.declared.Checked.TheVariants.{Accepted, Refused}
+use Rattle.std.specs.Prelude.{Ok, Err}
+use Rattle.table.specs.Check.{Checked}
 use Rattle.table_writer.specs.Writer as writer
 use Rattle.table_writer.specs.Writer.{Writing}
-use Rattle.day_rescue.specs.Rescue.{Answered, answered, saved}
+use Rattle.day_rescue.specs.Rescue.{Answered, answered, Rescued, saved}
 use Rattle.day_rescue.specs.declared.Totals.{Totals}
-use Rattle.day_rescue.specs.declared.Rescued.{Rescued}
-use Rattle.day_rescue.specs.declared.Rescued.TheVariants as answers
+use Rattle.day_rescue.specs.declared.RescueRefusal.TheVariants as refusals
 use Rattle.tags.specs.Tags.{Tag, Clock}
 use Rattle.day_records.specs.Records.{tag_at, is_bit, is_one}
 use Rattle.table_rows.specs.Bytes.{be_bytes}
@@ -21,12 +20,12 @@ use Rattle.exports.specs.Told.{Told, told, front, with_room, no_room, word_bytes
 -- ---- the table check: 0 for a table, or the refusal's number; its place in eight bytes, 0 for a table
 
 abbrev pub check_number : Checked → ℕ
-check_number Accepted = 0
-check_number (Refused n) = table.number_of n
+check_number (Ok u) = 0
+check_number (Err why) = table.number_of why
 
 abbrev pub check_place : Checked → ℕ
-check_place Accepted = 0
-check_place (Refused n) = table.place_of n
+check_place (Ok u) = 0
+check_place (Err why) = table.place_of why
 
 unfoldable pub check_told : Checked → List ℕ → Told
 check_told c place = with_room 8 place (told (check_number c) (front place (be_bytes 8 (check_place c))))
@@ -50,9 +49,9 @@ head_of t = word_bytes (t.written ∷ (t.records ∷ (t.listed / 16 ∷ [])))
 
 -- 0, and the head over the front of the report; or the refusal's number in the high half and its place in the low one, and all stays as it was
 abbrev pub rescue_by : Rescued → List ℕ → List ℕ → Answered ℕ
-rescue_by (answers.Saved t) output report = answered 0 output (front report (head_of t))
-rescue_by (answers.Refused why) output report = answered (table.number_of why * half + table.place_of why) output report
-rescue_by answers.NoRoom output report = answered (no_room * half) output report
+rescue_by (Ok t) output report = answered 0 output (front report (head_of t))
+rescue_by (Err (refusals.Image why)) output report = answered (table.number_of why * half + table.place_of why) output report
+rescue_by (Err refusals.NoRoom) output report = answered (no_room * half) output report
 
 -- the runs stand behind the head
 unfoldable pub rescue_bytes : List ℕ → List ℕ → List ℕ → Answered ℕ

@@ -2,9 +2,8 @@
 use Rattle.std.specs.Prelude.{ℕ, ◌+◌, ◌*◌, Bool, cond, List, [], ◌∷◌, ◌++◌, length}
 use Rattle.lists.specs.Held.{words_of}
 use Rattle.table_rows.specs.Bytes.{Image}
-use Rattle.table.specs.Check.{number_of}
-use Rattle.table.specs.declared.Checked.{Checked}
-use Rattle.table.specs.declared.Checked.TheVariants.{Accepted, Refused}
+use Rattle.table.specs.Check.{Checked, number_of}
+use Rattle.std.specs.Prelude.{Ok, Err}
 use Rattle.store_words.specs.Entries.{room_for_entries, blank_value, blank_bucket}
 use Rattle.store_words.specs.Words.{decode_value, encode_value, value_words, long_value, decode_bucket, encode_bucket, bucket_words, long_bucket}
 use Rattle.machine.specs.State.{State, fresh}
@@ -73,8 +72,8 @@ state_length = 8 * (8 + most_reactors + most_scopes * scope.scope_words + room_f
 
 -- 0 and the state; or the image's refusal as the bench has it, and the bytes stay as they were
 abbrev pub state_by : Checked → List ℕ → List ℕ → Told
-state_by Accepted day state = told 0 (front state (state_bytes (image_in day) (after_all (image_in day) (record_bytes day))))
-state_by (Refused n) day state = told (number_of n) state
+state_by (Ok u) day state = told 0 (front state (state_bytes (image_in day) (after_all (image_in day) (record_bytes day))))
+state_by (Err why) day state = told (number_of why) state
 
 unfoldable pub state_told : List ℕ → List ℕ → Told
 state_told day state = with_room state_length state (state_by (opened day) day state)

@@ -3,9 +3,10 @@
 // wrapper (harness/src).
 #![tactic(auto)]
 
-ghost use Rattle.std.specs.Prelude.{◌≡◌, true, [], ◌∷◌, ◌+◌, ◌≤◌, min, length};
+ghost use Rattle.std.specs.Prelude.{◌≡◌, true, false, MatchResult, ◌≤◌, length};
 ghost use Rattle.table.specs.Check.{is_table, check};
 ghost use Rattle.call_pop.specs.Pops.{reply_of};
+ghost use Rattle.refusals.specs.declared.Refusal.TheVariants.{StateRule};
 ghost use Rattle.byte_writer.specs.Written.{Written};
 ghost use Rattle.day_run.specs.Days.{fitting, day_answers};
 ghost use Rattle.state_room.specs.Holds.{rows_of, state_in};
@@ -13,21 +14,20 @@ ghost use Rattle.day_run.specs.Views.{Kept};
 ghost use Rattle.tags.specs.Tags.{at, global_to_local, local_to_global};
 ghost use Rattle.tags.specs.Views.{of_clock, mapped_local, mapped_global};
 ghost use Rattle.exports.specs.Told.{word_bytes, tag_bytes, mapped_bytes, told};
-ghost use Rattle.exports.specs.State.{peek_words, flag_word, first_words, state_bytes, after_all, state_told};
+ghost use Rattle.exports.specs.State.{peek_words, first_words, state_bytes, after_all, state_told};
 ghost use Rattle.table_writer.specs.Writer.{writing};
 ghost use Rattle.day_rescue.specs.Rescue.{answered};
-ghost use Rattle.exports.specs.Answers.{check_number, check_place, check_told, write_told, report_head, rescue_bytes, clock_in, is_clock, mapped, map_told};
+ghost use Rattle.exports.specs.Answers.{check_told, write_told, rescue_bytes, clock_in, is_clock, mapped, map_told};
 
-use call_pop::Peeked;
-use day_rescue::Rescued;
+use day_rescue::RescueRefusal;
 use refusals::Refusal;
 use state_room::Room;
-use table::Checked;
-use tags::{GlobalTag, LocalTag, MappedGlobal, MappedLocal, ScopeClock};
+use tags::{GlobalTag, LocalTag, Mapped, ScopeClock};
 
 // ---- what is told in lent bytes
 
 // A lent slice is too short for what it is lent for; no refusal has this number.
+// Stays: a number of the C interface.
 const NO_ROOM: u8 = 255;
 
 // Numbers of eight bytes.
@@ -36,32 +36,8 @@ fn put_words(bytes: &mut [u8], at: usize, words: &[u64]) -> usize
     ensures { Written bytes.old at (word_bytes words.now) bytes.new result }
 {
     let mut end = at;
-    let mut i: usize = 0;
-    while i < words.len() {
-        let word = words[i];
-        end = byte_writer::put_number(bytes, end, 8, word);
-        i += 1;
-    }
-    end
-}
-
-fn wide(key: u16) -> u64
-    ensures { result ≡ key }
-{
-    key as u64
-}
-
-// The same of shorter numbers.
-fn put_keys(bytes: &mut [u8], at: usize, keys: &[u16]) -> usize
-    requires { at ≤ length bytes.old }
-    ensures { Written bytes.old at (word_bytes keys.now) bytes.new result }
-{
-    let mut end = at;
-    let mut i: usize = 0;
-    while i < keys.len() {
-        let word = wide(keys[i]);
-        end = byte_writer::put_number(bytes, end, 8, word);
-        i += 1;
+    for word in words {
+        end = byte_writer::put_number(bytes, end, 8, *word);
     }
     end
 }
@@ -83,14 +59,6 @@ const STATE_BYTES: usize = 8
         + store_words::ROOM_FOR_ENTRIES * store_words::VALUE_WORDS
         + store_words::ROOM_FOR_ENTRIES * store_words::BUCKET_WORDS);
 
-// The place so many bytes on.
-fn behind(bytes: &[u8], at: usize, n: usize) -> usize
-    requires { at + n ≤ length bytes.now }
-    ensures { result ≡ at + n }
-{
-    at + n
-}
-
 // The records piece by piece, their lines given up.
 fn run_all(image: &[u8], records: &[u8]) -> Room
     requires { is_table image.now ≡ true }
@@ -98,76 +66,45 @@ fn run_all(image: &[u8], records: &[u8]) -> Room
     ensures result_value { state_in image.now (rows_of result) ≡ after_all image.now records.now }
 {
     let mut day = day_run::start(image);
-    let mut lines = [0u8; SCRATCH];
-    let mut at: usize = 0;
-    let mut turns = records.len();
-    while 0 < turns {
-        turns -= 1;
+    let mut lines = [0; SCRATCH];
+    let mut at = 0;
+    for _ in 0..records.len() {
         let piece = day_run::run_records(image, day, &records[at..], &mut lines);
-        let used = piece.used;
         day = piece.day;
-        if piece.ended {
+        if piece.ended || piece.used == 0 {
             return day;
         }
-        if used == 0 {
-            return day;
-        }
-        at = behind(records, at, used);
+        at += piece.used;
     }
     day
 }
 
-// What a peek answers, as words.
-#[derive(Clone, Copy)]
-struct Peek {
-    found: u64,
-    offset: u64,
-    microstep: u64,
-}
-
-fn peek_words(p: Peeked) -> Peek
-    ensures { (result.found ∷ result.offset ∷ result.microstep ∷ []) ≡ peek_words (reply_of p) }
+// What a peek answers: whether there is a tag, its offset and its microstep.
+fn peek_words(peeked: Option<GlobalTag>) -> [u64; 3]
+    ensures { result ≡ peek_words (reply_of peeked) }
 {
-    match p {
-        Peeked::Nothing => Peek {
-            found: 0,
-            offset: 0,
-            microstep: 0,
-        },
-        Peeked::At(t) => Peek {
-            found: 1,
-            offset: t.0,
-            microstep: t.1 as u64,
-        },
+    match peeked {
+        Some(tag) => [1, tag.0, u64::from(tag.1)],
+        None => [0, 0, 0],
     }
 }
 
-fn flag_word(b: bool) -> u64
-    ensures { result ≡ flag_word b }
-{
-    b as u64
-}
-
 // The words before the arrays.
-fn first_words(image: &[u8], day: Room) -> [u64; FIRST_WORDS]
-    requires { Kept image.now (rows_of day) }
-    ensures { result ≡ first_words image.now (state_in image.now (rows_of day)) }
+fn first_words(image: &[u8], day: &Room) -> [u64; FIRST_WORDS]
+    requires { Kept image.now (rows_of day.now) }
+    ensures { result ≡ first_words image.now (state_in image.now (rows_of day.now)) }
 {
-    let scopes = day.scopes;
-    let events = day.events;
-    let ledger = day.ledger;
-    let counts = ledger.counts;
-    let held = ledger.held;
-    let heads = state_queues::heads(&events, counts.waiting);
-    let peeked = call_pop::peek_tag(image, &scopes, &heads);
-    let p = peek_words(peeked);
-    let only = call_pop::peek_is_control_only(image, &scopes, &events, counts, &heads);
-    let control = flag_word(only);
+    let counts = day.ledger.counts;
+    let held = day.ledger.held;
+    let heads = state_queues::heads(&day.events, counts.waiting);
+    let peeked = call_pop::peek_tag(image, &day.scopes, &heads);
+    let [found, offset, microstep] = peek_words(peeked);
+    let only = call_pop::peek_is_control_only(image, &day.scopes, &day.events, counts, &heads);
     [
-        p.found,
-        p.offset,
-        p.microstep,
-        control,
+        found,
+        offset,
+        microstep,
+        u64::from(only),
         counts.work as u64,
         counts.waiting as u64,
         held.values as u64,
@@ -175,24 +112,24 @@ fn first_words(image: &[u8], day: Room) -> [u64; FIRST_WORDS]
     ]
 }
 
-// All bytes of a state, over the front.
-fn put_state(state: &mut [u8], image: &[u8], day: Room) -> usize
-    requires { Kept image.now (rows_of day) }
-    ensures { Written state.old 0 (state_bytes image.now (state_in image.now (rows_of day))) state.new result }
+// The modes as words.
+fn mode_words(modes: &[u16; state_room::MOST_REACTORS]) -> [u64; state_room::MOST_REACTORS]
+    ensures { result ≡ modes.now }
 {
-    let first = first_words(image, day);
-    let ledger = day.ledger;
-    let modes = ledger.modes;
-    let scopes = day.scopes;
-    let events = day.events;
-    let values = day.values;
-    let buckets = day.buckets;
-    let modes_at = put_words(state, 0, &first);
-    let scopes_at = put_keys(state, modes_at, &modes);
-    let events_at = put_words(state, scopes_at, &scopes);
-    let values_at = put_words(state, events_at, &events);
-    let buckets_at = put_words(state, values_at, &values);
-    put_words(state, buckets_at, &buckets)
+    modes.map(u64::from)
+}
+
+// All bytes of a state, over the front.
+fn put_state(state: &mut [u8], image: &[u8], day: &Room) -> usize
+    requires { Kept image.now (rows_of day.now) }
+    ensures { Written state.old 0 (state_bytes image.now (state_in image.now (rows_of day.now))) state.new result }
+{
+    let modes_at = put_words(state, 0, &first_words(image, day));
+    let scopes_at = put_words(state, modes_at, &mode_words(&day.ledger.modes));
+    let events_at = put_words(state, scopes_at, &day.scopes);
+    let values_at = put_words(state, events_at, &day.events);
+    let buckets_at = put_words(state, values_at, &day.values);
+    put_words(state, buckets_at, &day.buckets)
 }
 
 // The state after a day's records, over the front of the bytes: 0. Or the image's refusal, and they stay as they were.
@@ -202,15 +139,13 @@ pub fn barnshiver_state_after(day: &[u8], state: &mut [u8]) -> u8
     if state.len() < STATE_BYTES {
         return NO_ROOM;
     }
-    let checked = day_run::open(day);
-    match checked {
-        Checked::Accepted => {
-            let end = day_run::image_end(day);
-            let after = run_all(&day[..end], &day[end..]);
-            put_state(state, &day[..end], after);
+    match day_run::open(day) {
+        Ok(()) => {
+            let (image, records) = day.split_at(day_run::image_end(day));
+            put_state(state, image, &run_all(image, records));
             0
         }
-        Checked::Refused(why) => table::number_of(why),
+        Err(why) => u8::from(why),
     }
 }
 
@@ -225,24 +160,6 @@ pub fn barnshiver_run_day(day: &[u8], lines: &mut [u8]) -> usize
 
 // ---- the table check
 
-fn number_in(checked: Checked) -> u8
-    ensures { result ≡ check_number checked }
-{
-    match checked {
-        Checked::Accepted => 0,
-        Checked::Refused(refusal) => table::number_of(refusal),
-    }
-}
-
-fn place_in(checked: Checked) -> u64
-    ensures { result ≡ check_place checked }
-{
-    match checked {
-        Checked::Accepted => 0,
-        Checked::Refused(refusal) => table::place_of(refusal) as u64,
-    }
-}
-
 const PLACE_BYTES: usize = 8;
 
 // Whether an image is a table: 0, or the refusal's number; and its place.
@@ -252,10 +169,16 @@ pub fn barnshiver_check_table(image: &[u8], place: &mut [u8]) -> u8
     if place.len() < PLACE_BYTES {
         return NO_ROOM;
     }
-    let checked = table::check(image);
-    let at = place_in(checked);
-    byte_writer::put_number(place, 0, 8, at);
-    number_in(checked)
+    match table::check(image) {
+        Ok(()) => {
+            byte_writer::put_number(place, 0, 8, 0);
+            0
+        }
+        Err(why) => {
+            byte_writer::put_number(place, 0, 8, why.place() as u64);
+            u8::from(why)
+        }
+    }
 }
 
 // ---- the table writer
@@ -268,9 +191,7 @@ pub fn barnshiver_write_table(counts: &[u8], rows: &[u8], buffer: &mut [u8]) -> 
     ensures { told result buffer.new ≡ write_told (writing counts.now rows.now buffer.old) }
 {
     let answer = table_writer::write(counts, rows, buffer);
-    let number = table_writer::number_of(answer) as u64;
-    let place = table_writer::place_of(answer) as u64;
-    number * HALF + place
+    u64::from(table_writer::number_of(answer)) * HALF + table_writer::place_of(answer) as u64
 }
 
 // ---- the rescue of a damaged day
@@ -278,35 +199,24 @@ pub fn barnshiver_write_table(counts: &[u8], rows: &[u8], buffer: &mut [u8]) -> 
 // How many bytes the output has, how many records were kept and how many runs were dropped, eight bytes each; then the runs.
 const REPORT_HEAD: usize = 24;
 
-fn report_head(report: &[u8]) -> usize
-    ensures { result ≡ min report_head (length report.now) }
-{
-    if report.len() < REPORT_HEAD {
-        return report.len();
-    }
-    REPORT_HEAD
-}
-
 // Image and kept records of a damaged day over the front of the output, the report over the front of its bytes: 0. Or the image's refusal, its number in
 // the high half and its place in the low one, or 255 in the high half for too little room; and both stay as they were.
 pub fn barnshiver_rescue(day: &[u8], output: &mut [u8], report: &mut [u8]) -> u64
     ensures { answered result output.new report.new ≡ rescue_bytes day.now output.old report.old }
 {
-    let head = report_head(report);
+    let head = REPORT_HEAD.min(report.len());
     match day_rescue::rescue(day, output, &mut report[head..]) {
-        Rescued::Saved(totals) => {
-            let records_at = byte_writer::put_number(report, 0, 8, totals.written as u64);
-            let runs_at = byte_writer::put_number(report, records_at, 8, totals.records as u64);
-            let runs = totals.listed / day_rescue::RUN_BYTES;
-            byte_writer::put_number(report, runs_at, 8, runs as u64);
+        Ok(totals) => {
+            let numbers = [
+                totals.written as u64,
+                totals.records as u64,
+                (totals.listed / day_rescue::RUN_BYTES) as u64,
+            ];
+            put_words(report, 0, &numbers);
             0
         }
-        Rescued::Refused(why) => {
-            let number = table::number_of(why) as u64;
-            let place = table::place_of(why) as u64;
-            number * HALF + place
-        }
-        Rescued::NoRoom => (NO_ROOM as u64) * HALF,
+        Err(RescueRefusal::Image(why)) => { u64::from(u8::from(why)) * HALF + why.place() as u64 }
+        Err(RescueRefusal::NoRoom) => u64::from(NO_ROOM) * HALF,
     }
 }
 
@@ -320,48 +230,41 @@ const TAG_BYTES: usize = 12;
 // A tag, and a byte that is 0 or 1.
 const MAPPED_BYTES: usize = 13;
 
+#[tactic(auto, unfolding(crate::specs::Answers::is_clock))]
 fn is_clock(clock: &[u8]) -> bool
     ensures { result ≡ is_clock clock.now }
 {
-    if clock.len() == CLOCK_BYTES {
-        return day_records::is_bit(clock, 24);
-    }
-    false
+    clock.len() == CLOCK_BYTES && day_records::is_bit(clock, 24)
 }
 
-fn clock_in(clock: &[u8]) -> ScopeClock
-    ensures { of_clock result ≡ clock_in clock.now }
+// The clock of these bytes; what are no clock's break a state rule.
+fn clock_in(clock: &[u8]) -> Result<ScopeClock, Refusal>
+    ensures { MatchResult result (λ c. (is_clock clock.now ≡ true) × (of_clock c ≡ clock_in clock.now)) (λ why. (is_clock clock.now ≡ false) × (why ≡ StateRule)) }
 {
+    if !is_clock(clock) {
+        return Err(Refusal::StateRule);
+    }
     let g = day_records::tag_at(clock, 0);
     let l = day_records::tag_at(clock, 12);
-    let allowed = day_records::is_one(clock, 24);
     let s = day_records::tag_at(clock, 25);
-    ScopeClock {
+    Ok(ScopeClock {
         activation_global: g,
         activation_local: LocalTag(l.0, l.1),
-        allowed,
+        allowed: day_records::is_one(clock, 24),
         suspended_local: LocalTag(s.0, s.1),
-    }
+    })
 }
 
-fn mapped_local(clock: &[u8], tag: GlobalTag) -> MappedLocal
+fn mapped_local(clock: &[u8], tag: GlobalTag) -> Result<LocalTag, Refusal>
     ensures { mapped_local result ≡ mapped global_to_local clock.now (at tag.0 tag.1) }
 {
-    if is_clock(clock) {
-        let c = clock_in(clock);
-        return c.global_to_local(tag);
-    }
-    MappedLocal::Refused(Refusal::StateRule)
+    clock_in(clock)?.global_to_local(tag)
 }
 
-fn mapped_global(clock: &[u8], tag: LocalTag) -> MappedGlobal
+fn mapped_global(clock: &[u8], tag: LocalTag) -> Result<Mapped, Refusal>
     ensures { mapped_global result ≡ mapped local_to_global clock.now (at tag.0 tag.1) }
 {
-    if is_clock(clock) {
-        let c = clock_in(clock);
-        return c.local_to_global(tag);
-    }
-    MappedGlobal::Refused(Refusal::StateRule)
+    clock_in(clock)?.local_to_global(tag)
 }
 
 // A tag as a record has it, over the front.
@@ -369,7 +272,7 @@ fn put_tag(tag: &mut [u8], offset: u64, microstep: u32) -> usize
     ensures { Written tag.old 0 (tag_bytes (at offset microstep)) tag.new result }
 {
     let next = byte_writer::put_number(tag, 0, 8, offset);
-    byte_writer::put_number(tag, next, 4, microstep as u64)
+    byte_writer::put_number(tag, next, 4, u64::from(microstep))
 }
 
 // A global tag on the scope's local scale: 0, or the refusal's number, and the bytes stay as they were.
@@ -380,11 +283,11 @@ pub fn barnshiver_global_to_local(clock: &[u8], offset: u64, microstep: u32, tag
         return NO_ROOM;
     }
     match mapped_local(clock, GlobalTag(offset, microstep)) {
-        MappedLocal::Tag(t) => {
-            put_tag(tag, t.0, t.1);
+        Ok(mapped) => {
+            put_tag(tag, mapped.0, mapped.1);
             0
         }
-        MappedLocal::Refused(refusal) => refusals::number_of(refusal),
+        Err(why) => u8::from(why),
     }
 }
 
@@ -396,12 +299,11 @@ pub fn barnshiver_local_to_global(clock: &[u8], offset: u64, microstep: u32, tag
         return NO_ROOM;
     }
     match mapped_global(clock, LocalTag(offset, microstep)) {
-        MappedGlobal::Tag(t, held) => {
-            let end = put_tag(tag, t.0, t.1);
-            let bit = lists::bit(held);
-            byte_writer::put_number(tag, end, 1, bit);
+        Ok(mapped) => {
+            let end = put_tag(tag, mapped.tag.0, mapped.tag.1);
+            byte_writer::put_number(tag, end, 1, u64::from(mapped.held));
             0
         }
-        MappedGlobal::Refused(refusal) => refusals::number_of(refusal),
+        Err(why) => u8::from(why),
     }
 }

@@ -1,5 +1,6 @@
 // The functions of the crate exports under the C calling convention, with the same clauses: the static library for programs in C and Rust.
 // harness/barnshiver.h declares them and says what each number and byte is.
+// Stays: numbers and parameters are those of the C interface, and so are the two maps, which differ in the scale that they map to.
 #![tactic(auto)]
 
 ghost use Rattle.std.specs.Prelude.{◌≡◌, length};

@@ -1,6 +1,6 @@
 -- Demand 3 for a gate day: of `day_run::run_day`, and of `day_run::run_records` over pieces one after another. Assumes nothing but the accepted table.
 use Prim.Native.Nat.{ℕ, zero, suc, ◌+◌, ◌-◌, ◌<◌, ◌≤◌}
-use Rattle.std.specs.Prelude.{Bool, ◌≡◌, drop}
+use Rattle.std.specs.Prelude.{Bool, ◌≡◌, drop, Ok}
 use Rattle.std.proofs.Math.Bool.{true, false, cond}
 use Rattle.std.proofs.Math.Path.{refl, ap}
 use Rattle.std.proofs.Common.{◌∙◌, sym, subst, arith, drop-cons}
@@ -11,7 +11,6 @@ use Rattle.std.proofs.lemmas.List.{drop-append-le}
 use borrow.Author.Tests.{ltb-true, ltb-false}
 use Rattle.table_rows.specs.Bytes.{Image, be}
 use Rattle.table.specs.Check.{is_table}
-use Rattle.table.specs.declared.Checked.TheVariants.{Accepted}
 use Rattle.machine.specs.State.{State, fresh}
 use Rattle.machine.specs.Machine.{Call, peek_tag, step, run}
 use Rattle.state_room.specs.Holds.{Rows, rows_of, state_in}
@@ -75,17 +74,17 @@ file_lines_lem img bytes = lines_are img (file_calls bytes) (records_of bytes) 0
 -- where its table is accepted, the lines that `day_run::run_day` writes (`day_answers`) are the table's, and then those of the machine's answers in a run
 -- of the calls among all records of the file; and this run has one history
 pub day_fates :
-    (day : List ℕ) → opened day ≡ Accepted → let img = image_in day in
-    TheHistory img (file_calls (record_bytes day)) × (day_answers day ≡ table_line Accepted ∷ file_lines img (record_bytes day))
+    (day : List ℕ) → opened day ≡ Ok tt → let img = image_in day in
+    TheHistory img (file_calls (record_bytes day)) × (day_answers day ≡ table_line (Ok tt) ∷ file_lines img (record_bytes day))
 unfolding day_answers
 day_fates day o =
     let img = image_in day in
-    (the_history img (open_table day o) (file_calls (record_bytes day)), ap (λ x. answers_by x day) o ∙ ap (table_line Accepted ∷◌) (file_lines_lem img (record_bytes day)))
+    (the_history img (open_table day o) (file_calls (record_bytes day)), ap (λ x. answers_by x day) o ∙ ap (table_line (Ok tt) ∷◌) (file_lines_lem img (record_bytes day)))
 
 -- and so it is with what is rescued of a damaged day (document 02, C-23): its image is accepted again
 pub rescued_fates :
-    (day : List ℕ) → opened day ≡ Accepted → let out = (day_rescue day).kept in
-    TheHistory (image_in out) (file_calls (record_bytes out)) × (day_answers out ≡ table_line Accepted ∷ file_lines (image_in out) (record_bytes out))
+    (day : List ℕ) → opened day ≡ Ok tt → let out = (day_rescue day).kept in
+    TheHistory (image_in out) (file_calls (record_bytes out)) × (day_answers out ≡ table_line (Ok tt) ∷ file_lines (image_in out) (record_bytes out))
 rescued_fates day o = day_fates (day_rescue day).kept (opened_again day o)
 
 -- ---- pieces one after another

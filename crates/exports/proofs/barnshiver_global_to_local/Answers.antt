@@ -7,10 +7,10 @@ use Rattle.exports.proofs.barnshiver_global_to_local.Goals as goal
 pub returns-then-tag-lt-TAG_BYTES : goal.returns-then-tag-lt-TAG_BYTES
 returns-then-tag-lt-TAG_BYTES c = short_tag tag_bytes 12 c.args.tag.now _ c.if-tag-lt-TAG_BYTES.true
 
-pub returns-in-Tag : goal.returns-in-Tag
-returns-in-Tag c =
-    tag_told tag_bytes 12 _ c.if-tag-lt-TAG_BYTES.false c.mapped_local.ensures (ap mapped_local c.in-Tag.is) c.put_tag.ensures
+pub returns-in-Ok : goal.returns-in-Ok
+returns-in-Ok c =
+    tag_told tag_bytes 12 _ c.if-tag-lt-TAG_BYTES.false c.mapped_local.ensures (ap mapped_local c.in-Ok.is) c.put_tag.ensures
 
-pub returns-in-Refused : goal.returns-in-Refused
-returns-in-Refused c =
-    refusal_told tag_bytes 12 _ c.if-tag-lt-TAG_BYTES.false c.mapped_local.ensures (ap mapped_local c.in-Refused.is) c.number_of.ensures
+pub returns-in-Err : goal.returns-in-Err
+returns-in-Err c =
+    refusal_told tag_bytes 12 _ c.if-tag-lt-TAG_BYTES.false c.mapped_local.ensures (ap mapped_local c.in-Err.is) c.from.ensures

@@ -1,12 +1,14 @@
-use Rattle.exports.proofs.MapLaws.{by_clock, no_clock}
+use Rattle.std.proofs.Common.{refl, ap, ◌∙◌}
+use Rattle.std.proofs.lemmas.Result.{err_from_is_err_and}
+use Rattle.lists.specs.Walk.{refused}
 use Rattle.tags.specs.Tags.{at, global_to_local}
+use Rattle.exports.proofs.MapLaws.{by_clock, no_clock}
 use Rattle.exports.proofs.mapped_local.Goals as goal
 
-pub returns-then-is_clock : goal.returns-then-is_clock
-returns-then-is_clock c =
-    by_clock global_to_local c.args.clock.now (at c.args.tag.0 c.args.tag.1) c.is_clock.ensures c.if-is_clock.true c.clock_in-c.ensures
-    c.global_to_local.ensures
-
 pub returns : goal.returns
-returns c =
-    no_clock global_to_local c.args.clock.now (at c.args.tag.0 c.args.tag.1) c.is_clock.ensures c.if-is_clock.false
+returns c = by_clock global_to_local c.args.clock.now (at c.args.tag.0 c.args.tag.1) refl c.in_ok-clock_in.ensures.0 c.in_ok-clock_in.ensures.1 c.global_to_local.ensures
+
+pub returns-in_err-clock_in : goal.returns-in_err-clock_in
+returns-in_err-clock_in c =
+    let p = err_from_is_err_and c.from_residual.result c.from_residual.ensures.1 in
+    rw (p.1, p.2) (ap refused c.in_err-clock_in.ensures.1 ∙ no_clock global_to_local c.args.clock.now (at c.args.tag.0 c.args.tag.1) refl c.in_err-clock_in.ensures.0)
