@@ -3,225 +3,179 @@
 // them. A new fact comes in here as a line with its name; what it says is computed in day_telling and table_broken_rules.
 #![tactic(auto)]
 
-ghost use Rattle.std.specs.Prelude.{◌≡◌, true, ◌<◌, ◌≤◌, length};
-ghost use Rattle.day_records.specs.Records.{most_keys};
-ghost use Rattle.state_events.specs.Slots.{Whole, room_for_events};
-ghost use Rattle.table.specs.Check.{is_table};
-ghost use Rattle.table_rows.specs.Kinds.{largest};
-ghost use Rattle.state_room.specs.Holds.{rows_of};
+ghost use Rattle.std.specs.Prelude.{◌≡◌, true, ◌≤◌, IfSome, length};
 ghost use Rattle.day_run.specs.Views.{Kept};
+ghost use Rattle.state_events.specs.Slots.{Whole, room_for_events};
+ghost use Rattle.state_room.specs.Holds.{rows_of};
+ghost use Rattle.table.specs.Check.{is_table};
 
-use day_records::Parsed;
-use key_set::KeySet;
-use state_heads::{Head, HeadAt};
-use state_queues::{Earliest, Which};
+use day_records::{Malformed, Parsed};
+use state_heads::HeadAt;
+use state_queues::Which;
 use state_room::Room;
-use std::io::{Stdin, Stdout};
-use table::{Checked, ImageRefusal};
+use std::io::{Read, Stdout};
+use streams::Cut;
+use table::ImageRefusal;
 use tags::{GlobalTag, QueueTag};
-
-// No image is longer.
-const LARGEST: usize = table_rows::LARGEST;
 
 // The bytes of a length.
 const LENGTH: usize = day_run::IMAGE_LENGTH_BYTES;
 
 // ---- lines
 
-// A line of facts has fewer bytes.
-const LINE: usize = 256;
-
 // So many bytes may be on their way; then they go.
 const ROOM: usize = 8192;
 
-// The desk's cells: how many bytes are on their way; the offsets whose times this record has told, each in the cell that its remainder gives; and,
-// from cell FRONT on, the bytes.
-const FRONT: usize = 64;
+// A line of facts has fewer bytes, and so has a line of the bench that is no record's.
+const LINE: usize = 256;
 
-const CELLS: usize = 8256;
+// The lines of a record's answer have fewer bytes.
+const ANSWER: usize = 4096;
 
-const TIMES: u64 = 61;
+// Whether an offset's time is told is kept in the cell that its remainder gives.
+const TIMES: usize = 61;
 
-// The desk, and where its bytes go.
-#[derive(Clone, Copy)]
+// Bytes on their way; what has no room is dropped.
+#[derive(Drop)]
+struct Text {
+    bytes: [u8; ROOM],
+    end: usize,
+    ghost in_room: { end ≤ 8192 },
+}
+
+impl Text {
+    fn has_room(&self, n: usize) -> bool {
+        n <= ROOM - self.end
+    }
+
+    fn push(&mut self, bytes: &[u8]) {
+        for b in bytes {
+            if self.end < ROOM {
+                self.bytes[self.end] = *b;
+                self.end += 1;
+            }
+        }
+    }
+
+    fn as_slice(&self) -> &[u8] {
+        &self.bytes[..self.end]
+    }
+
+    fn clear(&mut self) {
+        self.end = 0;
+    }
+}
+
+// What is on its way, and where it goes; the offsets whose times this record has told.
+#[derive(Drop)]
 struct Desk {
     output: Stdout,
-    cells: [u64; CELLS],
+    text: Text,
+    times: [u64; TIMES],
 }
 
-fn filled(desk: &Desk) -> usize
-    ensures { result ≤ 8192 }
-{
-    let n = desk.cells[0] as usize;
-    if n < ROOM {
-        return n;
-    }
-    ROOM
-}
-
-// All that is on its way goes out.
-fn flush(desk: &mut Desk) {
-    let n = filled(desk);
-    let mut chunk = [0u8; ROOM];
-    let mut i: usize = 0;
-    while i < n {
-        let byte = desk.cells[FRONT + i] % 256;
-        chunk[i] = byte as u8;
-        i += 1;
-    }
-    streams::write_all(&mut desk.output, &chunk[..n]);
-    desk.cells[0] = 0;
-}
-
-fn widened(byte: u8) -> u64 {
-    byte as u64
-}
-
-// Bytes behind those that are on their way.
-fn put(desk: &mut Desk, bytes: &[u8]) {
-    let start = filled(desk);
-    if ROOM - start < bytes.len() {
-        flush(desk);
-    }
-    let mut at = filled(desk);
-    let mut i: usize = 0;
-    while i < bytes.len() {
-        if ROOM <= at {
-            break;
+impl Desk {
+    fn new(output: Stdout) -> Self {
+        Self {
+            output,
+            text: Text {
+                bytes: [0; ROOM],
+                end: 0,
+            },
+            times: [0; TIMES],
         }
-        let byte = widened(bytes[i]);
-        desk.cells[FRONT + at] = byte;
-        at += 1;
-        i += 1;
     }
-    desk.cells[0] = at as u64;
-}
 
-fn say(desk: &mut Desk, name: &[u8], words: &[u64]) {
-    let mut line = [0u8; LINE];
-    let n = day_telling::write_fact(&mut line, name, words);
-    put(desk, &line[..n]);
-}
-
-fn say_two(desk: &mut Desk, name: &[u8], first: u64, second: u64) {
-    let words = [first, second];
-    say(desk, name, &words);
-}
-
-// An offset's hours, minutes, seconds and nanoseconds, once a record; that of zero need not be told.
-fn say_time(desk: &mut Desk, offset: u64) {
-    let cell = (offset % TIMES) as usize + 1;
-    if desk.cells[cell] == offset {
-        return;
+    // All that is on its way goes out; after a failed write the run goes on.
+    fn flush(&mut self) {
+        streams::write_all(&mut self.output, self.text.as_slice()).ok();
+        self.text.clear();
     }
-    desk.cells[cell] = offset;
-    let words = day_telling::time_words(offset);
-    say(desk, b"time", &words);
-}
 
-// No time is told yet.
-fn forget_times(desk: &mut Desk) {
-    let mut i: usize = 1;
-    while i < FRONT {
-        desk.cells[i] = 0;
-        i += 1;
+    // Bytes behind those that are on their way.
+    fn put(&mut self, bytes: &[u8]) {
+        if !self.text.has_room(bytes.len()) {
+            self.flush();
+        }
+        self.text.push(bytes);
     }
-}
 
-// The bench's line, behind a word.
-fn say_answer(desk: &mut Desk, line: &[u8]) {
-    put(desk, b"answer ");
-    put(desk, line);
-}
+    // A fact, by its name.
+    fn say(&mut self, name: &[u8], words: &[u64]) {
+        let mut line = [0; LINE];
+        let end = day_telling::write_fact(&mut line, name, words);
+        self.put(&line[..end]);
+    }
 
-fn wide(key: u16) -> u64 {
-    key as u64
+    // An offset's hours, minutes, seconds and nanoseconds, once a record; that of zero need not be told.
+    fn say_time(&mut self, offset: u64) {
+        let cell = (offset % TIMES as u64) as usize;
+        if self.times[cell] != offset {
+            self.times[cell] = offset;
+            self.say(b"time", &day_telling::time_words(offset));
+        }
+    }
+
+    // No time is told yet.
+    fn forget_times(&mut self) {
+        self.times = [0; TIMES];
+    }
+
+    // The bench's line, behind a word.
+    fn say_answer(&mut self, line: &[u8]) {
+        self.put(b"answer ");
+        self.put(line);
+    }
+
+    // The end of a record's facts; they go out before the next record is waited for.
+    fn say_end(&mut self) {
+        self.put(b"end\n");
+        self.flush();
+    }
 }
 
 // ---- the table
 
-// Four bytes read the other way round.
-fn half_turned(n: u64) -> u64
-    ensures { result < 4294967296 }
-{
-    let lowest = n % 256;
-    let second = n / 256 % 256;
-    let third = n / 65536 % 256;
-    let highest = n / 16777216 % 256;
-    ((lowest * 256 + second) * 256 + third) * 256 + highest
-}
-
-// The eight bytes of an offset read the other way round.
-fn turned(offset: u64) -> u64 {
-    let high = half_turned(offset);
-    let low = half_turned(offset / 4294967296);
-    high * 4294967296 + low
-}
-
 // Row i of the kind k; of a timer its time too, also as it were with its lowest byte first.
 fn say_row(desk: &mut Desk, image: &[u8], k: u8, i: u16) {
-    let words = table_broken_rules::row_words(image, k, i);
-    say(desk, b"row", &words);
+    desk.say(b"row", &table_broken_rules::row_words(image, k, i));
     if k == table_rows::TIMER {
         let offset = table_rows::timer_offset(image, i);
-        say_time(desk, offset);
-        let other = turned(offset);
-        say_two(desk, b"turned", i as u64, other);
-        say_time(desk, other);
-    }
-}
-
-fn say_rows_of(desk: &mut Desk, image: &[u8], k: u8) {
-    let total = table_rows::count(image, k);
-    let mut i: u16 = 0;
-    while i < total {
-        say_row(desk, image, k, i);
-        i += 1;
+        let turned = offset.swap_bytes();
+        desk.say_time(offset);
+        desk.say(b"turned", &[u64::from(i), turned]);
+        desk.say_time(turned);
     }
 }
 
 fn say_rows(desk: &mut Desk, image: &[u8]) {
-    let mut k: u8 = 0;
-    while k < table_rows::KINDS {
-        say_rows_of(desk, image, k);
-        k += 1;
+    for k in 0..table_rows::KINDS {
+        for i in 0..table_rows::count(image, k) {
+            say_row(desk, image, k, i);
+        }
     }
 }
 
-// A kind's count, its least and most, and where it stands.
-fn say_count(desk: &mut Desk, image: &[u8], k: u8) {
-    let total = table_rows::count(image, k);
-    let kind = table_rows::kind_at(k);
-    let most = table_rows::most_rows(image, k);
-    let at = table_rows::count_place(k);
-    let words = [
-        k as u64,
-        total as u64,
-        kind.least as u64,
-        most as u64,
-        at as u64,
-    ];
-    say(desk, b"count", &words);
-}
-
+// Each kind's count, its least and most, and where it stands.
 fn say_counts(desk: &mut Desk, image: &[u8]) {
-    let mut k: u8 = 0;
-    while k < table_rows::KINDS {
-        say_count(desk, image, k);
-        k += 1;
+    for k in 0..table_rows::KINDS {
+        let words = [
+            u64::from(k),
+            u64::from(table_rows::count(image, k)),
+            u64::from(table_rows::kind_at(k).least),
+            u64::from(table_rows::most_rows(image, k)),
+            table_rows::count_place(k) as u64,
+        ];
+        desk.say(b"count", &words);
     }
 }
 
 // The bytes of row i of the kind k, with their places.
 fn say_bytes(desk: &mut Desk, image: &[u8], k: u8, i: u16) {
     let start = table_rows::row_place(image, k, i);
-    let kind = table_rows::kind_at(k);
-    let end = start + kind.width;
-    let mut at = start;
-    while at < end {
+    for at in start..start + table_rows::kind_at(k).width {
         let byte = table_rows::one_byte(image, at);
-        say_two(desk, b"byte", at as u64, byte as u64);
-        at += 1;
+        desk.say(b"byte", &[at as u64, u64::from(byte)]);
     }
 }
 
@@ -229,8 +183,7 @@ fn say_bytes(desk: &mut Desk, image: &[u8], k: u8, i: u16) {
 fn say_fault(desk: &mut Desk, image: &[u8]) {
     let k = table_broken_rules::bad_kind(image);
     let i = table::bad_row(image, k);
-    let words = table_broken_rules::fault_words(image, k, i);
-    say(desk, b"fault", &words);
+    desk.say(b"fault", &table_broken_rules::fault_words(image, k, i));
     say_row(desk, image, k, i);
     say_bytes(desk, image, k, i);
 }
@@ -239,172 +192,103 @@ fn say_fault(desk: &mut Desk, image: &[u8]) {
 fn refusal_words(image: &[u8], refusal: ImageRefusal) -> [u64; 2] {
     match refusal {
         ImageRefusal::Length => [1, 0],
-        ImageRefusal::Version => {
-            let version = table_rows::one_byte(image, LENGTH);
-            [2, version as u64]
-        }
+        ImageRefusal::Version => [2, u64::from(table_rows::one_byte(image, LENGTH))],
         ImageRefusal::Short => [3, 0],
         ImageRefusal::Count(at) => [4, at as u64],
-        ImageRefusal::Unfilled => {
-            let end = table_rows::place(image, table_rows::KINDS);
-            [5, end as u64]
-        }
+        ImageRefusal::Unfilled => [5, table_rows::place(image, table_rows::KINDS) as u64],
         ImageRefusal::Row(at) => [6, at as u64],
     }
 }
 
-// Why the image is refused; where it is long enough for its counts they are told first, and so is a row that breaks a rule.
-fn say_refusal(desk: &mut Desk, image: &[u8], refusal: ImageRefusal) {
-    let words = refusal_words(image, refusal);
-    if 3 < words[0] {
-        say_counts(desk, image);
-    }
-    if words[0] == 6 {
-        say_fault(desk, image);
-    }
-    say(desk, b"refusal", &words);
-}
-
-// The same, and no more follows.
+// Why the image is refused, and no more follows; where it is long enough for its counts they are told first, and so is a row that breaks a rule.
 fn say_refused(desk: &mut Desk, image: &[u8], refusal: ImageRefusal) {
-    say_refusal(desk, image, refusal);
-    flush(desk);
+    match refusal {
+        ImageRefusal::Length | ImageRefusal::Version | ImageRefusal::Short => {}
+        ImageRefusal::Count(_) | ImageRefusal::Unfilled => say_counts(desk, image),
+        ImageRefusal::Row(_) => {
+            say_counts(desk, image);
+            say_fault(desk, image);
+        }
+    }
+    desk.say(b"refusal", &refusal_words(image, refusal));
+    desk.flush();
 }
 
 // The line of the table's check.
-fn say_table(desk: &mut Desk, checked: Checked) {
-    let mut line = streams::buffer();
-    let n = day_lines::write_table(&mut line, 0, checked);
-    say_answer(desk, &line[..n]);
+fn say_table(desk: &mut Desk, checked: Result<(), ImageRefusal>) {
+    let mut line = [0; LINE];
+    let end = day_lines::write_table(&mut line, 0, checked);
+    desk.say_answer(&line[..end]);
 }
 
 // ---- the state
 
-fn say_scope(desk: &mut Desk, scopes: &[u64; state_scopes::ROOM], i: u16) {
-    let words = day_telling::scope_words(scopes, i);
-    say(desk, b"scope", &words);
-    say_time(desk, words[4]);
-    say_time(desk, words[6]);
-    say_time(desk, words[8]);
+// A table's image and a day over it, which keeps the rules.
+#[derive(Clone, Copy)]
+struct Day<'a> {
+    image: &'a [u8],
+    room: &'a Room,
+    ghost kept: { Kept image.now (rows_of room.now) },
 }
 
-fn say_scopes(desk: &mut Desk, image: &[u8], scopes: &[u64; state_scopes::ROOM]) {
-    let total = table_rows::count(image, table_rows::SCOPE);
-    let mut i: u16 = 0;
-    while i < total {
-        say_scope(desk, scopes, i);
-        i += 1;
+fn say_scopes(desk: &mut Desk, day: Day) {
+    for i in 0..table_rows::count(day.image, table_rows::SCOPE) {
+        let words = day_telling::scope_words(&day.room.scopes, i);
+        desk.say(b"scope", &words);
+        desk.say_time(words[4]);
+        desk.say_time(words[6]);
+        desk.say_time(words[8]);
     }
 }
 
 // Each reactor's current mode.
-fn say_modes(desk: &mut Desk, image: &[u8], modes: &[u16; state_room::MOST_REACTORS]) {
-    let total = table_rows::count(image, table_rows::REACTOR) as usize;
-    let mut i: usize = 0;
-    while i < state_room::MOST_REACTORS {
-        let mode = wide(modes[i]);
-        let reactor = i;
-        i += 1;
+fn say_modes(desk: &mut Desk, day: Day) {
+    let total = usize::from(table_rows::count(day.image, table_rows::REACTOR));
+    for (reactor, mode) in day.room.ledger.modes.iter().enumerate() {
         if reactor < total {
-            say_two(desk, b"mode", reactor as u64, mode);
+            desk.say(b"mode", &[reactor as u64, u64::from(*mode)]);
         }
     }
 }
 
 // A tag of a queue, its image, and whether it is held back.
-fn say_place(
-    desk: &mut Desk,
-    name: &[u8],
-    scopes: &[u64; state_scopes::ROOM],
-    queue: u16,
-    tag: QueueTag,
-) {
-    let words = day_telling::place_words(scopes, queue, tag);
-    say(desk, name, &words);
-    say_time(desk, words[1]);
-    say_time(desk, words[5]);
+fn say_place(desk: &mut Desk, name: &[u8], day: Day, queue: u16, tag: QueueTag) {
+    let words = day_telling::place_words(&day.room.scopes, queue, tag);
+    desk.say(name, &words);
+    desk.say_time(words[1]);
+    desk.say_time(words[5]);
 }
 
-// The least tag of a queue, which has the entry k.
-fn say_queue(
-    desk: &mut Desk,
-    scopes: &[u64; state_scopes::ROOM],
-    heads: &[u64; state_queues::HEADS],
-    queue: u16,
-    k: usize,
-) {
-    match state_queues::least_at(heads, k) {
-        Earliest::Nothing => {}
-        Earliest::At(t) => say_place(desk, b"queue", scopes, queue, t),
+// The least tag of a queue, which has the entry k, if it has one.
+fn say_queue(desk: &mut Desk, day: Day, heads: &[u64; state_queues::HEADS], queue: u16, k: usize) {
+    if let Some(tag) = state_queues::least_at(heads, k) {
+        say_place(desk, b"queue", day, queue, tag);
     }
 }
 
 // The least tag of every queue that has one.
-fn say_queues(
-    desk: &mut Desk,
-    image: &[u8],
-    scopes: &[u64; state_scopes::ROOM],
-    events: &[u64; state_events::ROOM],
-    waiting: usize,
-)
-    requires { waiting ≤ room_for_events }
-{
-    let heads = state_queues::heads(events, waiting);
+#[tactic(auto, using(crate::proofs::Laws::few_wait))]
+fn say_queues(desk: &mut Desk, day: Day) {
+    let heads = state_queues::heads(&day.room.events, day.room.ledger.counts.waiting);
     say_queue(
         desk,
-        scopes,
+        day,
         &heads,
         state_events::NONE,
         state_scopes::MOST_SCOPES,
     );
-    let total = table_rows::count(image, table_rows::SCOPE);
-    let mut i: u16 = 0;
-    while i < total {
-        say_queue(desk, scopes, &heads, i, i as usize);
-        i += 1;
+    for i in 0..table_rows::count(day.image, table_rows::SCOPE) {
+        say_queue(desk, day, &heads, i, usize::from(i));
     }
 }
 
 // ---- where a pop's events come from
 
-// The pop's tag.
-fn peek(
-    image: &[u8],
-    scopes: &[u64; state_scopes::ROOM],
-    events: &[u64; state_events::ROOM],
-    waiting: usize,
-) -> Head
-    requires { waiting ≤ room_for_events }
-{
-    let total = table_rows::count(image, table_rows::SCOPE);
-    let heads = state_queues::heads(events, waiting);
-    state_heads::peek(&heads, scopes, total)
-}
-
-fn root_head(events: &[u64; state_events::ROOM], waiting: usize) -> Head
-    requires { waiting ≤ room_for_events }
-{
-    let heads = state_queues::heads(events, waiting);
-    state_heads::root_head(&heads)
-}
-
-fn scope_head(
-    image: &[u8],
-    scopes: &[u64; state_scopes::ROOM],
-    events: &[u64; state_events::ROOM],
-    waiting: usize,
-) -> Head
-    requires { waiting ≤ room_for_events }
-{
-    let total = table_rows::count(image, table_rows::SCOPE);
-    let heads = state_queues::heads(events, waiting);
-    state_heads::scope_head(&heads, scopes, total)
-}
-
 // The events at a head are told and taken out; how many are left.
+#[tactic(auto, using(crate::proofs::Laws::left_few))]
 fn take(
     desk: &mut Desk,
-    scopes: &[u64; state_scopes::ROOM],
+    day: Day,
     events: &mut [u64; state_events::ROOM],
     waiting: usize,
     h: HeadAt,
@@ -413,458 +297,267 @@ fn take(
     requires waiting_le_room_for_events { waiting ≤ room_for_events }
     ensures { Whole events.new × (result ≤ room_for_events) }
 {
-    let stamp = h.stamp;
-    say_place(desk, b"take", scopes, h.queue, stamp);
-    let none = KeySet::empty();
-    let which = Which {
-        by_tag: true,
-        queue: h.queue,
-        stamp,
-        inside: none,
-    };
-    let gone = state_queues::remove(events, waiting, which);
-    gone.count
+    say_place(desk, b"take", day, h.queue, h.stamp);
+    state_queues::remove(events, waiting, Which::At(h.queue, h.stamp)).count
 }
 
-// The root's events at t if its head is t.
-fn take_root(
-    desk: &mut Desk,
-    scopes: &[u64; state_scopes::ROOM],
-    events: &mut [u64; state_events::ROOM],
-    waiting: usize,
-    t: GlobalTag,
-) -> usize
-    requires whole { Whole events.old }
-    requires waiting_le_room_for_events { waiting ≤ room_for_events }
-    ensures { Whole events.new × (result ≤ room_for_events) }
-{
-    match root_head(events, waiting) {
-        Head::Empty => waiting,
-        Head::At(h) => {
-            let g = h.tag;
-            if g.same(t) {
-                take(desk, scopes, events, waiting, h)
-            } else {
-                waiting
-            }
+// What a pop takes, in its own order: the root's events if its head is t, then, while the least scope head is t, all events at that head.
+#[tactic(auto, using(crate::proofs::Laws::few_wait, crate::proofs::Laws::whole_events))]
+fn say_sources(desk: &mut Desk, day: Day, t: GlobalTag) {
+    let scopes = table_rows::count(day.image, table_rows::SCOPE);
+    let mut events = day.room.events;
+    let mut left = day.room.ledger.counts.waiting;
+    let heads = state_queues::heads(&events, left);
+    if let Some(h) = state_heads::root_head(&heads)
+        && h.tag == t
+    {
+        left = take(desk, day, &mut events, left, h);
+    }
+    for _ in 0..left {
+        let heads = state_queues::heads(&events, left);
+        match state_heads::scope_head(&heads, &day.room.scopes, scopes) {
+            Some(h) if h.tag == t => left = take(desk, day, &mut events, left, h),
+            _ => break,
         }
     }
-}
-
-// While the least scope head is t, all events at that head.
-fn take_scopes(
-    desk: &mut Desk,
-    image: &[u8],
-    scopes: &[u64; state_scopes::ROOM],
-    events: &mut [u64; state_events::ROOM],
-    waiting: usize,
-    t: GlobalTag,
-)
-    requires whole { Whole events.old }
-    requires waiting_le_room_for_events { waiting ≤ room_for_events }
-{
-    let mut left = waiting;
-    let mut turns = waiting;
-    while 0 < turns {
-        turns -= 1;
-        match scope_head(image, scopes, events, left) {
-            Head::Empty => {
-                return;
-            }
-            Head::At(h) => {
-                let g = h.tag;
-                if g.same(t) {
-                    left = take(desk, scopes, events, left, h);
-                } else {
-                    return;
-                }
-            }
-        }
-    }
-}
-
-// What a pop takes, in its own order.
-fn say_sources(desk: &mut Desk, image: &[u8], day: Room, t: GlobalTag)
-    requires { Kept image.now (rows_of day) }
-{
-    let scopes = day.scopes;
-    let mut events = day.events;
-    let ledger = day.ledger;
-    let counts = ledger.counts;
-    let waiting = counts.waiting;
-    let left = take_root(desk, &scopes, &mut events, waiting, t);
-    take_scopes(desk, image, &scopes, &mut events, left, t);
 }
 
 // What a pop finds.
-fn say_pop(desk: &mut Desk, image: &[u8], day: Room)
-    requires { Kept image.now (rows_of day) }
-{
-    let scopes = day.scopes;
-    let events = day.events;
-    let ledger = day.ledger;
-    let counts = ledger.counts;
-    let waiting = counts.waiting;
-    say_queues(desk, image, &scopes, &events, waiting);
-    match peek(image, &scopes, &events, waiting) {
-        Head::Empty => {}
-        Head::At(h) => {
-            let t = h.tag;
-            say_sources(desk, image, day, t);
-        }
+#[tactic(auto, using(crate::proofs::Laws::few_wait))]
+fn say_pop(desk: &mut Desk, day: Day) {
+    say_queues(desk, day);
+    let scopes = table_rows::count(day.image, table_rows::SCOPE);
+    let heads = state_queues::heads(&day.room.events, day.room.ledger.counts.waiting);
+    if let Some(h) = state_heads::peek(&heads, &day.room.scopes, scopes) {
+        say_sources(desk, day, h.tag);
     }
 }
 
 // ---- a record
 
-// How many reaction keys a record has.
-fn key_count(parsed: Parsed) -> u16 {
-    match parsed {
-        Parsed::Plain(_, _, n) => n,
-        Parsed::Network(_, n) => n,
-        Parsed::Control(_) => 0,
-        Parsed::Action(_, _, _, n) => n,
-        Parsed::Transition(_, _, _, _) => 0,
-        Parsed::Pop => 0,
-        Parsed::Malformed => 0,
-    }
+// The reaction keys of a record, which stand before others.
+fn keys_of(parsed: Result<Parsed, Malformed>, keys: &[u16; day_records::MOST_KEYS]) -> &[u16] {
+    let n = match parsed {
+        Ok(Parsed::Plain(_, _, n) | Parsed::Network(_, n) | Parsed::Action(_, _, _, n)) => n,
+        _ => 0,
+    };
+    &keys[..keys.len().min(usize::from(n))]
 }
 
-fn keys_end(parsed: Parsed) -> usize
-    ensures { result ≤ most_keys }
-{
-    let n = key_count(parsed) as usize;
-    if n < day_records::MOST_KEYS {
-        return n;
-    }
-    day_records::MOST_KEYS
-}
-
-fn say_call(desk: &mut Desk, parsed: Parsed) {
+fn say_call(desk: &mut Desk, parsed: Result<Parsed, Malformed>) {
     let words = day_telling::call_words(parsed);
-    say(desk, b"call", &words);
-    say_time(desk, words[4]);
+    desk.say(b"call", &words);
+    desk.say_time(words[4]);
 }
 
-// The reactions named.
-fn say_keys(desk: &mut Desk, keys: &[u16]) {
-    let mut i: usize = 0;
-    while i < keys.len() {
-        let key = wide(keys[i]);
-        say_two(desk, b"key", i as u64, key);
-        i += 1;
+// The reactions named, and the first that the table lacks.
+fn say_keys(desk: &mut Desk, image: &[u8], parsed: Result<Parsed, Malformed>, keys: &[u16]) {
+    for (i, key) in keys.iter().enumerate() {
+        desk.say(b"key", &[i as u64, u64::from(*key)]);
     }
-}
-
-// The first key that the table lacks.
-fn say_lack(desk: &mut Desk, image: &[u8], parsed: Parsed, keys: &[u16]) {
     let words = day_telling::lacking(image, parsed, keys);
     if words[0] == 1 {
-        say(desk, b"lacks", &words);
+        desk.say(b"lacks", &words);
     }
 }
 
 // What a record asks.
-fn say_asked(desk: &mut Desk, image: &[u8], body: &[u8]) -> Parsed {
-    let mut keys = [0u16; day_records::MOST_KEYS];
+fn say_asked(desk: &mut Desk, image: &[u8], body: &[u8]) -> Result<Parsed, Malformed> {
+    let mut keys = [0; day_records::MOST_KEYS];
     let parsed = day_records::parse(body, &mut keys);
-    let n = keys_end(parsed);
     say_call(desk, parsed);
-    say_keys(desk, &keys[..n]);
-    say_lack(desk, image, parsed, &keys[..n]);
+    say_keys(desk, image, parsed, keys_of(parsed, &keys));
     parsed
 }
 
 // A global tag on a scope's scale.
-fn say_local(desk: &mut Desk, scopes: &[u64; state_scopes::ROOM], i: u16, t: GlobalTag) {
-    let words = day_telling::local_words(scopes, i, t);
-    say(desk, b"local", &words);
-    say_time(desk, words[2]);
-}
-
-fn say_locals(desk: &mut Desk, image: &[u8], scopes: &[u64; state_scopes::ROOM], t: GlobalTag) {
-    let total = table_rows::count(image, table_rows::SCOPE);
-    let mut i: u16 = 0;
-    while i < total {
-        say_local(desk, scopes, i, t);
-        i += 1;
-    }
+fn say_local(desk: &mut Desk, day: Day, i: u16, t: GlobalTag) {
+    let words = day_telling::local_words(&day.room.scopes, i, t);
+    desk.say(b"local", &words);
+    desk.say_time(words[2]);
 }
 
 // What stands before a record that depends on it.
-fn say_before(desk: &mut Desk, image: &[u8], day: Room, parsed: Parsed)
-    requires { Kept image.now (rows_of day) }
-{
-    let scopes = day.scopes;
+fn say_before(desk: &mut Desk, day: Day, parsed: Result<Parsed, Malformed>) {
     match parsed {
-        Parsed::Plain(_, _, _) => {}
-        Parsed::Network(_, _) => {}
-        Parsed::Control(_) => {}
-        Parsed::Action(action, t, _, _) => {
-            let i = table_rows::action_scope(image, action);
-            say_local(desk, &scopes, i, t);
+        Ok(Parsed::Action(action, t, _, _)) => {
+            say_local(desk, day, table_rows::action_scope(day.image, action), t);
         }
-        Parsed::Transition(_, _, _, t) => say_locals(desk, image, &scopes, t),
-        Parsed::Pop => say_pop(desk, image, day),
-        Parsed::Malformed => {}
+        Ok(Parsed::Transition(_, _, _, t)) => {
+            for i in 0..table_rows::count(day.image, table_rows::SCOPE) {
+                say_local(desk, day, i, t);
+            }
+        }
+        Ok(Parsed::Pop) => say_pop(desk, day),
+        Ok(Parsed::Plain(_, _, _) | Parsed::Network(_, _) | Parsed::Control(_)) | Err(Malformed) =>
+            {}
     }
 }
 
 // The event that was accepted last.
-fn say_last(desk: &mut Desk, day: Room) {
-    let scopes = day.scopes;
-    let events = day.events;
-    let ledger = day.ledger;
-    let counts = ledger.counts;
-    let waiting = counts.waiting;
+fn say_last(desk: &mut Desk, day: Day) {
+    let waiting = day.room.ledger.counts.waiting;
     if 0 < waiting {
-        let s = state_events::slot_at(&events, waiting - 1);
-        say_place(desk, b"into", &scopes, s.queue, s.tag);
+        let s = state_events::slot_at(&day.room.events, waiting - 1);
+        say_place(desk, b"into", day, s.queue, s.tag);
     }
 }
 
 // Modes, scopes and the least tag of every queue.
-fn say_turned(desk: &mut Desk, image: &[u8], day: Room)
-    requires { Kept image.now (rows_of day) }
-{
-    let scopes = day.scopes;
-    let events = day.events;
-    let ledger = day.ledger;
-    let modes = ledger.modes;
-    let counts = ledger.counts;
-    let waiting = counts.waiting;
-    say_modes(desk, image, &modes);
-    say_scopes(desk, image, &scopes);
-    say_queues(desk, image, &scopes, &events, waiting);
+fn say_turned(desk: &mut Desk, day: Day) {
+    say_modes(desk, day);
+    say_scopes(desk, day);
+    say_queues(desk, day);
 }
 
 // How many events wait, how many of them are ordinary, how many values and buckets are held.
-fn say_held(desk: &mut Desk, day: Room) {
-    let ledger = day.ledger;
-    let counts = ledger.counts;
-    let held = ledger.held;
+fn say_held(desk: &mut Desk, day: Day) {
+    let counts = day.room.ledger.counts;
+    let held = day.room.ledger.held;
     let words = [
         counts.waiting as u64,
         counts.work as u64,
         held.values as u64,
         held.buckets as u64,
     ];
-    say(desk, b"held", &words);
+    desk.say(b"held", &words);
 }
 
 // What stands after a record that changes it.
-fn say_after(desk: &mut Desk, image: &[u8], day: Room, parsed: Parsed)
-    requires { Kept image.now (rows_of day) }
-{
+fn say_after(desk: &mut Desk, day: Day, parsed: Result<Parsed, Malformed>) {
     say_held(desk, day);
     match parsed {
-        Parsed::Plain(_, _, _) => say_last(desk, day),
-        Parsed::Network(_, _) => say_last(desk, day),
-        Parsed::Control(_) => say_last(desk, day),
-        Parsed::Action(_, _, _, _) => say_last(desk, day),
-        Parsed::Transition(_, _, _, _) => say_turned(desk, image, day),
-        Parsed::Pop => {}
-        Parsed::Malformed => {}
+        Ok(
+            Parsed::Plain(_, _, _)
+            | Parsed::Network(_, _)
+            | Parsed::Control(_)
+            | Parsed::Action(_, _, _, _),
+        ) => say_last(desk, day),
+        Ok(Parsed::Transition(_, _, _, _)) => say_turned(desk, day),
+        Ok(Parsed::Pop) | Err(Malformed) => {}
     }
 }
 
 // How many bytes a record has, its length included, its version and its op, whatever they are.
 fn say_record(desk: &mut Desk, bytes: &[u8]) {
-    let version = table_rows::one_byte(bytes, LENGTH);
-    let op = table_rows::one_byte(bytes, LENGTH + 1);
-    let words = [bytes.len() as u64, version as u64, op as u64];
-    say(desk, b"record", &words);
-}
-
-fn begin_record(desk: &mut Desk, bytes: &[u8]) {
-    forget_times(desk);
-    say_record(desk, bytes);
-}
-
-// The end of a record's facts; they go out before the next record is waited for.
-fn say_end(desk: &mut Desk) {
-    put(desk, b"end\n");
-    flush(desk);
+    let words = [
+        bytes.len() as u64,
+        u64::from(table_rows::one_byte(bytes, LENGTH)),
+        u64::from(table_rows::one_byte(bytes, LENGTH + 1)),
+    ];
+    desk.say(b"record", &words);
 }
 
 // One record, its length included: what it asks, its line, and the day after it.
-fn tell(desk: &mut Desk, image: &[u8], day: Room, bytes: &[u8]) -> Room
-    requires kept { Kept image.now (rows_of day) }
-    requires in_bounds { 4 ≤ length bytes.now }
-    ensures { Kept image.now (rows_of result) }
+fn tell(desk: &mut Desk, day: Day, bytes: &[u8]) -> Room
+    requires { 4 ≤ length bytes.now }
+    ensures { Kept day.entry.image.now (rows_of result) }
 {
-    begin_record(desk, bytes);
-    let parsed = say_asked(desk, image, &bytes[LENGTH..]);
-    say_before(desk, image, day, parsed);
-    let mut output = streams::buffer();
-    let piece = day_run::run_records(image, day, bytes, &mut output);
-    let after = piece.day;
-    let written = piece.written;
-    say_answer(desk, &output[..written]);
-    say_after(desk, image, after, parsed);
-    say_end(desk);
-    after
+    desk.forget_times();
+    say_record(desk, bytes);
+    let parsed = say_asked(desk, day.image, &bytes[LENGTH..]);
+    say_before(desk, day, parsed);
+    let mut lines = [0; ANSWER];
+    let piece = day_run::run_records(day.image, *day.room, bytes, &mut lines);
+    desk.say_answer(&lines[..piece.written]);
+    let after = Day {
+        image: day.image,
+        room: &piece.day,
+    };
+    say_after(desk, after, parsed);
+    desk.say_end();
+    piece.day
 }
 
-// How many bytes of standard input are left.
-fn rest(mut input: Stdin) -> u64 {
+// ---- the day
+
+// How many bytes of the input are left.
+fn unread(input: &mut impl Read) -> u64 {
+    let mut space = [0; 65536];
     let mut total: u64 = 0;
-    let mut turns: u64 = 1000000000000;
-    while 0 < turns {
-        turns -= 1;
-        let mut space = streams::large_buffer();
-        let got = streams::read_full(&mut input, &mut space);
-        if got == 0 {
-            return total;
+    for _ in 0..u64::MAX {
+        match streams::read_full(input, &mut space) {
+            0 => break,
+            n => total = total.saturating_add(n as u64),
         }
-        total += bounded(got);
     }
     total
 }
 
-// No more than a buffer has.
-fn bounded(n: usize) -> u64
-    ensures { result ≤ 65536 }
+// A record that ends the run: how many bytes its length says, and how many there are; its line, and how many bytes are not read.
+fn say_cut(desk: &mut Desk, input: &mut impl Read, cut: Cut) {
+    desk.say(b"cut", &[cut.said as u64, cut.came as u64]);
+    let mut line = [0; LINE];
+    let end = day_lines::write_refused(&mut line, 0, 1);
+    desk.say_answer(&line[..end]);
+    desk.say(b"unread", &[unread(input), 0]);
+    desk.say_end();
+}
+
+// The next record over the front of the space; how many bytes it has, or None where the run ends.
+fn read_record(desk: &mut Desk, input: &mut impl Read, space: &mut [u8]) -> Option<usize>
+    requires { 4 ≤ length space.old }
+    ensures { IfSome result (λ end. (4 ≤ end) × (end ≤ length space.new)) }
 {
-    if n < 65536 {
-        return n as u64;
+    match streams::read_frame(input, space) {
+        Ok(end) => end,
+        Err(cut) => {
+            say_cut(desk, input, cut);
+            None
+        }
     }
-    65536
-}
-
-// How many bytes are not read, and the end.
-fn end_run(desk: &mut Desk, input: Stdin) {
-    let left = rest(input);
-    say_two(desk, b"unread", left, 0);
-    say_end(desk);
-}
-
-// A record that ends the run: how many bytes its length says, and how many there are.
-fn say_cut(desk: &mut Desk, input: Stdin, said: u64, there: u64) {
-    say_two(desk, b"cut", said, there);
-    let mut line = streams::buffer();
-    let n = day_lines::write_refused(&mut line, 0, 1);
-    say_answer(desk, &line[..n]);
-    end_run(desk, input);
-}
-
-// The next record over the front of the space; how many bytes it has, or 0 where the run ends.
-fn read_record(desk: &mut Desk, mut input: Stdin, space: &mut [u8]) -> usize
-    requires { 4096 ≤ length space.old }
-    ensures { (result ≤ length space.new) × (length space.new ≡ length space.old) }
-{
-    let got = streams::read_full(&mut input, &mut space[..LENGTH]);
-    if got == 0 {
-        return 0;
-    }
-    if got < LENGTH {
-        say_cut(desk, input, 0, got as u64);
-        return 0;
-    }
-    let n = table_rows::four_bytes(space, 0) as usize;
-    if day_records::MOST_BYTES < n {
-        say_cut(desk, input, n as u64, 0);
-        return 0;
-    }
-    let end = LENGTH + n;
-    let more = streams::read_full(&mut input, &mut space[LENGTH..end]);
-    if more < n {
-        say_cut(desk, input, n as u64, more as u64);
-        return 0;
-    }
-    end
-}
-
-// What stands before the first record.
-fn say_start(desk: &mut Desk, image: &[u8], day: Room)
-    requires { Kept image.now (rows_of day) }
-{
-    say_turned(desk, image, day);
-    put(desk, b"records\n");
-    flush(desk);
 }
 
 // The records, one after another.
-fn run(desk: &mut Desk, input: Stdin, image: &[u8])
+fn run(desk: &mut Desk, input: &mut impl Read, image: &[u8])
     requires { is_table image.now ≡ true }
 {
-    let mut day = day_run::start(image);
-    say_start(desk, image, day);
-    let mut record = streams::buffer();
-    let mut turns: u64 = 1000000000000000;
-    while 0 < turns {
-        turns -= 1;
-        let end = read_record(desk, input, &mut record);
-        if end < LENGTH {
-            return;
-        }
-        day = tell(desk, image, day, &record[..end]);
+    let mut room = day_run::start(image);
+    say_turned(desk, Day { image, room: &room });
+    desk.put(b"records\n");
+    desk.flush();
+    let mut record = [0; LENGTH + day_records::MOST_BYTES];
+    for _ in 0..u64::MAX {
+        let Some(end) = read_record(desk, input, &mut record) else {
+            break;
+        };
+        let day = Day { image, room: &room };
+        room = tell(desk, day, &record[..end]);
     }
 }
 
-// The line of the check, and how many bytes the image says and has.
-fn say_checked(desk: &mut Desk, image: &[u8], checked: Checked) {
+// The line of the check, how many bytes the image says and has, and its rows and records; or why it is refused.
+#[tactic(auto, unfolding(table::specs::Check::is_table))]
+fn answer(desk: &mut Desk, input: &mut impl Read, image: &[u8]) {
+    let checked = table::check(image);
     say_table(desk, checked);
     let said = table_rows::four_bytes(image, 0);
-    say_two(desk, b"image", said as u64, image.len() as u64);
-}
-
-// The image, checked, and its rows; or why it is refused.
-fn answer(desk: &mut Desk, input: Stdin, image: &[u8]) {
-    let checked = table::check(image);
-    say_checked(desk, image, checked);
+    desk.say(b"image", &[u64::from(said), image.len() as u64]);
     match checked {
-        Checked::Accepted => {
+        Ok(()) => {
             say_counts(desk, image);
             say_rows(desk, image);
+            run(desk, input, image);
         }
-        Checked::Refused(refusal) => say_refused(desk, image, refusal),
-    }
-    if table::accepted(image) {
-        run(desk, input, image);
+        Err(refusal) => say_refused(desk, image, refusal),
     }
 }
 
 // An image that is cut short or longer than the largest: how many bytes its length says, and how many there are.
-fn say_no_image(desk: &mut Desk, said: u64, there: u64) {
-    say_table(desk, Checked::Refused(ImageRefusal::Length));
-    say_two(desk, b"image", said, there);
-    say_two(desk, b"refusal", 1, 0);
-    flush(desk);
-}
-
-// The image by its length, over the front of the space; how many bytes it has, or 0 where it is cut short or longer than the largest.
-fn read_image(desk: &mut Desk, mut input: Stdin, space: &mut [u8]) -> usize
-    requires { largest ≤ length space.old }
-    ensures { result ≤ length space.new }
-{
-    let got = streams::read_full(&mut input, &mut space[..LENGTH]);
-    if got < LENGTH {
-        say_no_image(desk, 0, got as u64);
-        return 0;
-    }
-    let n = table_rows::four_bytes(space, 0) as usize;
-    if LARGEST - LENGTH < n {
-        say_no_image(desk, n as u64, 0);
-        return 0;
-    }
-    let end = LENGTH + n;
-    let more = streams::read_full(&mut input, &mut space[LENGTH..end]);
-    if more < n {
-        say_no_image(desk, n as u64, more as u64);
-        return 0;
-    }
-    end
+fn say_no_image(desk: &mut Desk, cut: Cut) {
+    say_table(desk, Err(ImageRefusal::Length));
+    desk.say(b"image", &[cut.said as u64, cut.came as u64]);
+    desk.say(b"refusal", &[1, 0]);
+    desk.flush();
 }
 
 fn main(rt: HostRuntime) {
-    let mut desk = Desk {
-        output: rt.stdout(),
-        cells: [0u64; CELLS],
-    };
-    let mut space = streams::buffer();
-    let end = read_image(&mut desk, rt.stdin(), &mut space);
-    if 0 < end {
-        answer(&mut desk, rt.stdin(), &space[..end]);
+    let mut desk = Desk::new(rt.stdout());
+    let mut input = rt.stdin();
+    let mut space = [0; table_rows::LARGEST];
+    match streams::read_frame(&mut input, &mut space) {
+        Ok(Some(end)) => answer(&mut desk, &mut input, &space[..end]),
+        Ok(None) => say_no_image(&mut desk, Cut { said: 0, came: 0 }),
+        Err(cut) => say_no_image(&mut desk, cut),
     }
 }

@@ -4,54 +4,49 @@
 // image as it would stand, for the words; of one that is refused by a count its head alone.
 #![tactic(auto)]
 
-ghost use Rattle.std.specs.Prelude.{◌≤◌, length};
+use std::io;
+use std::io::Write;
+use table::ImageRefusal;
+use table_writer::WriteRefusal;
 
-use std::io::Stdout;
-use table::{Checked, ImageRefusal};
-use table_writer::Wrote;
+// Room for the numbers of the largest table.
+const ROOM: usize = 65536;
+
+// Room for the line of the check.
+const LINE: usize = 256;
 
 // The line of the check, then the first bytes of the image.
-fn say(mut output: Stdout, checked: Checked, image: &[u8], end: usize) {
-    let mut line = streams::buffer();
-    let n = day_lines::write_table(&mut line, 0, checked);
-    if streams::write_all(&mut output, &line[..n]) {
-        if end <= image.len() {
-            streams::write_all(&mut output, &image[..end]);
-        }
-    }
-}
-
-// How many bytes of the rows are shown of a refused table: none where a count is wrong.
-fn shown(why: ImageRefusal, rows: &[u8]) -> usize
-    ensures { result ≤ length rows.now }
-{
-    match why {
-        ImageRefusal::Count(_) => 0,
-        _ => rows.len(),
-    }
+fn say(output: &mut impl Write, checked: Result<(), ImageRefusal>, image: &[u8]) -> io::Result<()> {
+    let mut line = [0; LINE];
+    let end = day_lines::write_table(&mut line, 0, checked);
+    streams::write_all(output, &line[..end])?;
+    streams::write_all(output, image)
 }
 
 // The image of counts and rows.
-fn answer(output: Stdout, counts: &[u8], rows: &[u8]) {
-    let mut image = streams::buffer();
-    let wrote = table_writer::write(counts, rows, &mut image);
-    match wrote {
-        Wrote::Image(end) => say(output, Checked::Accepted, &image, end),
-        Wrote::Refused(why) => {
-            let n = shown(why, rows);
-            let end = table_writer::put_image(counts, &rows[..n], &mut image);
-            say(output, Checked::Refused(why), &image, end);
+fn answer(output: &mut impl Write, counts: &[u8], rows: &[u8]) -> io::Result<()> {
+    let mut image = [0; table_rows::LARGEST];
+    match table_writer::write(counts, rows, &mut image) {
+        Ok(end) => say(output, Ok(()), &image[..end]),
+        Err(WriteRefusal::Image(why)) => {
+            let shown = match why {
+                ImageRefusal::Count(_) => &rows[..0],
+                _ => rows,
+            };
+            let end = table_writer::put_image(counts, shown, &mut image);
+            say(output, Err(why), &image[..end])
         }
-        Wrote::NoRoom => {}
+        Err(WriteRefusal::NoRoom) => Ok(()),
     }
 }
 
 fn main(rt: HostRuntime) {
-    let mut numbers = streams::large_buffer();
-    let got = streams::read_full(&mut rt.stdin(), &mut numbers);
-    let mut counts = [0u8; table_writer::COUNT_BYTES];
-    table_writer::put_counts(&numbers[..got], &mut counts);
-    let mut rows = [0u8; table_writer::LARGEST_ROWS];
-    let end = table_writer::put_rows(&numbers[..got], &counts, &mut rows);
-    answer(rt.stdout(), &counts, &rows[..end]);
+    let mut numbers = [0; ROOM];
+    let end = streams::read_full(&mut rt.stdin(), &mut numbers);
+    let numbers = &numbers[..end];
+    let mut counts = [0; table_writer::COUNT_BYTES];
+    table_writer::put_counts(numbers, &mut counts);
+    let mut rows = [0; table_writer::LARGEST_ROWS];
+    let end = table_writer::put_rows(numbers, &counts, &mut rows);
+    answer(&mut rt.stdout(), &counts, &rows[..end]).ok();
 }

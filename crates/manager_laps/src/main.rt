@@ -4,175 +4,188 @@
 // Standard output: 8 bytes mixed of every answer, in order.
 #![tactic(auto)]
 
-ghost use Rattle.std.specs.Prelude.{◌≤◌, length};
-ghost use Rattle.day_records.specs.Records.{most_keys};
+ghost use Rattle.std.specs.Prelude.{◌<◌, IfSome, length};
 
 use call_perform::Answer;
 use call_push::ActionPush;
 use call_transition_plan::Request;
 use day_records::Parsed;
-use manager::{Answered, Manager, Pop, Popped};
+use manager::{Answered, Manager, Popped};
+use refusals::Refusal;
 use tags::GlobalTag;
+
+// Most bytes of the input.
+const MOST: usize = 65536;
 
 // Where the day begins.
 const DAY: usize = 8;
 
-// The manager after a call, and all answers so far mixed into one number.
+// All answers so far, mixed into one number.
 #[derive(Clone, Copy)]
-struct Ran {
+struct Sum(u64);
+
+impl Sum {
+    // One more number: turned, added and changed by fixed bits, so that neither order nor number is lost when laps repeat.
+    fn mix(&mut self, n: u64) {
+        self.0 = self.0.rotate_left(5).wrapping_add(n) ^ 0x9e37_79b9_7f4a_7c15;
+    }
+
+    fn mix_tag(&mut self, tag: GlobalTag) {
+        self.mix(tag.0);
+        self.mix(u64::from(tag.1));
+    }
+
+    fn mix_refusal(&mut self, why: Refusal) {
+        self.mix(5);
+        self.mix(u64::from(u8::from(why)));
+    }
+
+    // An answer: its case, then what it says.
+    fn mix_answer(&mut self, answer: Result<Answer, Refusal>) {
+        match answer {
+            Ok(Answer::Done) => self.mix(0),
+            Ok(Answer::Nothing) => self.mix(1),
+            Ok(Answer::Tag(tag)) => {
+                self.mix(2);
+                self.mix_tag(tag);
+            }
+            Ok(Answer::Flag(flag)) => {
+                self.mix(3);
+                self.mix(u64::from(flag));
+            }
+            Ok(Answer::Number(n)) => {
+                self.mix(4);
+                self.mix(n);
+            }
+            Err(why) => self.mix_refusal(why),
+        }
+    }
+
+    // What a pop found: a ready event's tag and how many action keys it has.
+    fn mix_popped(&mut self, popped: &Popped) {
+        match &popped.ready {
+            Ok(Some(ready)) => {
+                self.mix(6);
+                self.mix_tag(ready.tag);
+                self.mix(ready.count as u64);
+            }
+            Ok(None) => self.mix(1),
+            Err(why) => self.mix_refusal(*why),
+        }
+    }
+}
+
+// The manager over its image, and what it has answered.
+#[derive(Drop)]
+struct Laps<'a> {
+    image: &'a [u8],
     manager: Manager,
-    sum: u64,
+    sum: Sum,
 }
 
-// One more number: turned, added and changed by fixed bits, so that neither order nor number is lost when laps repeat.
-fn mixed(sum: u64, n: u64) -> u64 {
-    std::num::wrapping_add_u64((sum << 5) | (sum >> 59), n) ^ 0x9e37_79b9_7f4a_7c15
+impl Laps<'_> {
+    // After a call's answer.
+    fn answer(&mut self, answered: Answered) {
+        self.sum.mix_answer(answered.answer);
+        self.manager = answered.manager;
+    }
+
+    // One record, by the public call that it asks for; its keys lie before others.
+    fn call(&mut self, parsed: Parsed, keys: &[u16; day_records::MOST_KEYS]) {
+        let manager = self.manager;
+        let image = self.image;
+        let answered = match parsed {
+            Parsed::Plain(tag, terminal, n) => {
+                manager.push_event(image, tag, terminal, first(keys, n))
+            }
+            Parsed::Network(tag, n) => manager.push_network_event(image, tag, first(keys, n)),
+            Parsed::Control(tag) => manager.push_control_event(image, tag),
+            Parsed::Action(action, tag, terminal, n) => {
+                let push = ActionPush {
+                    action,
+                    tag,
+                    terminal,
+                };
+                manager.push_action_event(image, push, first(keys, n))
+            }
+            Parsed::Transition(reactor, mode, reset, c) => {
+                let request = Request {
+                    reactor,
+                    mode,
+                    reset,
+                    c,
+                };
+                manager.apply_transition(image, request)
+            }
+            Parsed::Pop => {
+                let popped = manager.pop_next_event(image);
+                self.sum.mix_popped(&popped);
+                self.manager = popped.manager;
+                return;
+            }
+        };
+        self.answer(answered);
+    }
+
+    // The least tag.
+    fn peek(&mut self) {
+        let answered = self.manager.peek_tag(self.image);
+        self.answer(answered);
+    }
+
+    // Records one after the other, up to the first that is cut short.
+    fn call_all(&mut self, records: &[u8]) {
+        let mut keys = [0; day_records::MOST_KEYS];
+        let mut left = records;
+        while let Some((body, rest)) = first_record(left) {
+            if let Ok(parsed) = day_records::parse(body, &mut keys) {
+                self.call(parsed, &keys);
+            }
+            left = rest;
+        }
+    }
 }
 
-// With a tag.
-fn with_tag(sum: u64, t: GlobalTag) -> u64 {
-    mixed(mixed(sum, t.0), t.1 as u64)
+// So many of the keys, or all.
+fn first(keys: &[u16; day_records::MOST_KEYS], n: u16) -> &[u16] {
+    &keys[..keys.len().min(usize::from(n))]
 }
 
-// With an answer: its case, then what it says.
-fn told(a: Answered, sum: u64) -> Ran {
-    let answer = a.answer;
-    let manager = a.manager;
-    let next = match answer {
-        Answer::Done => mixed(sum, 0),
-        Answer::Nothing => mixed(sum, 1),
-        Answer::Tag(t) => with_tag(mixed(sum, 2), t),
-        Answer::Flag(b) => mixed(mixed(sum, 3), b as u64),
-        Answer::Number(n) => mixed(mixed(sum, 4), n),
-        Answer::Refused(r) => mixed(mixed(sum, 5), refusals::number_of(r) as u64),
-    };
-    Ran { manager, sum: next }
-}
-
-// With what a pop found: a ready event's tag and how many action keys it has.
-fn popped(p: Popped, sum: u64) -> Ran {
-    let outcome = p.outcome;
-    let manager = p.manager;
-    let ready = p.ready;
-    let tag = ready.tag;
-    let next = match outcome {
-        Pop::Ready => mixed(with_tag(mixed(sum, 6), tag), ready.count as u64),
-        Pop::Nothing => mixed(sum, 1),
-        Pop::Refused(r) => mixed(mixed(sum, 5), refusals::number_of(r) as u64),
-    };
-    Ran { manager, sum: next }
-}
-
-// How many keys a record has; no more than there is room for.
-fn keys_in(n: u16) -> usize
-    ensures { result ≤ most_keys }
+// The body of the first record, and what stands behind it; None where it is cut short.
+fn first_record(records: &[u8]) -> Option<(&[u8], &[u8])>
+    ensures { IfSome result (λ parts. length parts.1.now < length records.now) }
 {
-    let k = n as usize;
-    if k < day_records::MOST_KEYS {
-        return k;
-    }
-    day_records::MOST_KEYS
-}
-
-// One record, by the public call that it asks for; its keys lie before others.
-fn called(ran: Ran, image: &[u8], parsed: Parsed, all: &[u16]) -> Ran
-    requires { most_keys ≤ length all.now }
-{
-    let m = ran.manager;
-    let sum = ran.sum;
-    match parsed {
-        Parsed::Plain(tag, terminal, n) => {
-            let k = keys_in(n);
-            told(m.push_event(image, tag, terminal, &all[..k]), sum)
-        }
-        Parsed::Network(tag, n) => {
-            let k = keys_in(n);
-            told(m.push_network_event(image, tag, &all[..k]), sum)
-        }
-        Parsed::Control(tag) => told(m.push_control_event(image, tag), sum),
-        Parsed::Action(action, tag, terminal, n) => {
-            let k = keys_in(n);
-            let push = ActionPush {
-                action,
-                tag,
-                terminal,
-            };
-            told(m.push_action_event(image, push, &all[..k]), sum)
-        }
-        Parsed::Transition(reactor, mode, reset, c) => {
-            let request = Request {
-                reactor,
-                mode,
-                reset,
-                c,
-            };
-            told(m.apply_transition(image, request), sum)
-        }
-        Parsed::Pop => popped(m.pop_next_event(image), sum),
-        Parsed::Malformed => ran,
-    }
-}
-
-// Records one after the other, up to the first that is cut short.
-fn called_all(start: Ran, image: &[u8], records: &[u8]) -> Ran {
-    let mut keys = [0u16; day_records::MOST_KEYS];
-    let mut ran = start;
-    let mut at = 0;
-    while at < records.len() {
-        let left = records.len() - at;
-        if left < day_records::LENGTH_BYTES {
-            return ran;
-        }
-        let n = table_rows::four_bytes(records, at) as usize;
-        if left - day_records::LENGTH_BYTES < n {
-            return ran;
-        }
-        let from = at + day_records::LENGTH_BYTES;
-        let end = from + n;
-        let parsed = day_records::parse(&records[from..end], &mut keys);
-        ran = called(ran, image, parsed, &keys);
-        at = end;
-    }
-    ran
+    let (length, behind) = records.split_first_chunk::<{ day_records::LENGTH_BYTES }>()?;
+    behind.split_at_checked(u32::from_be_bytes(*length) as usize)
 }
 
 // The records that fill the manager, then all laps.
-fn laps(input: &[u8]) -> u64
-    requires { length input.now ≤ 65536 }
-{
+fn run(input: &[u8]) -> Option<u64> {
+    let count = table_rows::four_bytes(input, 0);
     let filling = table_rows::four_bytes(input, 4) as usize;
     let size = table_rows::four_bytes(input, DAY) as usize;
-    let end = DAY + day_records::LENGTH_BYTES + size;
-    if input.len() < end {
-        return 0;
-    }
-    let image = &input[DAY..end];
-    let records = &input[end..];
-    if records.len() < filling {
-        return 0;
-    }
-    let lap = &records[filling..];
-    let fresh = Manager::fresh(image);
-    let manager = fresh.manager;
-    let mut ran = called_all(Ran { manager, sum: 0 }, image, &records[..filling]);
-    let mut left = table_rows::four_bytes(input, 0);
-    while 0 < left {
-        if lap.len() == 0 {
-            let m = ran.manager;
-            ran = told(m.peek_tag(image), ran.sum);
+    let (day, records) = input.split_at_checked(DAY + day_records::LENGTH_BYTES + size)?;
+    let (filling, lap) = records.split_at_checked(filling)?;
+    let image = &day[DAY..];
+    let mut laps = Laps {
+        image,
+        manager: Manager::fresh(image).manager,
+        sum: Sum(0),
+    };
+    laps.call_all(filling);
+    for _ in 0..count {
+        if lap.is_empty() {
+            laps.peek();
         } else {
-            ran = called_all(ran, image, lap);
+            laps.call_all(lap);
         }
-        left -= 1;
     }
-    ran.sum
+    Some(laps.sum.0)
 }
 
 fn main(rt: HostRuntime) {
-    let mut input = streams::large_buffer();
+    let mut input = [0; MOST];
     let end = streams::read_full(&mut rt.stdin(), &mut input);
-    let sum = laps(&input[..end]);
-    let mut out = [0u8; 8];
-    byte_writer::put_number(&mut out, 0, 8, sum);
-    streams::write_all(&mut rt.stdout(), &out);
+    let sum = run(&input[..end]).unwrap_or(0);
+    streams::write_all(&mut rt.stdout(), &sum.to_be_bytes()).ok();
 }

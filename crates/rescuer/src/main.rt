@@ -4,53 +4,173 @@
 // the list's write failed. A file of any size runs in the memory of a small one. What is kept is day_rescue's.
 #![tactic(auto)]
 
-ghost use Rattle.std.specs.Prelude.{◌≡◌, ◌≤◌, length};
+ghost use Rattle.std.specs.Prelude.{◌≡◌, ◌≤◌, IfOk, length};
 
-use day_rescue::Run;
-use std::fs;
+use day_rescue::{Piece, Run};
 use std::fs::OpenOptions;
-use table::Checked;
+use std::io::{Read, Write};
+use std::{fs, io};
+use table::ImageRefusal;
 
 // The name of descriptor 4.
 const VERDICT: &str = "/dev/fd/4";
 
+// Room for a piece of the day, for what is kept of it, and for lines.
+const ROOM: usize = 65536;
+
 // Room for the runs of a piece: 16 and 3 for each byte.
 const LIST: usize = 196624;
 
-// A run's line has fewer bytes.
-const LINE: usize = 64;
+// A line has fewer bytes.
+const LINE: usize = 128;
 
-// How many bytes are there, whether the input is over, and whether a read failed.
+// Why a rescue ends before the day does.
 #[derive(Clone, Copy)]
-struct Filled {
-    total: usize,
-    over: bool,
-    failed: bool,
+enum Failure {
+    Table(ImageRefusal),
+    Unread,
+    Unwritten,
+    Untold,
 }
 
-// Standard input behind what is there, until the buffer is full.
-fn fill(rt: HostRuntime, buffer: &mut [u8], from: usize) -> Filled
+impl From<ImageRefusal> for Failure {
+    fn from(why: ImageRefusal) -> Self {
+        Self::Table(why)
+    }
+}
+
+// What the pieces came to so far: the records kept, the bytes and the runs dropped.
+#[derive(Clone, Copy)]
+struct Sums {
+    records: u64,
+    dropped: u64,
+    runs: u64,
+}
+
+impl Sums {
+    // With one piece more.
+    fn with(self, piece: Piece) -> Self {
+        Self {
+            records: self.records.wrapping_add(piece.records as u64),
+            dropped: self
+                .dropped
+                .wrapping_add(piece.used.saturating_sub(piece.written) as u64),
+            runs: self
+                .runs
+                .wrapping_add((piece.listed / day_rescue::RUN_BYTES) as u64),
+        }
+    }
+}
+
+// Standard input behind what is there, until the buffer is full; how many bytes are there then.
+fn fill(input: &mut impl Read, buffer: &mut [u8], from: usize) -> Result<usize, Failure>
     requires { from ≤ length buffer.old }
-    ensures { (result.total ≤ length buffer.new) × (length buffer.new ≡ length buffer.old) }
+    ensures { IfOk result (λ total. total ≤ length buffer.new) }
 {
-    let piece = streams::read_piece(&mut rt.stdin(), &mut buffer[from..]);
-    let total = from + piece.count;
-    Filled {
-        total,
-        over: total < buffer.len(),
-        failed: piece.failed,
+    let piece = streams::read_piece(input, &mut buffer[from..]);
+    if piece.failed {
+        return Err(Failure::Unread);
     }
+    Ok(from + piece.count)
 }
 
-// What it came to, to descriptor 4. Without one that can be written it is not said.
-fn say(rt: HostRuntime, words: &[u8]) {
-    if !is_writable(rt) {
-        return;
+// "dropped PLACE LENGTH" for each run of a list.
+fn say_runs(errors: &mut impl Write, list: &[u8]) -> io::Result<()> {
+    let mut text = [0; ROOM];
+    let mut end = 0;
+    for run in list.chunks_exact(day_rescue::RUN_BYTES) {
+        if ROOM - end < LINE {
+            streams::write_all(errors, &text[..end])?;
+            end = 0;
+        }
+        end = byte_writer::write_text(&mut text, end, b"dropped ");
+        end = day_lines::write_decimal(&mut text, end, table_rows::eight_bytes(run, 0));
+        end = byte_writer::put(&mut text, end, b' ');
+        end = day_lines::write_decimal(&mut text, end, table_rows::eight_bytes(run, 8));
+        end = byte_writer::put(&mut text, end, b'\n');
     }
-    let mut how = OpenOptions::new();
-    how.append(true);
-    if let Ok(mut verdict) = how.open(&rt, VERDICT) {
-        streams::write_all(&mut verdict, words);
+    streams::write_all(errors, &text[..end])
+}
+
+// The records behind the image, piece by piece; `total` of the buffer's bytes are there, and the records begin at `start`.
+fn rescue_records(
+    input: &mut impl Read,
+    output: &mut impl Write,
+    errors: &mut impl Write,
+    buffer: &mut [u8; ROOM],
+    start: usize,
+    mut total: usize,
+) -> Result<Sums, Failure>
+    requires { (start ≤ total) × (total ≤ 65536) }
+{
+    let mut kept = [0; ROOM];
+    let mut list = [0; LIST];
+    let mut from = start;
+    let mut pending = Run {
+        place: start as u64,
+        length: 0,
+    };
+    let mut sums = Sums {
+        records: 0,
+        dropped: 0,
+        runs: 0,
+    };
+    for _ in 0..u64::MAX {
+        let last = total < ROOM;
+        let bytes = &buffer[from..total];
+        let piece = day_rescue::rescue_piece(bytes, last, pending, &mut kept, &mut list);
+        streams::write_all(output, &kept[..piece.written]).map_err(|_| Failure::Unwritten)?;
+        say_runs(errors, &list[..piece.listed]).map_err(|_| Failure::Untold)?;
+        sums = sums.with(piece);
+        if last {
+            break;
+        }
+        pending = piece.pending;
+        let left = byte_writer::shift(buffer, from + piece.used, total);
+        total = fill(input, buffer, left)?;
+        from = 0;
+    }
+    Ok(sums)
+}
+
+// The image, checked, and what is still whole behind it.
+fn rescue(
+    input: &mut impl Read,
+    output: &mut impl Write,
+    errors: &mut impl Write,
+) -> Result<Sums, Failure> {
+    let mut buffer = [0; ROOM];
+    let total = fill(input, &mut buffer, 0)?;
+    let day = &buffer[..total];
+    day_run::open(day)?;
+    let end = day_run::image_end(day);
+    streams::write_all(output, &day[..end]).map_err(|_| Failure::Unwritten)?;
+    rescue_records(input, output, errors, &mut buffer, end, total)
+}
+
+// "rescued RECORDS BYTES RUNS" over the front of a line; how many bytes it has.
+fn write_sums(line: &mut [u8], sums: Sums) -> usize
+    ensures { result ≤ length line.new }
+{
+    let mut end = byte_writer::write_text(line, 0, b"rescued ");
+    end = day_lines::write_decimal(line, end, sums.records);
+    end = byte_writer::put(line, end, b' ');
+    end = day_lines::write_decimal(line, end, sums.dropped);
+    end = byte_writer::put(line, end, b' ');
+    end = day_lines::write_decimal(line, end, sums.runs);
+    byte_writer::put(line, end, b'\n')
+}
+
+// The line of what it came to over the front; how many bytes it has.
+fn write_verdict(line: &mut [u8], came: Result<Sums, Failure>) -> usize
+    ensures { result ≤ length line.new }
+{
+    match came {
+        Ok(sums) => write_sums(line, sums),
+        Err(Failure::Table(why)) => day_lines::write_table(line, 0, Err(why)),
+        Err(Failure::Unread) => byte_writer::write_text(line, 0, b"unread\n"),
+        Err(Failure::Unwritten) => byte_writer::write_text(line, 0, b"unwritten\n"),
+        Err(Failure::Untold) => byte_writer::write_text(line, 0, b"untold\n"),
     }
 }
 
@@ -62,154 +182,18 @@ fn is_writable(rt: HostRuntime) -> bool {
     }
 }
 
-// "dropped PLACE LENGTH" for each run of a list; whether they were written.
-fn say_runs(rt: HostRuntime, list: &[u8]) -> bool {
-    let mut text = streams::large_buffer();
-    let mut end: usize = 0;
-    let mut at: usize = 0;
-    while at < list.len() {
-        if text.len() - end < LINE {
-            if !streams::write_all(&mut rt.stderr(), &text[..end]) {
-                return false;
-            }
-            end = 0;
-        }
-        let place = table_rows::eight_bytes(list, at);
-        let length = table_rows::eight_bytes(list, at + 8);
-        end = byte_writer::write_text(&mut text, end, b"dropped ");
-        end = day_lines::write_decimal(&mut text, end, place);
-        end = byte_writer::put(&mut text, end, b' ');
-        end = day_lines::write_decimal(&mut text, end, length);
-        end = byte_writer::put(&mut text, end, b'\n');
-        at += day_rescue::RUN_BYTES;
+// Words to descriptor 4. Without one that can be written they are not said.
+fn say(rt: HostRuntime, words: &[u8]) -> io::Result<()> {
+    if !is_writable(rt) {
+        return Ok(());
     }
-    streams::write_all(&mut rt.stderr(), &text[..end])
-}
-
-// What all pieces came to.
-#[derive(Clone, Copy)]
-struct Sums {
-    records: u64,
-    dropped: u64,
-    runs: u64,
-}
-
-fn say_sums(rt: HostRuntime, sums: Sums) {
-    let mut text = streams::buffer();
-    let mut end = byte_writer::write_text(&mut text, 0, b"rescued ");
-    end = day_lines::write_decimal(&mut text, end, sums.records);
-    end = byte_writer::put(&mut text, end, b' ');
-    end = day_lines::write_decimal(&mut text, end, sums.dropped);
-    end = byte_writer::put(&mut text, end, b' ');
-    end = day_lines::write_decimal(&mut text, end, sums.runs);
-    end = byte_writer::put(&mut text, end, b'\n');
-    say(rt, &text[..end]);
-}
-
-// The table's refusal, as the bench says it.
-fn say_table(rt: HostRuntime, checked: Checked) {
-    let mut line = streams::buffer();
-    let n = day_lines::write_table(&mut line, 0, checked);
-    say(rt, &line[..n]);
-}
-
-fn added(sum: u64, more: usize) -> u64 {
-    std::num::wrapping_add_u64(sum, more as u64)
-}
-
-// One piece more.
-fn summed(sums: Sums, records: usize, dropped: usize, listed: usize) -> Sums {
-    let records = added(sums.records, records);
-    let dropped = added(sums.dropped, dropped);
-    let runs = added(sums.runs, listed / day_rescue::RUN_BYTES);
-    Sums {
-        records,
-        dropped,
-        runs,
-    }
-}
-
-// What a piece kept goes out, and a line for each run that it dropped; a write that fails is said.
-fn put_out(rt: HostRuntime, kept: &[u8], list: &[u8]) -> bool {
-    if !streams::write_all(&mut rt.stdout(), kept) {
-        say(rt, b"unwritten\n");
-        return false;
-    }
-    if !say_runs(rt, list) {
-        say(rt, b"untold\n");
-        return false;
-    }
-    true
-}
-
-// The records, piece by piece, from `start` on; `first` of the buffer's bytes are there.
-fn run(rt: HostRuntime, input: &mut [u8], first: Filled, start: usize)
-    requires { (length input.old ≡ 65536) × (start ≤ first.total) × (first.total ≤ 65536) }
-{
-    let mut output = streams::large_buffer();
-    let mut list = [0u8; LIST];
-    let mut there = first;
-    let mut from = start;
-    let mut pending = Run {
-        place: start as u64,
-        length: 0,
-    };
-    let mut sums = Sums {
-        records: 0,
-        dropped: 0,
-        runs: 0,
-    };
-    let mut turns: u64 = 1000000000000000;
-    while 0 < turns {
-        turns -= 1;
-        if there.failed {
-            say(rt, b"unread\n");
-            return;
-        }
-        let last = there.over;
-        let total = there.total;
-        let piece = day_rescue::rescue_piece(
-            &input[from..total],
-            last,
-            pending,
-            &mut output,
-            &mut list,
-        );
-        pending = piece.pending;
-        let written = piece.written;
-        let listed = piece.listed;
-        if !put_out(rt, &output[..written], &list[..listed]) {
-            return;
-        }
-        sums = summed(sums, piece.records, piece.used - written, listed);
-        if last {
-            say_sums(rt, sums);
-            return;
-        }
-        let left = byte_writer::shift(input, from + piece.used, total);
-        there = fill(rt, input, left);
-        from = 0;
-    }
+    let mut verdict = OpenOptions::new().append(true).open(&rt, VERDICT)?;
+    streams::write_all(&mut verdict, words)
 }
 
 fn main(rt: HostRuntime) {
-    let mut input = streams::large_buffer();
-    let first = fill(rt, &mut input, 0);
-    if first.failed {
-        say(rt, b"unread\n");
-        return;
-    }
-    let total = first.total;
-    let checked = day_run::open(&input[..total]);
-    match checked {
-        Checked::Accepted => {
-            let end = day_run::image_end(&input[..total]);
-            if streams::write_all(&mut rt.stdout(), &input[..end]) {
-                run(rt, &mut input, first, end);
-            } else {
-                say(rt, b"unwritten\n");
-            }
-        }
-        Checked::Refused(_) => say_table(rt, checked),
-    }
+    let came = rescue(&mut rt.stdin(), &mut rt.stdout(), &mut rt.stderr());
+    let mut line = [0; LINE];
+    let end = write_verdict(&mut line, came);
+    say(rt, &line[..end]).ok();
 }

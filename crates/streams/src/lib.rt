@@ -1,32 +1,26 @@
-// Whole pieces from a reader and to a writer, and zeros to read them into: what the programs move goes through here.
+// Whole pieces from a reader and to a writer: what the programs move goes through here.
 #![tactic(auto)]
 
-ghost use Rattle.std.specs.Prelude.{◌≡◌, ◌<◌, ◌≤◌, false, take, length};
-ghost use Rattle.std.specs.Bool.{OnTrue};
+ghost use Rattle.std.specs.Prelude.{◌≡◌, ◌<◌, ◌≤◌, IfOk, IfSome, OnOk, false, take, length};
 ghost use Rattle.std.specs.Io.KnownBytes.{Appends, Consumes, IsAtEnd};
 ghost use Rattle.streams.specs.Pieces.{IsPrefixLen};
 
+use std::io;
 use std::io::{Read, Write};
 
-// 4,096 zeros.
-pub fn buffer() -> [u8; 4096]
-    ensures { 4096 ≡ length result }
-{
-    [0; 4096]
-}
-
-// 65,536 zeros, for a loop that moves much and would spend its time on calls of 4,096 bytes.
-pub fn large_buffer() -> [u8; 65536]
-    ensures { 65536 ≡ length result }
-{
-    [0; 65536]
-}
-
 // How many bytes stand at the front of a buffer, and whether a read failed behind them.
+// Stays: a Result is no plainer, since a failed read keeps its count, which `read_full` answers.
 #[derive(Clone, Copy)]
 pub struct Piece {
     pub count: usize,
     pub failed: bool,
+}
+
+// Bytes that are cut off: how many their length says, and how many came; of a length that is cut off, 0 and its bytes.
+#[derive(Clone, Copy)]
+pub struct Cut {
+    pub said: usize,
+    pub came: usize,
 }
 
 // Reads until buf is full, the input ends or a read fails. On an empty buf it makes no call.
@@ -36,14 +30,10 @@ pub fn read_piece<R: Read>(reader: &mut R, buf: &mut [u8]) -> Piece
     ensures end { result.failed ≡ false → result.count < length buf.new → IsAtEnd (R.remaining reader.new) }
 {
     let mut count = 0;
+    // Stays: a turn goes on by what one read gives, which no range or iterator says more plainly.
     while count < buf.len() {
         match reader.read(&mut buf[count..]) {
-            Ok(0) => {
-                return Piece {
-                    count,
-                    failed: false,
-                };
-            }
+            Ok(0) => break,
             Ok(n) => count += n,
             Err(_) => {
                 return Piece {
@@ -64,22 +54,45 @@ pub fn read_full<R: Read>(reader: &mut R, buf: &mut [u8]) -> usize
     ensures in_bounds { IsPrefixLen result buf.new }
     ensures bytes { Consumes (R.remaining reader.old) (R.remaining reader.new) (take result buf.new) }
 {
-    let piece = read_piece(reader, buf);
-    piece.count
+    read_piece(reader, buf).count
 }
 
-// Writes all of buf and returns true, or stops at the first write that takes nothing or fails and returns false, when some of buf may have been
-// written. On an empty buf it makes no call.
-pub fn write_all<W: Write>(writer: &mut W, buf: &[u8]) -> bool
-    ensures written { OnTrue result (Appends (W.contents writer.old) (W.contents writer.new) buf.now) }
+// A length of four bytes, the highest first, and as many bytes behind it, over the front of space; how many bytes both have. None where the input is over.
+pub fn read_frame<R: Read>(reader: &mut R, space: &mut [u8]) -> Result<Option<usize>, Cut>
+    requires { 4 ≤ length space.old }
+    ensures { IfOk result (λ frame. IfSome frame (λ end. (4 ≤ end) × (end ≤ length space.new))) }
 {
-    writer.write_all(buf).is_ok()
+    let mut length = [0; 4];
+    let came = read_full(reader, &mut length);
+    if came == 0 {
+        return Ok(None);
+    }
+    if came < length.len() {
+        return Err(Cut { said: 0, came });
+    }
+    let said = u32::from_be_bytes(length) as usize;
+    space[..4].copy_from_slice(&length);
+    if space.len() - 4 < said {
+        return Err(Cut { said, came: 0 });
+    }
+    let end = 4 + said;
+    let came = read_full(reader, &mut space[4..end]);
+    if came < said {
+        return Err(Cut { said, came });
+    }
+    Ok(Some(end))
+}
+
+// Writes all of buf, or stops at the first write that takes nothing or fails, when some of buf may have been written. On an empty buf it makes no call.
+pub fn write_all<W: Write>(writer: &mut W, buf: &[u8]) -> io::Result<()>
+    ensures written { OnOk result (Appends (W.contents writer.old) (W.contents writer.new) buf.now) }
+{
+    writer.write_all(buf)
 }
 
 #[cfg(test)]
 mod tests {
     use super::*;
-    use std::io;
     use std::io::{Cursor, ErrorKind};
 
     // No read of it succeeds.
@@ -116,11 +129,24 @@ mod tests {
     }
 
     #[test]
+    fn a_frame_is_read_whole_or_cut_off(rt: HostRuntime) {
+        let mut input = b"\0\0\0\x02ab\0\0\0\x05cd\0".as_slice();
+        let mut space = [0u8; 9];
+        let frame = read_frame(&mut input, &mut space);
+        assert!(rt; matches!(frame, Ok(Some(6))));
+        assert!(rt; space.starts_with(b"\0\0\0\x02ab"));
+        let short = read_frame(&mut input, &mut space);
+        assert!(rt; matches!(short, Err(Cut { said: 5, came: 3 })));
+        let over = read_frame(&mut input, &mut space);
+        assert!(rt; matches!(over, Ok(None)));
+    }
+
+    #[test]
     fn a_full_writer_is_told(rt: HostRuntime) {
         let mut room = Cursor::new([0u8; 4]);
-        assert!(rt; write_all(&mut room, b"abc"));
-        assert!(rt; write_all(&mut room, b""));
-        assert!(rt; !write_all(&mut room, b"de"));
+        assert!(rt; write_all(&mut room, b"abc").is_ok());
+        assert!(rt; write_all(&mut room, b"").is_ok());
+        assert!(rt; write_all(&mut room, b"de").is_err());
         assert!(rt; room.into_inner() == *b"abcd");
     }
 }

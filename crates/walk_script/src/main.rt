@@ -5,11 +5,11 @@
 // Standard output, for each walk: number of levels given 2, and for each: level 1, number of keys 2, keys 2 each, ascending.
 #![tactic(auto)]
 
-ghost use Rattle.std.specs.Prelude.{◌<◌};
+ghost use Rattle.std.specs.Prelude.{◌≤◌};
 
-use key_set::{Found, KeySet};
-use level_walk::{Given, LevelWalk};
-use std::io::{Stdin, Stdout};
+use key_set::KeySet;
+use level_walk::LevelWalk;
+use std::io::{Read, Write};
 
 // The most reactions of a walk.
 const REACTIONS: usize = 128;
@@ -20,199 +20,140 @@ const LEVELS: usize = 256;
 // Room for an answer: each key is given once, so there are no more levels than keys.
 const ROOM: usize = 1024;
 
+// What is answered of a walk so far; what has no room is dropped.
+#[derive(Drop)]
+struct Answer {
+    bytes: [u8; ROOM],
+    end: usize,
+    ghost in_room: { end ≤ 1024 },
+}
+
+impl Answer {
+    // Room for the number of levels, and no levels yet.
+    fn new() -> Self {
+        Self {
+            bytes: [0; ROOM],
+            end: 2,
+        }
+    }
+
+    fn put(&mut self, b: u8) {
+        if self.end < ROOM {
+            self.bytes[self.end] = b;
+            self.end += 1;
+        }
+    }
+
+    fn put_short(&mut self, n: usize) {
+        self.put((n / 256 % 256) as u8);
+        self.put((n % 256) as u8);
+    }
+
+    fn put_keys(&mut self, keys: KeySet) {
+        self.put_short(keys.size());
+        for k in keys.keys() {
+            self.put_short(k);
+        }
+    }
+
+    // All bytes, with the number of levels before them.
+    fn told(&mut self, levels: u16) -> &[u8] {
+        let [high, low] = levels.to_be_bytes();
+        self.bytes[0] = high;
+        self.bytes[1] = low;
+        &self.bytes[..self.end]
+    }
+}
+
 // A walk, and how many steps the script still has for it.
-#[derive(Clone, Copy)]
+#[derive(Drop)]
 struct Walking {
     walk: LevelWalk,
-    steps: usize,
+    steps: u16,
 }
 
-// What a walk gave: how far its answer goes, its levels, and the walk after its end with the steps that are left.
-#[derive(Clone, Copy)]
-struct Ended {
-    end: usize,
-    levels: usize,
-    rest: Walking,
-}
+impl Walking {
+    // Keys added after a level, where the script has some.
+    fn add(&mut self, input: &mut impl Read, levels: &[u8]) {
+        if 0 < self.steps {
+            self.walk = self.walk.add(keys(input), levels).walk;
+            self.steps -= 1;
+        }
+    }
 
-fn wide(b: u8) -> usize
-    ensures { result < 256 }
-{
-    b as usize
-}
+    // The whole walk: how many levels it gave.
+    fn run(&mut self, input: &mut impl Read, levels: &[u8], answer: &mut Answer) -> u16 {
+        for n in 0..LEVELS {
+            let step = self.walk.next(levels);
+            self.walk = step.next;
+            let Some(level) = step.given else {
+                return n as u16;
+            };
+            answer.put(level);
+            answer.put_keys(step.keys);
+            self.add(input, levels);
+        }
+        LEVELS as u16
+    }
 
-fn pair(b: &[u8; 2]) -> usize {
-    wide(b[0]) * 256 + wide(b[1])
+    // The steps after the walk's end are added too, and a level is asked for after each: how many that gives.
+    fn run_late(&mut self, input: &mut impl Read, levels: &[u8]) -> u16 {
+        let mut given = 0u16;
+        for _ in 0..self.steps {
+            self.add(input, levels);
+            if self.walk.next(levels).given.is_some() {
+                given = given.wrapping_add(1);
+            }
+        }
+        given
+    }
 }
 
 // The next two bytes of the script.
-fn short(mut input: Stdin) -> usize {
-    let mut b = [0u8; 2];
-    streams::read_full(&mut input, &mut b);
-    pair(&b)
+fn short(input: &mut impl Read) -> u16 {
+    let mut bytes = [0; 2];
+    streams::read_full(input, &mut bytes);
+    u16::from_be_bytes(bytes)
 }
 
 // The next set of the script.
-fn keys(input: Stdin) -> KeySet {
-    let mut left = short(input);
+fn keys(input: &mut impl Read) -> KeySet {
     let mut set = KeySet::empty();
-    while 0 < left {
-        let k = short(input);
-        set = set.insert(k);
-        left -= 1;
+    for _ in 0..short(input) {
+        set = set.insert(short(input) as usize);
     }
     set
 }
 
-fn put(out: &mut [u8], at: usize, b: u8) -> usize {
-    if at < out.len() {
-        out[at] = b;
-        return at + 1;
+// One walk; None at the end of the script, where there is no room for its reactions, and where its answer cannot be written.
+fn walked(input: &mut impl Read, output: &mut impl Write) -> Option<()> {
+    let mut head = [0; 2];
+    if streams::read_full(input, &mut head) < head.len() {
+        return None;
     }
-    at
-}
-
-fn put_short(out: &mut [u8], at: usize, n: usize) -> usize {
-    let high = (n / 256 % 256) as u8;
-    let low = (n % 256) as u8;
-    let next = put(out, at, high);
-    put(out, next, low)
-}
-
-fn put_keys(out: &mut [u8], at: usize, keys: KeySet) -> usize {
-    let mut place = put_short(out, at, keys.size());
-    let mut k = 0;
-    loop {
-        let f = keys.lowest_from(k);
-        let Found::Key(j) = f else {
-            return place;
-        };
-        place = put_short(out, place, j);
-        k = j + 1;
+    let reactions = u16::from_be_bytes(head) as usize;
+    let mut room = [0; REACTIONS];
+    if room.len() < reactions {
+        return None;
     }
-}
-
-// Keys added after a level, where the script has some.
-fn added(input: Stdin, turn: Walking, levels: &[u8]) -> Walking {
-    let steps = turn.steps;
-    if steps == 0 {
-        return turn;
-    }
-    let walk = turn.walk;
-    let answer = walk.add(keys(input), levels);
-    let next = answer.walk;
-    Walking {
-        walk: next,
-        steps: steps - 1,
-    }
-}
-
-// The whole walk, with its levels put behind the answer's first two bytes.
-fn walked(input: Stdin, start: Walking, levels: &[u8], out: &mut [u8]) -> Ended {
-    let mut turn = start;
-    let mut end = 2;
-    let mut n = 0;
-    while n < LEVELS {
-        let walk = turn.walk;
-        let steps = turn.steps;
-        let step = walk.next(levels);
-        let given = step.given;
-        let Given::Level(v) = given else {
-            let last = step.next;
-            let rest = Walking { walk: last, steps };
-            return Ended {
-                end,
-                levels: n,
-                rest,
-            };
-        };
-        let place = put(out, end, v);
-        end = put_keys(out, place, step.keys);
-        let next = step.next;
-        turn = added(input, Walking { walk: next, steps }, levels);
-        n += 1;
-    }
-    Ended {
-        end,
-        levels: n,
-        rest: turn,
-    }
-}
-
-// How many levels a walk gives when asked once: one or none.
-fn asked(walk: LevelWalk, levels: &[u8]) -> usize
-    ensures { result < 2 }
-{
-    let step = walk.next(levels);
-    let given = step.given;
-    match given {
-        Given::Level(_) => 1,
-        Given::End => 0,
-    }
-}
-
-// The steps after the walk's end are added too, and a level is asked for after each: how many that gives.
-fn late(input: Stdin, rest: Walking, levels: &[u8]) -> usize {
-    let mut turn = rest;
-    let mut left = rest.steps;
-    let mut n = 0;
-    while 0 < left {
-        turn = added(input, turn, levels);
-        let walk = turn.walk;
-        n = (n + asked(walk, levels)) % 65536;
-        left -= 1;
-    }
-    n
-}
-
-fn written(mut output: Stdout, out: &[u8], end: usize) -> bool {
-    if end <= out.len() {
-        return streams::write_all(&mut output, &out[..end]);
-    }
-    false
-}
-
-fn answered(input: Stdin, output: Stdout, levels: &[u8]) -> bool {
-    let start = LevelWalk::new(keys(input), levels);
-    let fresh = start.walk;
-    let answer = fresh.add(keys(input), levels);
-    let walk = answer.walk;
-    let steps = short(input);
-    let mut out = [0u8; ROOM];
-    let w = walked(input, Walking { walk, steps }, levels, &mut out);
-    let rest = w.rest;
-    let more = late(input, rest, levels);
-    put_short(&mut out, 0, w.levels % 65536 + more % 65536);
-    written(output, &out, w.end)
-}
-
-// One walk over n reactions; false where there is no room for them.
-fn filled(mut input: Stdin, output: Stdout, room: &mut [u8], n: usize) -> bool {
-    if room.len() < n {
-        return false;
-    }
-    let levels = &mut room[..n];
-    streams::read_full(&mut input, levels);
-    answered(input, output, levels)
-}
-
-// One walk; false at the end of the script.
-fn turn(mut input: Stdin, output: Stdout) -> bool {
-    let mut head = [0u8; 2];
-    let n = streams::read_full(&mut input, &mut head);
-    if n < 2 {
-        return false;
-    }
-    let mut room = [0u8; REACTIONS];
-    filled(input, output, &mut room, pair(&head))
+    let levels = &mut room[..reactions];
+    streams::read_full(input, levels);
+    let start = LevelWalk::new(keys(input), levels).walk;
+    let mut walking = Walking {
+        walk: start.add(keys(input), levels).walk,
+        steps: short(input),
+    };
+    let mut answer = Answer::new();
+    let given = walking.run(input, levels, &mut answer);
+    let late = walking.run_late(input, levels);
+    streams::write_all(output, answer.told(given.wrapping_add(late))).ok()
 }
 
 fn main(rt: HostRuntime) {
-    let mut turns: u64 = 0xffff_ffff;
-    while 0 < turns {
-        if turn(rt.stdin(), rt.stdout()) {
-            turns -= 1;
-        } else {
+    let mut input = rt.stdin();
+    let mut output = rt.stdout();
+    for _ in 0..u64::MAX {
+        if walked(&mut input, &mut output).is_none() {
             return;
         }
     }

@@ -1,9 +1,8 @@
--- `rescuer::say_runs` is safe: each line lies within the buffer. Assumes nothing.
-use Rattle.std.proofs.Common.{◌≡◌, ◌-◌, ◌≤◌, length}
+-- `say_runs` is safe: each line lies within the buffer.
+use Rattle.std.proofs.Common.{◌≤◌}
 use Rattle.rescuer.proofs.say_runs.Given as goal
 
-abbrev pub invariant-loop-at : goal.invariant-loop-at
-invariant-loop-at l = (65536 ≡ length l.text) × (l.end ≤ 65536)
-
-abbrev pub decreases-loop-at : goal.decreases-loop-at
-decreases-loop-at l = length l.list - l.at
+abbrev pub invariant-loop-run : goal.invariant-loop-run
+invariant-loop-run g l =
+    (goal.iterator-loop-run g).can_next l.run-iterator ×
+    (goal.iterator-loop-run g).is_finite l.run-iterator × (l.end ≤ 65536)

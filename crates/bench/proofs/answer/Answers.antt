@@ -1,5 +1,0 @@
-use mathlib.Core.Path.{sym, ◌∙◌}
-use Rattle.bench.proofs.answer.Goals as goal
-
-pub run-requires : goal.run-requires
-run-requires c = sym c.accepted.ensures ∙ c.if-accepted.true

@@ -1,6 +1,0 @@
--- `explained::say_turned` is safe and ends. Assumes nothing.
-use Rattle.explained.proofs.Laws.{few_wait}
-use Rattle.explained.proofs.say_turned.Goals as goal
-
-pub say_queues-requires : goal.say_queues-requires
-say_queues-requires c = few_wait c.requires

@@ -1,9 +1,0 @@
--- `walk_laps::filled` ends: its keys are counted. Assumes nothing.
-use Rattle.std.proofs.Common.{◌-◌}
-use Rattle.walk_laps.proofs.filled.Given as goal
-
-abbrev pub invariant-loop-i : goal.invariant-loop-i
-invariant-loop-i l = Unit {0}
-
-abbrev pub decreases-loop-i : goal.decreases-loop-i
-decreases-loop-i l = l.n - l.i

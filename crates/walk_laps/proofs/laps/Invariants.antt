@@ -1,8 +1,0 @@
--- `walk_laps::laps` is safe and ends: the laps left fall. Assumes nothing.
-use Rattle.walk_laps.proofs.laps.Given as goal
-
-abbrev pub invariant-loop-left : goal.invariant-loop-left
-invariant-loop-left l = Unit {0}
-
-abbrev pub decreases-loop-left : goal.decreases-loop-left
-decreases-loop-left l = l.left

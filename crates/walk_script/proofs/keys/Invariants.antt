@@ -1,8 +1,0 @@
--- `walk_script::keys` ends: the number of keys left falls. Assumes nothing.
-use Rattle.walk_script.proofs.keys.Given as goal
-
-abbrev pub invariant-loop-left : goal.invariant-loop-left
-invariant-loop-left l = Unit {0}
-
-abbrev pub decreases-loop-left : goal.decreases-loop-left
-decreases-loop-left l = l.left

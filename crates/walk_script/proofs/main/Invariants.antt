@@ -1,8 +1,0 @@
--- `walk_script::main` ends: its turns are counted. Assumes nothing.
-use Rattle.walk_script.proofs.main.Given as goal
-
-abbrev pub invariant-loop-turns : goal.invariant-loop-turns
-invariant-loop-turns l = Unit {0}
-
-abbrev pub decreases-loop-turns : goal.decreases-loop-turns
-decreases-loop-turns l = l.turns
