@@ -19,7 +19,8 @@ use Rattle.key_set.specs.Sets.{union_of, no_keys, word_count}
 use Rattle.machine.specs.State.{Event, Scope, ordinary}
 use Rattle.machine.specs.Heads.{Ready, add_action, held_at, ready_of}
 use Rattle.state_events.specs.Slots.{blank}
-use Rattle.call_pop_ready.specs.Gathering.{Gathering, nothing_yet, added_to, added_by, is_new, count_after, keys_after, Grown}
+use Rattle.call_pop_ready.specs.declared.Gathered.{Gathered}
+use Rattle.call_pop_ready.specs.Gathering.{Gathering, nothing_yet, added_to, added_by, held_too, is_new, count_after, keys_after, Grown}
 
 -- ---- folding at the end
 
@@ -63,6 +64,11 @@ gathered ss t es (e ∷ more) = rw (← one_more ss t es e) (gathered ss t (es +
 pub ready_nothing : (ss : List Scope) (t : Tag) → untagged (ready_of ss t []) ≡ nothing_yet
 unfolding ready_of any foldl
 ready_nothing ss t = refl
+
+-- what is held back too, by the flag as it then is
+pub held_too_lem : (held : Bool) (g : Gathered) {b : Bool} → b ≡ (g.held || held) →
+    record { terminal = g.terminal; work = g.work; network = g.network; held = b; reactions = g.reactions; actions = g.actions } ≡ held_too held g
+held_too_lem held g e = rw e
 
 -- a key that is new, or none
 module _ (keys : List ℕ) (n a : ℕ) where

@@ -43,7 +43,7 @@ use Rattle.state_events.specs.Slots as slot
 use Rattle.state_events.specs.Slots.{events_of, room_for_events}
 use Rattle.state_room.specs.declared.Counts.{Counts}
 use Rattle.state_room.specs.PartRows.{Shows}
-use Rattle.state_room.specs.Holds.{Rows, Holds, Held, Outcome, Steps, steps_refused, steps_same, shows}
+use Rattle.state_room.specs.Holds.{Rows, Holds, Held, Outcome, After, Steps, not_both, steps_refused, steps_same, shows}
 use Rattle.state_room.specs.Parts.{Good, queue_in, store_in, push_holds, push_step, more_waits, more_step, changed}
 use Rattle.state_room.proofs.Parts.{holds_good, steps_by}
 use Rattle.call_transition_plan.specs.declared.Plan.{Plan}
@@ -69,6 +69,14 @@ walk_keep f p (j ∷ l) s = go (p j) (f s j) (λ t. walk_keep f p l t)
         walk f s (cond b (j ∷ keep p l) (keep p l)) ≡ (cond b (f s j) (done s) >>= λ t. walk (λ s j. cond (p j) (f s j) (done s)) t l)
     go true r h = bind_same (f s j) _ _ h
     go false r h = h s
+
+-- where a step is refused its rows may be any
+pub steps_refused_by : (img : Image) (f : State → Step) (a b : Rows) (n : Refusal) (z : Rows) → Steps img f a (Err n) b → Steps img f a (Err n) z
+steps_refused_by img f a b n z h s k = go (f s) (h s k)
+  where
+    go : (r : Step) → After img r (Err n) b → After img r (Err n) z
+    go (done t) x = not_both (sym x.0)
+    go (refused m) x = x
 
 -- ---- one value, one event
 

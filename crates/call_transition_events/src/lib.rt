@@ -1,9 +1,9 @@
 // What a transition starts, on the room's rows: document 01, "If any scope active for the first time has startup rows" (4), "for each timer row" (5).
-// A refusal ends a step; its caller then puts the rows as given back. Each part takes the whole room, so that its contract is a step of the machine.
+// A refusal ends a step; its caller then puts the other rows as given back. Each part takes the whole room, so that its contract is a step of the machine.
 // Where a timer's event waits, and at which tag, is in `timer_slot` and `timer_image`; callers use `firsts`, `startups` and `restarts`.
 #![tactic(auto)]
 
-ghost use Rattle.std.specs.Prelude.{◌≡◌, true, ◌≤◌};
+ghost use Rattle.std.specs.Prelude.{◌≡◌, true, ◌≤◌, OnErr};
 ghost use Rattle.tags.specs.Tags.{tag_only};
 ghost use Rattle.tags.specs.Views.{of_global, mapped_global};
 ghost use Rattle.table.specs.Check.{is_table};
@@ -28,7 +28,8 @@ use tags::{GlobalTag, Mapped, QueueTag, Scale};
 // An action's 0 value, or 9.
 fn hold(image: &[u8], room: &mut Room, action: u16, tag: GlobalTag) -> Result<(), Refusal>
     requires { Held image.now (rows_of room.old) }
-    ensures { Steps image.now (T.held image.now action (of_global tag)) (rows_of room.old) result (rows_of room.new) }
+    ensures steps { Steps image.now (T.held image.now action (of_global tag)) (rows_of room.old) result (rows_of room.new) }
+    ensures scopes { room.new.scopes ≡ room.old.scopes }
 {
     let limit = table_rows::most_held(image);
     let pushed = store_calls::push(
@@ -54,7 +55,8 @@ fn more_work(s: Slot, work: usize) -> usize
 // One more event waits, or 8.
 fn accept(image: &[u8], room: &mut Room, s: Slot) -> Result<(), Refusal>
     requires { Held image.now (rows_of room.old) }
-    ensures { Steps image.now (λ t. accepted image.now t (event_of s)) (rows_of room.old) result (rows_of room.new) }
+    ensures steps { Steps image.now (λ t. accepted image.now t (event_of s)) (rows_of room.old) result (rows_of room.new) }
+    ensures scopes { room.new.scopes ≡ room.old.scopes }
 {
     let before = room.ledger.counts;
     let work = more_work(s, before.work);
@@ -107,7 +109,8 @@ struct Chosen {
 // A startup row's value, where its scope is chosen.
 fn hold_startup(image: &[u8], room: &mut Room, f: Chosen, j: u16) -> Result<(), Refusal>
     requires { Held image.now (rows_of room.old) }
-    ensures { Steps image.now (λ s. value_step image.now f s j) (rows_of room.old) result (rows_of room.new) }
+    ensures steps { Steps image.now (λ s. value_step image.now f s j) (rows_of room.old) result (rows_of room.new) }
+    ensures scopes { room.new.scopes ≡ room.old.scopes }
 {
     if !f.set.contains(table_rows::startup_scope(image, j) as usize) {
         return Ok(());
@@ -119,7 +122,8 @@ fn hold_startup(image: &[u8], room: &mut Room, f: Chosen, j: u16) -> Result<(), 
 // A scope's event, where it is chosen.
 fn accept_startup(image: &[u8], room: &mut Room, f: Chosen, i: u16) -> Result<(), Refusal>
     requires { Held image.now (rows_of room.old) }
-    ensures { Steps image.now (λ s. event_step image.now f s i) (rows_of room.old) result (rows_of room.new) }
+    ensures steps { Steps image.now (λ s. event_step image.now f s i) (rows_of room.old) result (rows_of room.new) }
+    ensures scopes { room.new.scopes ≡ room.old.scopes }
 {
     if !f.set.contains(i as usize) {
         return Ok(());
@@ -163,7 +167,8 @@ fn timer_slot(image: &[u8], j: u16, g: GlobalTag) -> Slot
 // An event's 0 value, then the event.
 fn put(image: &[u8], room: &mut Room, s: Slot) -> Result<(), Refusal>
     requires { Held image.now (rows_of room.old) }
-    ensures { Steps image.now (put_step image.now (event_of s)) (rows_of room.old) result (rows_of room.new) }
+    ensures steps { Steps image.now (put_step image.now (event_of s)) (rows_of room.old) result (rows_of room.new) }
+    ensures scopes { room.new.scopes ≡ room.old.scopes }
 {
     hold(image, room, s.action, s.stored)?;
     accept(image, room, s)
@@ -172,7 +177,8 @@ fn put(image: &[u8], room: &mut Room, s: Slot) -> Result<(), Refusal>
 // A timer anew, where its scope is in the reset subtree: a tag before its value, a value before its event.
 fn start_timer(image: &[u8], room: &mut Room, inside: KeySet, j: u16) -> Result<(), Refusal>
     requires { Held image.now (rows_of room.old) }
-    ensures { Steps image.now (λ s. timer_step image.now inside.words s j) (rows_of room.old) result (rows_of room.new) }
+    ensures steps { Steps image.now (λ s. timer_step image.now inside.words s j) (rows_of room.old) result (rows_of room.new) }
+    ensures scopes { room.new.scopes ≡ room.old.scopes }
 {
     if !inside.contains(timer_scope(image, j) as usize) {
         return Ok(());
@@ -202,7 +208,8 @@ fn some_row(image: &[u8], kind: u8, set: KeySet) -> bool
 // All values, then all events.
 fn start_all(image: &[u8], room: &mut Room, f: Chosen) -> Result<(), Refusal>
     requires { Held image.now (rows_of room.old) }
-    ensures { Steps image.now (startups_at image.now f) (rows_of room.old) result (rows_of room.new) }
+    ensures steps { Steps image.now (startups_at image.now f) (rows_of room.old) result (rows_of room.new) }
+    ensures scopes { room.new.scopes ≡ room.old.scopes }
 {
     for j in 0..table_rows::count(image, table_rows::STARTUP) {
         hold_startup(image, room, f, j)?;
@@ -213,23 +220,30 @@ fn start_all(image: &[u8], room: &mut Room, f: Chosen) -> Result<(), Refusal>
     Ok(())
 }
 
-// Step 4: the startups of the first-time scopes, at c delayed by zero.
+// Step 4: the startups of the first-time scopes, at c delayed by zero. The scopes stay as they are; refused, the ledger too.
 pub fn startups(image: &[u8], room: &mut Room, first: KeySet, plan: Plan) -> Result<(), Refusal>
     requires { Held image.now (rows_of room.old) }
-    ensures { Steps image.now (startups_on image.now plan first.words) (rows_of room.old) result (rows_of room.new) }
+    ensures steps { Steps image.now (startups_on image.now plan first.words) (rows_of room.old) result (rows_of room.new) }
+    ensures scopes { room.new.scopes ≡ room.old.scopes }
+    ensures ledger { OnErr result (room.new.ledger ≡ room.old.ledger) }
 {
     if !some_row(image, table_rows::STARTUP, first) {
         return Ok(());
     }
     let there = plan.c.delay()?;
-    let f = Chosen { set: first, there };
-    start_all(image, room, f)
+    let given = room.ledger;
+    if let Err(refusal) = start_all(image, room, Chosen { set: first, there }) {
+        room.ledger = given;
+        return Err(refusal);
+    }
+    Ok(())
 }
 
 // One event with the reset reactions of the subtree, at c delayed by zero.
 fn reset_reactions(image: &[u8], room: &mut Room, plan: Plan) -> Result<(), Refusal>
     requires { Held image.now (rows_of room.old) }
-    ensures { Steps image.now (resets_on image.now plan) (rows_of room.old) result (rows_of room.new) }
+    ensures steps { Steps image.now (resets_on image.now plan) (rows_of room.old) result (rows_of room.new) }
+    ensures scopes { room.new.scopes ≡ room.old.scopes }
 {
     if !some_row(image, table_rows::RESET, plan.inside) {
         return Ok(());
@@ -239,13 +253,29 @@ fn reset_reactions(image: &[u8], room: &mut Room, plan: Plan) -> Result<(), Refu
     accept(image, room, event)
 }
 
-// Step 5: the timers anew, then the reset reactions.
-pub fn restarts(image: &[u8], room: &mut Room, plan: Plan) -> Result<(), Refusal>
+// The timers anew, then the reset reactions.
+fn restart_all(image: &[u8], room: &mut Room, plan: Plan) -> Result<(), Refusal>
     requires { Held image.now (rows_of room.old) }
-    ensures { Steps image.now (restarts_on image.now plan) (rows_of room.old) result (rows_of room.new) }
+    ensures steps { Steps image.now (restarts_on image.now plan) (rows_of room.old) result (rows_of room.new) }
+    ensures scopes { room.new.scopes ≡ room.old.scopes }
 {
     for j in 0..table_rows::count(image, table_rows::TIMER) {
         start_timer(image, room, plan.inside, j)?;
     }
     reset_reactions(image, room, plan)
+}
+
+// Step 5. The scopes stay as they are; refused, the ledger too.
+pub fn restarts(image: &[u8], room: &mut Room, plan: Plan) -> Result<(), Refusal>
+    requires { Held image.now (rows_of room.old) }
+    ensures steps { Steps image.now (restarts_on image.now plan) (rows_of room.old) result (rows_of room.new) }
+    ensures scopes { room.new.scopes ≡ room.old.scopes }
+    ensures ledger { OnErr result (room.new.ledger ≡ room.old.ledger) }
+{
+    let before = room.ledger;
+    if let Err(refusal) = restart_all(image, room, plan) {
+        room.ledger = before;
+        return Err(refusal);
+    }
+    Ok(())
 }

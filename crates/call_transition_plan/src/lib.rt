@@ -81,9 +81,12 @@ fn mode_after(image: &[u8], modes: &[u16; MOST_REACTORS], request: Request, reac
     if reactor == request.reactor {
         return request.mode;
     }
+    if !request.reset {
+        return modes[reactor as usize];
+    }
     let target = table_rows::mode_scope(image, request.mode);
     let root = table_rows::root_scope(image, reactor);
-    if request.reset && table_rows::under(image, target, root) {
+    if table_rows::under(image, target, root) {
         table_rows::initial_mode(image, reactor)
     } else {
         modes[reactor as usize]

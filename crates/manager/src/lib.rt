@@ -71,14 +71,14 @@ fn only_first(numbers: &mut [u16], n: usize)
 
 fn lay_scopes(
     rows: &mut [u64; state_scopes::ROOM],
-    clocks: [ScopeClock; MOST_SCOPES],
-    active: [bool; MOST_SCOPES],
-    ever: [bool; MOST_SCOPES],
+    clocks: &[ScopeClock; MOST_SCOPES],
+    active: &[bool; MOST_SCOPES],
+    ever: &[bool; MOST_SCOPES],
     n: usize,
 )
     requires { scope.Held rows.old (replicate most_scopes scope.blank) }
-    ensures scoped { Scoped (take n (joined (map of_clock clocks) active ever)) rows.new }
-    ensures clocks_len { (length clocks ≡ most_scopes) × (length active ≡ most_scopes) × (length ever ≡ most_scopes) }
+    ensures scoped { Scoped (take n (joined (map of_clock clocks.now) active.now ever.now)) rows.new }
+    ensures clocks_len { (length clocks.now ≡ most_scopes) × (length active.now ≡ most_scopes) × (length ever.now ≡ most_scopes) }
 {
     for i in 0..n.min(MOST_SCOPES) {
         let s = Scope {
@@ -90,10 +90,10 @@ fn lay_scopes(
     }
 }
 
-fn lay_slots(rows: &mut [u64; state_events::ROOM], slots: [Slot; ROOM_FOR_EVENTS], n: usize)
+fn lay_slots(rows: &mut [u64; state_events::ROOM], slots: &[Slot; ROOM_FOR_EVENTS], n: usize)
     requires { slot.Held rows.old (replicate room_for_events slot.blank) }
-    ensures held { slot.Held rows.new (padded slot.blank room_for_events (take n (map event_of slots))) }
-    ensures slots_len { length slots ≡ room_for_events }
+    ensures held { slot.Held rows.new (padded slot.blank room_for_events (take n (map event_of slots.now))) }
+    ensures slots_len { length slots.now ≡ room_for_events }
 {
     for i in 0..n.min(ROOM_FOR_EVENTS) {
         state_events::put_slot(rows, i, slots[i]);
@@ -110,14 +110,21 @@ fn lay_entries<E: Entry>(rows: &mut E::Rows, entries: &[E; ROOM_FOR_ENTRIES], n:
     }
 }
 
-fn unpack(image: &[u8], room: &mut Room, m: Manager)
+// The manager is lent too: it is 32 KB.
+fn unpack(image: &[u8], room: &mut Room, m: &Manager)
     requires { Blank room.old.scopes room.old.events room.old.values room.old.buckets }
-    ensures { Unpacks image.now (arrays_of m) (rows_of room.new) }
+    ensures { Unpacks image.now (arrays_of m.now) (rows_of room.new) }
 {
     let scopes_there = table_rows::count(image, table_rows::SCOPE) as usize;
     let reactors_there = table_rows::count(image, table_rows::REACTOR) as usize;
-    lay_scopes(&mut room.scopes, m.clocks, m.active, m.ever, scopes_there);
-    lay_slots(&mut room.events, m.slots, m.waiting);
+    lay_scopes(
+        &mut room.scopes,
+        &m.clocks,
+        &m.active,
+        &m.ever,
+        scopes_there,
+    );
+    lay_slots(&mut room.events, &m.slots, m.waiting);
     lay_entries(&mut room.values, &m.store.values, m.store.held);
     lay_entries(&mut room.buckets, &m.store.buckets, m.store.open);
     let mut modes = m.modes;
@@ -299,10 +306,18 @@ fn step_on(m: Manager, image: &[u8], call: Call, keys: &[u16]) -> Called
     ensures result_value { called_of result ≡ step_on image.now (arrays_of m) (call_of call keys.now) }
     ensures actions_le_room_for_events { (result.performed.gathered.actions ≤ room_for_events) × TellsOrEleven call result.performed }
 {
-    let mut room = state_fresh::bare([0; MOST_REACTORS], state_scopes::blank_rows());
-    unpack(image, &mut room, m);
+    // Made where it lies: a room that a function hands back is copied on the way.
+    let mut room = Room {
+        scopes: state_scopes::blank_rows(),
+        events: state_events::blank_rows(),
+        values: [0; store_words::ROOM_FOR_ENTRIES * store_words::VALUE_WORDS],
+        buckets: [0; store_words::ROOM_FOR_ENTRIES * store_words::BUCKET_WORDS],
+        ledger: state_room::bare_ledger([0; MOST_REACTORS]),
+    };
+    unpack(image, &mut room, &m);
     let mut actions = [0u16; ROOM_FOR_EVENTS];
-    if !state_rules::keeps_rules(image, &room) {
+    let sound = state_rules::keeps_rules(image, &room);
+    if !sound {
         return Called {
             performed: call_perform::told(Err(Refusal::StateRule)),
             actions,

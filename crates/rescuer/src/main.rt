@@ -21,7 +21,10 @@ const ROOM: usize = 65536;
 // Room for the runs of a piece: 16 and 3 for each byte.
 const LIST: usize = 196624;
 
-// A line has fewer bytes.
+// A run's line has fewer bytes.
+const RUN_LINE: usize = 64;
+
+// The line of what it came to has fewer bytes.
 const LINE: usize = 128;
 
 // Why a rescue ends before the day does.
@@ -79,7 +82,7 @@ fn say_runs(errors: &mut impl Write, list: &[u8]) -> io::Result<()> {
     let mut text = [0; ROOM];
     let mut end = 0;
     for run in list.chunks_exact(day_rescue::RUN_BYTES) {
-        if ROOM - end < LINE {
+        if ROOM - end < RUN_LINE {
             streams::write_all(errors, &text[..end])?;
             end = 0;
         }

@@ -99,10 +99,17 @@ fn put_least(heads: &mut [u64; HEADS], k: usize, least: Option<QueueTag>)
 }
 
 // A tag takes the place of the least so far, if there is one, unless that is earlier.
+// Stays: branches, most taken at the offset; the derived order makes numbers of both tests, and a pop with many waiting takes half as long again.
 fn lowers(t: QueueTag, least: Option<QueueTag>) -> bool
     ensures { result ≡ lowers (of_queue t) (of_earliest least) }
 {
-    least.is_none_or(|u| t <= u)
+    let Some(u) = least else {
+        return true;
+    };
+    if u.0 < t.0 {
+        return false;
+    }
+    t.0 < u.0 || t.1 <= u.1
 }
 
 // One event more; where its queue has an earlier one nothing is written.
@@ -173,11 +180,14 @@ pub struct Removed {
     pub ordinary: usize,
 }
 
-// Offsets differ more often than queues.
+// Offsets differ more often than queues, and end the test by a branch of their own: three tests at once cost a pop with many waiting a third more.
 fn is_at(d: Due, queue: u16, t: QueueTag) -> bool
     ensures { (e : Event) → IsDue d e → result ≡ at_head queue (of_queue t) e }
 {
-    d.tag.0 == t.0 && d.queue == queue && d.tag.1 == t.1
+    if d.tag.0 != t.0 {
+        return false;
+    }
+    d.queue == queue && d.tag.1 == t.1
 }
 
 impl Which {

@@ -22,7 +22,7 @@ const MOST_ACTIONS: usize = 64;
 
 // ---- what is read
 
-// The next bytes of the input; None where it ends before.
+// The next bytes; None where the input ends before.
 fn bytes<const N: usize>(input: &mut impl Read) -> Option<[u8; N]> {
     let mut bytes = [0; N];
     if streams::read_full(input, &mut bytes) < N {
@@ -111,13 +111,13 @@ impl Told for Bucket {
     }
 }
 
-// How many are held, and each of them.
+// How many are held, and each of them; what the last write came to.
 fn tell_held<T: Told>(output: &mut impl Write, all: &[T], held: usize) -> io::Result<()> {
-    streams::write_all(output, &((held % 65536) as u16).to_be_bytes())?;
+    let mut told = streams::write_all(output, &((held % 65536) as u16).to_be_bytes());
     for x in all.iter().take(held) {
-        x.tell(output)?;
+        told = x.tell(output);
     }
-    Ok(())
+    told
 }
 
 fn answer_bytes(answer: Result<Answer, Refusal>) -> [u8; 9] {
@@ -135,32 +135,53 @@ fn answer_bytes(answer: Result<Answer, Refusal>) -> [u8; 9] {
 
 // ---- the calls
 
-// The next call of the input on the store; None where the input ends before.
+// The next call of the input on the store: its head in one read and its operands in another, whose fields are then taken. None where the input ends before.
 fn call(input: &mut impl Read, store: Store, image: &[u8]) -> Option<Answered> {
-    let [op] = bytes::<1>(input)?;
-    let action = short(input)?;
+    let [op, high, low] = bytes::<3>(input)?;
+    let action = u16::from_be_bytes([high, low]);
     Some(match op {
-        1 => store.push(image, action, tag(input)?, number(input)?),
-        2 => store.next_microstep(image, action, number(input)?, microstep(input)?),
-        3 => store.take(image, action, tag(input)?),
-        4 => store.clear_older_than(image, action, tag(input)?),
+        1 => {
+            let operands = bytes::<20>(input)?;
+            let mut fields = operands.as_slice();
+            store.push(image, action, tag(&mut fields)?, number(&mut fields)?)
+        }
+        2 => {
+            let operands = bytes::<12>(input)?;
+            let mut fields = operands.as_slice();
+            store.next_microstep(image, action, number(&mut fields)?, microstep(&mut fields)?)
+        }
         5 => store.clear(image, action),
-        6 => store.move_value(image, action, tag(input)?, tag(input)?),
-        _ => store.move_value(image, action, tag(input)?, GlobalTag::ZERO),
+        6 => {
+            let operands = bytes::<24>(input)?;
+            let mut fields = operands.as_slice();
+            store.move_value(image, action, tag(&mut fields)?, tag(&mut fields)?)
+        }
+        _ => {
+            let operands = bytes::<12>(input)?;
+            let at = tag(&mut operands.as_slice())?;
+            match op {
+                3 => store.take(image, action, at),
+                4 => store.clear_older_than(image, action, at),
+                _ => store.move_value(image, action, at, GlobalTag::ZERO),
+            }
+        }
     })
 }
 
-// One script; None at the end of the input, and where what it comes to cannot be written.
+// One script; None at the end of the input, and where the last of what is held cannot be written. A call that is cut off, or whose answer cannot be written,
+// leaves the store as it was.
 fn script(input: &mut impl Read, output: &mut impl Write) -> Option<()> {
-    let image = Image::new(short(input)?);
-    let calls = short(input)?;
+    let head = bytes::<4>(input)?;
+    let mut fields = head.as_slice();
+    let image = Image::new(short(&mut fields)?);
+    let calls = short(&mut fields)?;
     let mut store = Store::new();
     for _ in 0..calls {
-        let Some(called) = call(input, store, image.bytes()) else {
-            break;
-        };
-        streams::write_all(output, &answer_bytes(called.answer)).ok()?;
-        store = called.store;
+        if let Some(called) = call(input, store, image.bytes())
+            && streams::write_all(output, &answer_bytes(called.answer)).is_ok()
+        {
+            store = called.store;
+        }
     }
     tell_held(output, &store.values, store.held).ok()?;
     tell_held(output, &store.buckets, store.open).ok()

@@ -58,13 +58,17 @@ pub struct GlobalTag(pub u64, pub u32);
 
 impl GlobalTag {
     pub const ZERO: GlobalTag = GlobalTag(0, 0);
+
+    pub const MAX_OFFSET: u64 = MAX_OFFSET;
+
+    pub const MAX_MICROSTEP: u32 = MAX_MICROSTEP;
 }
 
 impl Scale for GlobalTag {
     ghost tag = { of_global };
 
     fn new(offset: u64, microstep: u32) -> Self {
-        Self(offset, microstep)
+        GlobalTag(offset, microstep)
     }
 
     fn offset(self) -> u64 {
@@ -82,13 +86,17 @@ pub struct LocalTag(pub u64, pub u32);
 
 impl LocalTag {
     pub const ZERO: LocalTag = LocalTag(0, 0);
+
+    pub const MAX_OFFSET: u64 = GlobalTag::MAX_OFFSET;
+
+    pub const MAX_MICROSTEP: u32 = GlobalTag::MAX_MICROSTEP;
 }
 
 impl Scale for LocalTag {
     ghost tag = { of_local };
 
     fn new(offset: u64, microstep: u32) -> Self {
-        Self(offset, microstep)
+        LocalTag(offset, microstep)
     }
 
     fn offset(self) -> u64 {
@@ -99,6 +107,11 @@ impl Scale for LocalTag {
         self.1
     }
 }
+
+// The limits that the types supply are those of every scale.
+const _: () = prove!(
+    LocalTag::MAX_OFFSET == MAX_OFFSET && LocalTag::MAX_MICROSTEP == MAX_MICROSTEP
+);
 
 // A scope's clock: activation global G, activation local L, allowed, suspended local S.
 #[derive(Clone, Copy)]
@@ -304,7 +317,7 @@ impl Scale for QueueTag {
     ghost tag = { of_queue };
 
     fn new(offset: u64, microstep: u32) -> Self {
-        Self(offset, microstep)
+        QueueTag(offset, microstep)
     }
 
     fn offset(self) -> u64 {

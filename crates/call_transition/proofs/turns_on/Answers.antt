@@ -15,7 +15,7 @@ returns-in_err-turn_scopes c =
     let p = err_from_is_err_and c.from_residual.result c.from_residual.ensures.1 in
     rw (p.1, p.2)
     (turns_steps a.image.now a.plan f.result.words _ f.ensures _ _
-    (steps_end _ (all_turns a.image.now a.plan) (starts_on a.image.now a.plan f.result.words) _ _ _ _ _ c.in_err-turn_scopes.ensures refl refl))
+    (steps_end _ (all_turns a.image.now a.plan) (starts_on a.image.now a.plan f.result.words) _ _ _ _ _ c.in_err-turn_scopes.ensures.steps refl refl))
 
 pub returns-in_err-startups : goal.returns-in_err-startups
 returns-in_err-startups c =
@@ -25,8 +25,8 @@ returns-in_err-startups c =
     let p = err_from_is_err_and c.from_residual-in_err-startups.result c.from_residual-in_err-startups.ensures.1 in
     rw (p.1, p.2)
     (turns_steps a.image.now a.plan f.result.words _ f.ensures _ _
-    (steps_then _ (all_turns a.image.now a.plan) (starts_on a.image.now a.plan f.result.words) _ _ _ _ _ c.in_ok-turn_scopes.ensures refl
-    (steps_end _ start (restarts_on a.image.now a.plan) _ _ _ _ _ c.in_err-startups.ensures refl refl)))
+    (steps_then _ (all_turns a.image.now a.plan) (starts_on a.image.now a.plan f.result.words) _ _ _ _ _ c.in_ok-turn_scopes.ensures.steps refl
+    (steps_end _ start (restarts_on a.image.now a.plan) _ _ _ _ _ c.in_err-startups.ensures.steps refl refl)))
 
 pub returns : goal.returns
 returns c =
@@ -34,5 +34,5 @@ returns c =
     let f = c.firsts-first in
     let start = startups_on a.image.now a.plan f.result.words in
     turns_steps a.image.now a.plan f.result.words _ f.ensures _ _
-    (steps_then _ (all_turns a.image.now a.plan) (starts_on a.image.now a.plan f.result.words) _ _ _ _ _ c.in_ok-turn_scopes.ensures refl
-    (steps_then _ start (restarts_on a.image.now a.plan) _ _ _ _ _ c.in_ok-startups.ensures refl c.restarts.ensures))
+    (steps_then _ (all_turns a.image.now a.plan) (starts_on a.image.now a.plan f.result.words) _ _ _ _ _ c.in_ok-turn_scopes.ensures.steps refl
+    (steps_then _ start (restarts_on a.image.now a.plan) _ _ _ _ _ c.in_ok-startups.ensures.steps refl c.restarts.ensures.steps))

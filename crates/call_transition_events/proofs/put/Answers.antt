@@ -9,17 +9,17 @@ use Rattle.machine.specs.Transition.{held}
 use Rattle.call_transition_events.specs.Starting.{put_step}
 use Rattle.call_transition_events.proofs.put.Goals as goal
 
-pub returns-in_err-hold : goal.returns-in_err-hold
+pub returns-in_err-hold-clause-steps : goal.returns-in_err-hold-clause-steps
 unfolding put_step
-returns-in_err-hold c =
+returns-in_err-hold-clause-steps c =
     let s = c.args.s in
     let img = c.args.image.now in
     let p = err_from_is_err_and c.from_residual.result c.from_residual.ensures.1 in
-    rw (p.1, p.2) (steps_end img (held img s.action (of_global s.stored)) (λ t. accepted img t (event_of s)) _ _ _ _ _ c.in_err-hold.ensures refl refl)
+    rw (p.1, p.2) (steps_end img (held img s.action (of_global s.stored)) (λ t. accepted img t (event_of s)) _ _ _ _ _ c.in_err-hold.ensures.steps refl refl)
 
-pub returns : goal.returns
+pub returns-clause-steps : goal.returns-clause-steps
 unfolding put_step
-returns c =
+returns-clause-steps c =
     let s = c.args.s in
     let img = c.args.image.now in
-    steps_then img (held img s.action (of_global s.stored)) (λ t. accepted img t (event_of s)) _ _ _ _ _ c.in_ok-hold.ensures refl c.accept.ensures
+    steps_then img (held img s.action (of_global s.stored)) (λ t. accepted img t (event_of s)) _ _ _ _ _ c.in_ok-hold.ensures.steps refl c.accept.ensures.steps
