@@ -4,9 +4,10 @@ use mathlib.Core.Logic.{◌⊎◌, inl, inr}
 use mathlib.Core.List.{List, [], ◌∷◌, ◌++◌, append_assoc}
 use Prim.Native.Nat.{ℕ, suc, ◌+◌, ◌-◌, min, ◌≤◌, ◌<◌}
 use native.Mathlib.Omega.{arith}
-use lib.ListN.{length, take, drop, set, length-append, take-append-drop}
+use native.Mathlib.Numerals.{add-one}
+use lib.ListN.{length, take, drop, get_or, set, length-append, take-append-drop}
 use Rattle.std.proofs.Common.{drop-drop}
-use lib.Seq.{sets, length-sets, sets-eq, paste, take_all, take_at, length-take-le}
+use lib.Seq.{sets, length-sets, sets-eq, paste, take-suc, take_all, take_at, length-take-le}
 use borrow.Rule.Slice.PartMut.{put_mid}
 use Rattle.lists.specs.Tests.{below?}
 use Rattle.lists.specs.Rows.{sets_out}
@@ -85,3 +86,22 @@ written_part {old} {at} {new} {end} t n e h w = go (below? n (length t))
         let m = written_long w in
         written_as (written_then w (written_past new end (drop n t) (omega (arith, w.end_is)) (omega (arith, w.end_is)))) (take-append-drop n t)
     go (inr g) = written_as w (take_all n t g)
+
+-- the first i of a text, and one more
+pub written_next : {old : List ℕ} {at : ℕ} {mid : List ℕ} {m : ℕ} {new : List ℕ} {end : ℕ} (t : List ℕ) (i a : ℕ)
+    → i < length t → a ≡ get_or t i 0 → Written old at (take i t) mid m → Written mid m (a ∷ []) new end → Written old at (take (i + 1) t) new end
+written_next t i a h e v w = written_as (written_then v w) (rw (e, add-one) (sym (take-suc t i 0 h)))
+
+-- the same where there is room for all of it
+pub copied_none : (old : List ℕ) (at : ℕ) (t : List ℕ) → at + length t ≤ length old → Written old at (take 0 t) old (at + 0)
+copied_none old at t r = let e : at + 0 ≡ at = omega arith in rw e (written_none old at (omega arith))
+
+pub copied_next : {old : List ℕ} {at : ℕ} {mid : List ℕ} (t : List ℕ) (i : ℕ) → at + length t ≤ length old → i < length t
+    → Written old at (take i t) mid (at + i) → Written old at (take (i + 1) t) (set mid (at + i) (get_or t i 0)) (at + (i + 1))
+copied_next {old} {at} {mid} t i r h w =
+    let l : length mid ≡ length old = written_long w in
+    let e : at + i + 1 ≡ at + (i + 1) = omega arith in
+    rw (← e) (written_next t i (get_or t i 0) h refl w (put_in mid (at + i) (get_or t i 0) (omega arith)))
+
+pub written_whole : {old : List ℕ} {at : ℕ} {new : List ℕ} {end : ℕ} (t : List ℕ) (i : ℕ) → length t ≤ i → Written old at (take i t) new end → Written old at t new end
+written_whole t i h w = written_as w (take_all i t h)

@@ -1,7 +1,6 @@
--- `byte_writer::copy_text` meets its contract. Assumes nothing.
-use native.Mathlib.Omega.{arith}
-use Rattle.byte_writer.proofs.WrittenLaws.{written_over}
+-- `byte_writer::copy_text` meets its contract: one byte more a turn. Assumes nothing.
+use Rattle.byte_writer.proofs.WrittenLaws.{copied_next}
 use Rattle.byte_writer.proofs.copy_text.Goals as goal
 
-pub returns-clause-written : goal.returns-clause-written
-returns-clause-written c = written_over _ _ _ _ _ c.copy_from_slice.ensures.after (omega arith) c.requires
+pub loop-i-preserved : goal.loop-i-preserved
+loop-i-preserved c = copied_next _ _ c.requires c.loop-i-test.true c.loop-i.invariant
