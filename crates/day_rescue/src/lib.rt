@@ -164,6 +164,8 @@ struct Span {
     records: usize,
 }
 
+// Not inlined: within `rescue_piece` its place is kept in memory, and a clean day takes a quarter longer.
+#[inline(never)]
 fn stretch(bytes: &[u8], from: usize, end: usize) -> Span
     requires { (from ≤ length bytes.now) × (end ≤ length bytes.now) }
     ensures stretched { Stretched bytes.now end from result.end result.records }
